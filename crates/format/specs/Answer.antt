@@ -1,0 +1,153 @@
+-- Document 01's table of refusals, and for each answer its number and the values that come back with it. A promise about an answer is one
+-- about these. Assumes nothing.
+use mathlib.Core.Bool.{Bool, true, false}
+use Prim.Native.Nat.{ℕ}
+use lib.IntN.{ℤ, pos, negℤ}
+use Rattle.format.specs.declared.LfsMdir.{LfsMdir}
+use Rattle.format.specs.declared.Refusal.{Refusal}
+use Rattle.format.specs.declared.Refusal.the-variants as refusal
+use Rattle.format.specs.declared.Aligned.{Aligned}
+use Rattle.format.specs.declared.Aligned.the-variants as aligned
+use Rattle.format.specs.declared.WordAt.{WordAt}
+use Rattle.format.specs.declared.WordAt.the-variants as wordAt
+use Rattle.format.specs.declared.Put.{Put}
+use Rattle.format.specs.declared.Put.the-variants as put
+use Rattle.format.specs.declared.Fetched.{Fetched}
+use Rattle.format.specs.declared.Fetched.the-variants as fetched
+use Rattle.format.specs.declared.Got.{Got}
+use Rattle.format.specs.declared.Got.the-variants as got
+use Rattle.format.specs.declared.Committed.{Committed}
+use Rattle.format.specs.declared.Committed.the-variants as committed
+use Rattle.format.specs.declared.Stored.{Stored}
+use Rattle.format.specs.declared.Stored.the-variants as stored
+
+-- ---- the table
+-- "-22 | a size or number above is broken"; "-84 | fetch: block number not below a non-zero block count, or neither block has a valid
+-- commit; lookup: the matched bytes pass the block"; "-2 | fetch: count above 1,023; lookup: no entry"; "-201 | an entry is bad"; "-202 |
+-- the committed log isn't regular"; "-28 | the rounded end passes the block"; "-203 | append only: the room behind the end isn't clean";
+-- "-204 | the checksum coincidence"
+abbrev pub refusalNumber : Refusal → ℤ
+refusalNumber refusal.Invalid = negℤ (pos 22)
+refusalNumber refusal.Corrupt = negℤ (pos 84)
+refusalNumber refusal.NoEntry = negℤ (pos 2)
+refusalNumber (refusal.TooMany m s) = negℤ (pos 2)
+refusalNumber (refusal.BadEntry i) = negℤ (pos 201)
+refusalNumber refusal.Irregular = negℤ (pos 202)
+refusalNumber refusal.NoSpace = negℤ (pos 28)
+refusalNumber refusal.Unclean = negℤ (pos 203)
+refusalNumber refusal.Coincidence = negℤ (pos 204)
+
+-- what comes back: "record all zero", but for a count above 1,023 "record and seed as read"
+abbrev pub zeroMdir : LfsMdir
+zeroMdir =
+    record { pair = record { n0 = 0; n1 = 0 }; rev = 0; off = 0; etag = 0; count = 0; erased = false; split = false; tail = record { n0 = 0; n1 = 0 } }
+
+abbrev pub refusalMdir : Refusal → LfsMdir
+refusalMdir refusal.Invalid = zeroMdir
+refusalMdir refusal.Corrupt = zeroMdir
+refusalMdir refusal.NoEntry = zeroMdir
+refusalMdir (refusal.TooMany m s) = m
+refusalMdir (refusal.BadEntry i) = zeroMdir
+refusalMdir refusal.Irregular = zeroMdir
+refusalMdir refusal.NoSpace = zeroMdir
+refusalMdir refusal.Unclean = zeroMdir
+refusalMdir refusal.Coincidence = zeroMdir
+
+-- "seed as given"
+abbrev pub refusalSeed : ℕ → Refusal → ℕ
+refusalSeed seed refusal.Invalid = seed
+refusalSeed seed refusal.Corrupt = seed
+refusalSeed seed refusal.NoEntry = seed
+refusalSeed seed (refusal.TooMany m s) = s
+refusalSeed seed (refusal.BadEntry i) = seed
+refusalSeed seed refusal.Irregular = seed
+refusalSeed seed refusal.NoSpace = seed
+refusalSeed seed refusal.Unclean = seed
+refusalSeed seed refusal.Coincidence = seed
+
+-- "index from 0 of the first bad one"
+abbrev pub refusalIndex : Refusal → ℕ
+refusalIndex refusal.Invalid = 0
+refusalIndex refusal.Corrupt = 0
+refusalIndex refusal.NoEntry = 0
+refusalIndex (refusal.TooMany m s) = 0
+refusalIndex (refusal.BadEntry i) = i
+refusalIndex refusal.Irregular = 0
+refusalIndex refusal.NoSpace = 0
+refusalIndex refusal.Unclean = 0
+refusalIndex refusal.Coincidence = 0
+
+-- ---- the answers: 0, or the refusal's number; the values of a refusal are 0 where nothing comes back
+-- a test answers "exactly 0 or 1"
+abbrev pub flagOf : Bool → ℕ
+flagOf true = 1
+flagOf false = 0
+
+abbrev pub alignedResult : Aligned → ℤ
+alignedResult (aligned.At v) = pos 0
+alignedResult (aligned.Refused r) = refusalNumber r
+
+abbrev pub alignedValue : Aligned → ℕ
+alignedValue (aligned.At v) = v
+alignedValue (aligned.Refused r) = 0
+
+abbrev pub wordResult : WordAt → ℤ
+wordResult (wordAt.At v) = pos 0
+wordResult (wordAt.Refused r) = refusalNumber r
+
+abbrev pub wordValue : WordAt → ℕ
+wordValue (wordAt.At v) = v
+wordValue (wordAt.Refused r) = 0
+
+abbrev pub putResult : Put → ℤ
+putResult put.Done = pos 0
+putResult (put.Refused r) = refusalNumber r
+
+abbrev pub fetchedResult : Fetched → ℤ
+fetchedResult (fetched.Found m s) = pos 0
+fetchedResult (fetched.Refused r) = refusalNumber r
+
+abbrev pub fetchedMdir : Fetched → LfsMdir
+fetchedMdir (fetched.Found m s) = m
+fetchedMdir (fetched.Refused r) = refusalMdir r
+
+abbrev pub fetchedSeed : ℕ → Fetched → ℕ
+fetchedSeed seed (fetched.Found m s) = s
+fetchedSeed seed (fetched.Refused r) = refusalSeed seed r
+
+abbrev pub gotResult : Got → ℤ
+gotResult (got.Found t) = pos 0
+gotResult (got.Refused r) = refusalNumber r
+
+abbrev pub gotTag : Got → ℕ
+gotTag (got.Found t) = t
+gotTag (got.Refused r) = 0
+
+abbrev pub committedResult : Committed → ℤ
+committedResult (committed.Done m s) = pos 0
+committedResult (committed.Refused r) = refusalNumber r
+
+abbrev pub committedMdir : Committed → LfsMdir
+committedMdir (committed.Done m s) = m
+committedMdir (committed.Refused r) = refusalMdir r
+
+abbrev pub committedSeed : ℕ → Committed → ℕ
+committedSeed seed (committed.Done m s) = s
+committedSeed seed (committed.Refused r) = refusalSeed seed r
+
+abbrev pub committedIndex : Committed → ℕ
+committedIndex (committed.Done m s) = 0
+committedIndex (committed.Refused r) = refusalIndex r
+
+-- "the number made is the answer"
+abbrev pub storedResult : Stored → ℤ
+storedResult (stored.Made n) = pos 0
+storedResult (stored.Refused r) = refusalNumber r
+
+abbrev pub storedMade : Stored → ℕ
+storedMade (stored.Made n) = n
+storedMade (stored.Refused r) = 0
+
+abbrev pub storedIndex : Stored → ℕ
+storedIndex (stored.Made n) = 0
+storedIndex (stored.Refused r) = refusalIndex r

@@ -1,0 +1,34 @@
+-- Words read from and stored to a slice at an offset. "A read whose start plus length passes the block size is -84", and so is a store,
+-- which then alters nothing. Assumes nothing.
+use mathlib.Core.Bool.{Bool, cond}
+use mathlib.Core.List.{List}
+use Prim.Native.Nat.{ℕ, _+_}
+use lib.Dec.{leb}
+use lib.ListN.{length, drop}
+use lib.Seq.{sets}
+use Rattle.format.specs.Word.{be32, le32, toBe32, toLe32}
+use Rattle.format.specs.declared.Refusal.the-variants.{Corrupt}
+use Rattle.format.specs.declared.WordAt.{WordAt}
+use Rattle.format.specs.declared.WordAt.the-variants as wordAt
+use Rattle.format.specs.declared.Put.{Put}
+use Rattle.format.specs.declared.Put.the-variants as put
+
+-- four bytes at `at` are inside
+abbrev pub inside : List ℕ → ℕ → Bool
+inside s at = leb (at + 4) (length s)
+
+abbrev pub le32At : List ℕ → ℕ → WordAt
+le32At s at = cond (inside s at) (wordAt.At (le32 (drop at s))) (wordAt.Refused Corrupt)
+
+abbrev pub be32At : List ℕ → ℕ → WordAt
+be32At s at = cond (inside s at) (wordAt.At (be32 (drop at s))) (wordAt.Refused Corrupt)
+
+-- what a store answers, and what it leaves: `sets s at vs` has vs stored one after the other from `at` on
+abbrev pub putAnswer : List ℕ → ℕ → Put
+putAnswer s at = cond (inside s at) put.Done (put.Refused Corrupt)
+
+abbrev pub putLe32 : List ℕ → ℕ → ℕ → List ℕ
+putLe32 s at w = cond (inside s at) (sets s at (toLe32 w)) s
+
+abbrev pub putBe32 : List ℕ → ℕ → ℕ → List ℕ
+putBe32 s at w = cond (inside s at) (sets s at (toBe32 w)) s

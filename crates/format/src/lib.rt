@@ -1,0 +1,110 @@
+// The plain types that the calls share: what goes in and what is answered. They hold numbers and no reference, so each goes in and comes
+// back by value. `specs/` says what they mean; `specs/Answer.antt` gives document 01's number and values for each answer.
+
+// "Block size 128 to 32,768; program size 4 to 512; block size a multiple of it." Any two numbers may be asked about.
+#[repr(C)]
+pub struct Geometry {
+    pub block_size: u32,
+    pub prog_size: u32,
+}
+
+// Two block numbers: the Rust's `[lfs_block_t; 2]`. A struct, since an answer that is an enum can hold no array.
+#[repr(C)]
+pub struct LfsPair {
+    pub n0: u32,
+    pub n1: u32,
+}
+
+// The record of a metadata pair, as fetch reads it: the answering block's number first, its revision, where its committed log ends and the
+// tag there, the number of slots, whether the room behind is erased, and the tail (hard where `split`).
+#[repr(C)]
+pub struct LfsMdir {
+    pub pair: LfsPair,
+    pub rev: u32,
+    pub off: u32,
+    pub etag: u32,
+    pub count: u16,
+    pub erased: bool,
+    pub split: bool,
+    pub tail: LfsPair,
+}
+
+// The global state: a tag and a pair.
+#[repr(C)]
+pub struct LfsGstate {
+    pub tag: u32,
+    pub pair: LfsPair,
+}
+
+// One entry of a commit: "type, id, data offset, length".
+#[repr(C)]
+pub struct Entry {
+    pub kind: u16,
+    pub id: u16,
+    pub off: u32,
+    pub len: u32,
+}
+
+// Document 01's table of refusals: one case for each line of it, with what comes back.
+pub enum Refusal {
+    // -22: a size or number is broken
+    Invalid,
+    // -84: nothing valid is there, or a read would pass the block
+    Corrupt,
+    // -2, lookup: no entry
+    NoEntry,
+    // -2, fetch: a count above 1,023; the record and the seed as read
+    TooMany(LfsMdir, u32),
+    // -201: the index of the first bad entry
+    BadEntry(u32),
+    // -202: the committed log isn't regular
+    Irregular,
+    // -28: the rounded end passes the block
+    NoSpace,
+    // -203: the room behind the end isn't clean
+    Unclean,
+    // -204: the checksum coincidence
+    Coincidence,
+}
+
+// A number brought to a multiple.
+pub enum Aligned {
+    At(u32),
+    Refused(Refusal),
+}
+
+// Four bytes read.
+pub enum WordAt {
+    At(u32),
+    Refused(Refusal),
+}
+
+// Four bytes stored.
+pub enum Put {
+    Done,
+    Refused(Refusal),
+}
+
+// Fetch: the record and the seed.
+pub enum Fetched {
+    Found(LfsMdir, u32),
+    Refused(Refusal),
+}
+
+// Lookup: the tag with the difference added.
+pub enum Got {
+    Found(u32),
+    Refused(Refusal),
+}
+
+// Commit and compaction: the record and the seed that fetch gives on the finished pair.
+pub enum Committed {
+    Done(LfsMdir, u32),
+    Refused(Refusal),
+}
+
+// The same with a limit of n stores: the number of stores made.
+pub enum Stored {
+    Made(u32),
+    Refused(Refusal),
+}

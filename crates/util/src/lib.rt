@@ -1,0 +1,160 @@
+// Small arithmetic, words in bytes, pairs: util.rs, lfs_util.h and lfs.c's lfs_pair_*, without the path helpers. Every function takes any
+// numbers and slices. (lfs_fromle32, lfs_tole32, lfs_frombe32 and lfs_tobe32 are the reads and stores of words here: docs/DECISIONS.md.)
+ghost use mathlib.Core.Path.{_≡_};
+ghost use Prim.Native.Nat.{min, max};
+ghost use Rattle.format.specs.Count.{scmp};
+ghost use Rattle.format.specs.Arith.{alignDown, alignUp};
+ghost use Rattle.format.specs.Bytes.{inside, le32At, be32At, putAnswer, putLe32, putBe32};
+ghost use Rattle.format.specs.Pair.{pairSwapped, pairNull, pairCmp, pairSync};
+
+use format::{Aligned, LfsPair, Put, Refusal, WordAt};
+
+mod count;
+pub use count::{lfs_npw2, lfs_ctz, lfs_popc};
+
+// Words at an offset that the caller knows to be inside. They have a `requires`, and are for the crates of this repository.
+pub mod within;
+
+const LFS_BLOCK_NULL: u32 = 0xffff_ffff;
+
+// Per lfs_util.h lfs_max.
+pub fn lfs_max(a: u32, b: u32) -> u32
+    ensures { λ r. ⌜ r ≡ max a b ⌝ }
+{
+    if a > b { a } else { b }
+}
+
+// Per lfs_util.h lfs_min.
+pub fn lfs_min(a: u32, b: u32) -> u32
+    ensures { λ r. ⌜ r ≡ min a b ⌝ }
+{
+    if a < b { a } else { b }
+}
+
+// Per lfs_util.h lfs_aligndown, but alignment 0, at which the Rust panics, is refused.
+pub fn lfs_aligndown(a: u32, alignment: u32) -> Aligned
+    ensures { λ r. ⌜ r ≡ alignDown a alignment ⌝ }
+{
+    if alignment == 0 {
+        return Aligned::Refused(Refusal::Invalid);
+    }
+    let below = a - a % alignment;
+    Aligned::At(below)
+}
+
+// Per lfs_util.h lfs_alignup: the sum wraps.
+pub fn lfs_alignup(a: u32, alignment: u32) -> Aligned
+    ensures { λ r. ⌜ r ≡ alignUp a alignment ⌝ }
+{
+    let above = std::num::wrapping_add_u32(a, alignment);
+    lfs_aligndown(std::num::wrapping_sub_u32(above, 1), alignment)
+}
+
+// Per lfs_util.h lfs_scmp: a - b, wrapping, read as signed. A cast would have to fit, so the upper half is counted down from -1.
+pub fn lfs_scmp(a: u32, b: u32) -> i32
+    ensures { λ r. ⌜ r ≡ scmp a b ⌝ }
+{
+    let d = std::num::wrapping_sub_u32(a, b);
+    if d < 0x8000_0000 {
+        d as i32
+    } else {
+        -1 - ((0xffff_ffff - d) as i32)
+    }
+}
+
+// Whether four bytes at `at` are inside; `at` may be any number.
+fn has_word(s: &[u8], at: usize) -> bool
+    ensures { λ r. ⌜ r ≡ inside (now (s .entry)) at ⌝ }
+{
+    if s.len() < 4 {
+        return false;
+    }
+    if s.len() - 4 < at {
+        return false;
+    }
+    true
+}
+
+// The little-endian word at an offset.
+pub fn lfs_le32_at(s: &[u8], at: usize) -> WordAt
+    ensures { λ r. ⌜ r ≡ le32At (now (s .entry)) at ⌝ }
+{
+    if has_word(s, at) {
+        WordAt::At(within::le32(s, at))
+    } else {
+        WordAt::Refused(Refusal::Corrupt)
+    }
+}
+
+// The big-endian word at an offset.
+pub fn lfs_be32_at(s: &[u8], at: usize) -> WordAt
+    ensures { λ r. ⌜ r ≡ be32At (now (s .entry)) at ⌝ }
+{
+    if has_word(s, at) {
+        WordAt::At(within::be32(s, at))
+    } else {
+        WordAt::Refused(Refusal::Corrupt)
+    }
+}
+
+// A word stored little-endian at an offset; a refusal alters nothing.
+pub fn lfs_put_le32(s: &mut [u8], at: usize, v: u32) -> Put
+    ensures { λ r. ⌜ r ≡ putAnswer (now (s .entry)) at ⌝ }
+    ensures { λ _. ⌜ now (s .exit) ≡ putLe32 (now (s .entry)) at v ⌝ }
+{
+    if has_word(s, at) {
+        within::put_le32(s, at, v);
+        Put::Done
+    } else {
+        Put::Refused(Refusal::Corrupt)
+    }
+}
+
+// A word stored big-endian at an offset; a refusal alters nothing.
+pub fn lfs_put_be32(s: &mut [u8], at: usize, v: u32) -> Put
+    ensures { λ r. ⌜ r ≡ putAnswer (now (s .entry)) at ⌝ }
+    ensures { λ _. ⌜ now (s .exit) ≡ putBe32 (now (s .entry)) at v ⌝ }
+{
+    if has_word(s, at) {
+        within::put_be32(s, at, v);
+        Put::Done
+    } else {
+        Put::Refused(Refusal::Corrupt)
+    }
+}
+
+// Per lfs.c lfs_pair_swap.
+pub fn lfs_pair_swap(pair: LfsPair) -> LfsPair
+    ensures { λ r. ⌜ r ≡ pairSwapped pair ⌝ }
+{
+    LfsPair {
+        n0: pair.n1,
+        n1: pair.n0,
+    }
+}
+
+// Per lfs.c lfs_pair_isnull.
+pub fn lfs_pair_isnull(pair: LfsPair) -> bool
+    ensures { λ r. ⌜ r ≡ pairNull pair ⌝ }
+{
+    (pair.n0 == LFS_BLOCK_NULL) | (pair.n1 == LFS_BLOCK_NULL)
+}
+
+// Per lfs.c lfs_pair_cmp: 0 where the pairs share a block, and else 1.
+pub fn lfs_pair_cmp(paira: LfsPair, pairb: LfsPair) -> i32
+    ensures { λ r. ⌜ r ≡ pairCmp paira pairb ⌝ }
+{
+    let shares = (paira.n0 == pairb.n0)
+        | (paira.n1 == pairb.n1)
+        | (paira.n0 == pairb.n1)
+        | (paira.n1 == pairb.n0);
+    if shares { 0 } else { 1 }
+}
+
+// Per lfs.c lfs_pair_issync: the same two blocks, in either order.
+pub fn lfs_pair_issync(paira: LfsPair, pairb: LfsPair) -> bool
+    ensures { λ r. ⌜ r ≡ pairSync paira pairb ⌝ }
+{
+    ((paira.n0 == pairb.n0) & (paira.n1 == pairb.n1))
+        | ((paira.n0 == pairb.n1) & (paira.n1 == pairb.n0))
+}
