@@ -1,36 +1,30 @@
 // Words of 32 bits at an offset that the caller knows to be inside the slice: each function requires it.
 ghost use mathlib.Core.Path.{_≡_};
 ghost use mathlib.Core.List.{[], _∷_};
-ghost use Prim.Native.Nat.{_+_, _<_, _≤_};
+ghost use Prim.Native.Nat.{_+_, _*_, _^_, _≤_};
 ghost use lib.ListN.{length, drop};
 ghost use lib.Seq.{sets};
 ghost use Rattle.format.specs.Word.{le32, be32, toLe32, toBe32};
 
-// A byte as a word, with its bound.
-fn wide(b: u8) -> u32
-    ensures { λ r. ⌜ (r ≡ b) × (r < 256) ⌝ }
+// The word of four bytes, lowest first.
+fn word(a: u8, b: u8, c: u8, d: u8) -> u32
+    ensures { λ r. ⌜ r ≡ a + b * 2 ^ 8 + c * 2 ^ 16 + d * 2 ^ 24 ⌝ }
 {
-    b as u32
+    (a as u32) + (b as u32) * 0x100 + (c as u32) * 0x1_0000 + (d as u32) * 0x100_0000
 }
 
 pub fn le32(s: &[u8], at: usize) -> u32
     requires { ⌜ at + 4 ≤ length (now s) ⌝ }
     ensures { λ r. ⌜ r ≡ le32 (drop at (now (s .entry))) ⌝ }
 {
-    wide(s[at])
-        + wide(s[at + 1]) * 0x100
-        + wide(s[at + 2]) * 0x1_0000
-        + wide(s[at + 3]) * 0x100_0000
+    word(s[at], s[at + 1], s[at + 2], s[at + 3])
 }
 
 pub fn be32(s: &[u8], at: usize) -> u32
     requires { ⌜ at + 4 ≤ length (now s) ⌝ }
     ensures { λ r. ⌜ r ≡ be32 (drop at (now (s .entry))) ⌝ }
 {
-    wide(s[at]) * 0x100_0000
-        + wide(s[at + 1]) * 0x1_0000
-        + wide(s[at + 2]) * 0x100
-        + wide(s[at + 3])
+    word(s[at + 3], s[at + 2], s[at + 1], s[at])
 }
 
 // Four bytes, stored one after the other.

@@ -15,7 +15,30 @@ pub fn compare() -> Subject {
     let mut random = Random::new(6);
     let mut subject = Subject::new("lfs_gstate");
     let states = states(&mut random);
-    tests(&mut subject, &states);
+    subject.add(test(
+        "lfs_gstate_iszero",
+        &states,
+        rust::lfs_gstate_iszero,
+        port::gstate_iszero,
+    ));
+    subject.add(test(
+        "lfs_gstate_hasorphans",
+        &states,
+        rust::lfs_gstate_hasorphans,
+        port::gstate_hasorphans,
+    ));
+    subject.add(test(
+        "lfs_gstate_hasmove",
+        &states,
+        rust::lfs_gstate_hasmove,
+        port::gstate_hasmove,
+    ));
+    subject.add(test(
+        "lfs_gstate_needssuperblock",
+        &states,
+        rust::lfs_gstate_needssuperblock,
+        port::gstate_needssuperblock,
+    ));
     subject.add(orphans(&states));
     subject.add(moves_here(&mut random, &states));
     subject.add(sums(&states));
@@ -60,39 +83,20 @@ fn text(state: &Gstate) -> String {
     format!("{state:x?}")
 }
 
-/// The tests of one state.
-fn tests(subject: &mut Subject, states: &[Gstate]) {
-    let all: [(_, fn(&LfsGstate) -> bool, fn(&Gstate) -> u32); 4] = [
-        (
-            "lfs_gstate_iszero",
-            rust::lfs_gstate_iszero,
-            port::gstate_iszero,
-        ),
-        (
-            "lfs_gstate_hasorphans",
-            rust::lfs_gstate_hasorphans,
-            port::gstate_hasorphans,
-        ),
-        (
-            "lfs_gstate_hasmove",
-            rust::lfs_gstate_hasmove,
-            port::gstate_hasmove,
-        ),
-        (
-            "lfs_gstate_needssuperblock",
-            rust::lfs_gstate_needssuperblock,
-            port::gstate_needssuperblock,
-        ),
-    ];
-    for (name, of_rust, of_port) in all {
-        let mut check = Check::rust(name);
-        for state in states {
-            let expected = u32::from(of_rust(&as_rust(state)));
-            check.outcome(yes_or_no(&expected));
-            check.same(expected, of_port(state), || text(state));
-        }
-        subject.add(check);
+/// A test of one state.
+fn test(
+    name: &'static str,
+    states: &[Gstate],
+    rust: impl Fn(&LfsGstate) -> bool,
+    port: impl Fn(&Gstate) -> u32,
+) -> Check {
+    let mut check = Check::rust(name);
+    for state in states {
+        let expected = u32::from(rust(&as_rust(state)));
+        check.outcome(yes_or_no(&expected));
+        check.same(expected, port(state), || text(state));
     }
+    check
 }
 
 fn orphans(states: &[Gstate]) -> Check {

@@ -32,7 +32,8 @@ pub fn compare() -> Subject {
     let twos = inputs::two_words(&mut random);
     orders(&mut subject, &twos);
     alignments(&mut subject, &twos);
-    no_alignment(&mut subject, &words);
+    subject.add(by_zero("lanolin_aligndown by 0", &words, port::aligndown));
+    subject.add(by_zero("lanolin_alignup by 0", &words, port::alignup));
     subject
 }
 
@@ -53,42 +54,36 @@ fn alignments(subject: &mut Subject, twos: &[(u32, u32)]) {
     let mut some: Vec<(u32, u32)> = twos.to_vec();
     some.extend(twos.iter().map(|&(a, b)| (a, 1 << (b % 32))));
     some.retain(|&(_, alignment)| alignment != 0);
-    let both: [(_, fn(u32, u32) -> u32, fn(u32, u32) -> Word); 2] = [
-        ("lfs_aligndown", rust::lfs_aligndown, port::aligndown),
-        ("lfs_alignup", rust::lfs_alignup, port::alignup),
-    ];
-    for (name, of_rust, of_port) in both {
-        let mut check = Check::rust(name);
-        for &(a, alignment) in &some {
-            let value = of_rust(a, alignment);
-            check.outcome(if value == a {
-                "aligned before"
-            } else {
-                "moved"
-            });
-            let expected = Word { result: 0, value };
-            check.same(expected, of_port(a, alignment), || hex(&[a, alignment]));
-        }
-        subject.add(check);
-    }
+    subject.add(two_words(
+        "lfs_aligndown",
+        &some,
+        Some(|_| "aligned"),
+        |a, alignment| aligned(rust::lfs_aligndown(a, alignment)),
+        port::aligndown,
+    ));
+    subject.add(two_words(
+        "lfs_alignup",
+        &some,
+        Some(|_| "aligned"),
+        |a, alignment| aligned(rust::lfs_alignup(a, alignment)),
+        port::alignup,
+    ));
+}
+
+fn aligned(value: u32) -> Word {
+    Word { result: 0, value }
 }
 
 /// The refusal of alignment 0, which the Rust has not.
-fn no_alignment(subject: &mut Subject, words: &[u32]) {
+fn by_zero(name: &'static str, words: &[u32], port: impl Fn(u32, u32) -> Word) -> Check {
     let refused = Word {
         result: INVAL,
         value: 0,
     };
-    let both: [(_, fn(u32, u32) -> Word); 2] = [
-        ("lanolin_aligndown by 0", port::aligndown),
-        ("lanolin_alignup by 0", port::alignup),
-    ];
-    for (name, of_port) in both {
-        let mut check = Check::ours(name);
-        for &a in words {
-            check.outcome("refused");
-            check.same(refused, of_port(a, 0), || hex(&[a, 0]));
-        }
-        subject.add(check);
+    let mut check = Check::ours(name);
+    for &a in words {
+        check.outcome("refused");
+        check.same(refused, port(a, 0), || hex(&[a, 0]));
     }
+    check
 }

@@ -10,52 +10,45 @@ pub fn compare() -> Subject {
     let mut random = Random::new(1);
     let mut subject = Subject::new("tag");
     let tags = inputs::words(&mut random);
+    types_and_id(&mut subject, &tags);
     fields(&mut subject, &tags);
     lengths(&mut subject, &tags);
     making(&mut subject, &triples(&mut random, &tags));
     subject
 }
 
-/// The fields that are cut out of a tag.
+/// The fields of 16 bits in the Rust: the type, whole and in parts, and the id.
+fn types_and_id(subject: &mut Subject, tags: &[u32]) {
+    let mut field = |name, rust: fn(u32) -> u16, port: fn(u32) -> u32| {
+        subject.add(one_word(name, tags, None, |tag| rust(tag).into(), port));
+    };
+    field("lfs_tag_type1", rust::lfs_tag_type1, port::tag_type1);
+    field("lfs_tag_type2", rust::lfs_tag_type2, port::tag_type2);
+    field("lfs_tag_type3", rust::lfs_tag_type3, port::tag_type3);
+    field("lfs_tag_id", rust::lfs_tag_id, port::tag_id);
+}
+
+/// The other fields.
 fn fields(subject: &mut Subject, tags: &[u32]) {
     subject.add(one_word(
         "lfs_tag_isvalid",
         tags,
         Some(yes_or_no),
-        |tag| u32::from(rust::lfs_tag_isvalid(tag)),
+        |tag| rust::lfs_tag_isvalid(tag).into(),
         port::tag_isvalid,
     ));
-    let plain: [(_, fn(u32) -> u32, fn(u32) -> u32); 5] = [
-        (
-            "lfs_tag_type1",
-            |t| rust::lfs_tag_type1(t).into(),
-            port::tag_type1,
-        ),
-        (
-            "lfs_tag_type2",
-            |t| rust::lfs_tag_type2(t).into(),
-            port::tag_type2,
-        ),
-        (
-            "lfs_tag_type3",
-            |t| rust::lfs_tag_type3(t).into(),
-            port::tag_type3,
-        ),
-        (
-            "lfs_tag_chunk",
-            |t| rust::lfs_tag_chunk(t).into(),
-            port::tag_chunk,
-        ),
-        ("lfs_tag_id", |t| rust::lfs_tag_id(t).into(), port::tag_id),
-    ];
-    for (name, of_rust, of_port) in plain {
-        subject.add(one_word(name, tags, None, of_rust, of_port));
-    }
+    subject.add(one_word(
+        "lfs_tag_chunk",
+        tags,
+        None,
+        |tag| rust::lfs_tag_chunk(tag).into(),
+        port::tag_chunk,
+    ));
     subject.add(one_word(
         "lfs_tag_splice",
         tags,
         Some(sign),
-        |tag| i32::from(rust::lfs_tag_splice(tag)),
+        |tag| rust::lfs_tag_splice(tag).into(),
         port::tag_splice,
     ));
 }
@@ -66,7 +59,7 @@ fn lengths(subject: &mut Subject, tags: &[u32]) {
         "lfs_tag_isdelete",
         tags,
         Some(yes_or_no),
-        |tag| u32::from(rust::lfs_tag_isdelete(tag)),
+        |tag| rust::lfs_tag_isdelete(tag).into(),
         port::tag_isdelete,
     ));
     subject.add(one_word(

@@ -1,13 +1,13 @@
--- `util::within::le32` meets its contract: the four bytes of the word, each below 256. Assumes nothing.
+-- `util::within::le32` meets its contract: the four bytes are those that the definition reads. Assumes nothing.
+use mathlib.Core.Path.{sym, _∙_}
+use native.Mathlib.Omega.{arith}
 use borrow.Author.Needs.{needs}
 use Rattle.format.proofs.Words.{le32-at}
 use Rattle.util.proofs.within.le32.Statement.{statement}
 use Rattle.util.proofs.within.le32.Tie as tie
 
 returns : tie.Need-returns
-returns c = rw (le32-at _ _) (cc)
+returns c = c .word .ensures ∙ sym (le32-at (c .before .before .before .before .before .before .args .s .now) (c .before .before .before .before .before .before .args .at))
 
 pub le32-spec : {M : Type 1} → statement M
-le32-spec =
-    tie.close
-    (tie.spec (λ c. search needs) (λ c κs. search needs) (λ c. search needs) (λ c. search needs) (λ c κs. search needs) (λ c. search needs) (λ c. search needs) (λ c. search needs) (λ c. search needs) (λ c κs. search needs) (λ c. search needs) (λ c. search needs) (λ c. search needs) (λ c. search needs) (λ c κs. search needs) (λ c. search needs) (λ c. search needs) returns)
+le32-spec = tie.close (tie.spec (λ c. omega arith) (λ c. omega arith) (λ c. omega arith) (λ c. omega arith) (λ c. omega arith) (λ c. omega arith) (λ c. omega arith) (λ c κs. search needs) returns)

@@ -1,0 +1,82 @@
+//! The speed of the port beside the unchanged Rust, both measured in one run.
+//!
+//! Exit: 0; with `--goal` 1 if the port misses the goal; 2 on a wrong argument.
+//! Without the Rust it measures nothing and says so (`SKIPPED:`).
+//!
+//! Assumes that nothing else of weight runs meanwhile.
+
+#[cfg(lfs_rust)]
+mod measure;
+
+use std::process::ExitCode;
+
+const USAGE: &str = "usage: bench [--goal]
+Measures the port beside the unchanged Rust. With --goal it exits 1 if lfs_crc
+of 4,096 bytes takes more than 1.10 times the Rust's time.";
+
+fn main() -> ExitCode {
+    let arguments: Vec<_> = std::env::args_os().skip(1).collect();
+    let goal = arguments.iter().any(|argument| argument == "--goal");
+    if arguments.len() > usize::from(goal) {
+        eprintln!("{USAGE}");
+        return ExitCode::from(2);
+    }
+    measure(goal)
+}
+
+#[cfg(not(lfs_rust))]
+fn measure(_goal: bool) -> ExitCode {
+    println!(
+        "SKIPPED: the directory of the unchanged Rust was not found (looked for {}; \
+         LFS_RUST_SRC names another), and nothing was measured.",
+        oracle::LOOKED_FOR
+    );
+    ExitCode::SUCCESS
+}
+
+/// The most that the port may take of the Rust's time, and the length at which
+/// the goal is asked.
+#[cfg(lfs_rust)]
+const GOAL: (f64, usize) = (1.10, 4096);
+
+#[cfg(lfs_rust)]
+fn measure(goal: bool) -> ExitCode {
+    println!(
+        "{:<10}{:>7}{:>12}{:>12}{:>12}{:>12}{:>12}",
+        "", "bytes", "port ns", "port MB/s", "Rust ns", "Rust MB/s", "port/Rust"
+    );
+    let mut missed = false;
+    for len in [4096, 512, 64] {
+        let bytes: Vec<u8> = oracle::random::Random::new(len as u64).bytes(len);
+        let times = measure::side_by_side(&bytes, oracle::port::crc, rust_crc);
+        print_line("lfs_crc", len, &times);
+        missed |= len == GOAL.1 && times.ratio() > GOAL.0;
+    }
+    if goal {
+        let end = if missed { "missed" } else { "met" };
+        println!("goal {end}: at most {:.2} at {} bytes", GOAL.0, GOAL.1);
+    }
+    ExitCode::from(u8::from(goal && missed))
+}
+
+/// The Rust's function is `inline(always)`: it is called through this one, which
+/// is not, so that it pays for a call as the port does.
+#[cfg(lfs_rust)]
+#[inline(never)]
+fn rust_crc(crc: u32, bytes: &[u8]) -> u32 {
+    oracle::rust::crc::lfs_crc(crc, bytes.as_ptr(), bytes.len())
+}
+
+#[cfg(lfs_rust)]
+fn print_line(name: &str, len: usize, times: &measure::Times) {
+    // Bytes in a nanosecond are thousands of MB in a second.
+    let speed = |time: f64| len as f64 * 1000.0 / time;
+    println!(
+        "{name:<10}{len:>7}{:>12.1}{:>12.1}{:>12.1}{:>12.1}{:>12.2}",
+        times.port,
+        speed(times.port),
+        times.rust,
+        speed(times.rust),
+        times.ratio()
+    );
+}

@@ -1,0 +1,4 @@
+pub mod Cases
+pub mod Listing
+pub mod Walks
+pub mod Rules

@@ -1,0 +1,1 @@
+// Worked examples: theorems of specs/, by computation. No code.
