@@ -1,12 +1,12 @@
 -- Document 01's listing input, its first block: it walks to its five entries and ends at 48, and its log is regular. Assumes nothing.
 use mathlib.Core.Path.{_≡_, refl}
-use mathlib.Core.Bool.{Bool, true, false}
+use mathlib.Core.Bool.{true, false}
 use mathlib.Core.List.{List, [], _∷_, _++_}
 use Prim.Native.Nat.{ℕ}
 use lib.ListN.{replicate}
 use Rattle.format.specs.Word.{be32, le32, xor}
 use Rattle.format.specs.Tag.{tagLength, tagFlipped, mkTag}
-use Rattle.format.specs.Kind.{typeFile, typeInlineStruct, typeUserAttr, typeCreate, typeCheck, noSlot}
+use Rattle.format.specs.Kind.{typeFile, typeInlineStruct, typeCreate, typeCheck, noSlot}
 use Rattle.format.specs.Crc.{crc, crcByte, crcBits, crcBit}
 use Rattle.format.specs.Walk.{Event, ent, chk, inv, readBehind, classOf, bodyLength, walkIn, walkFrom, walk}
 use Rattle.format.specs.Log.{committed, log, eventLength, span, tagAfter, logEnd, logEndTag, stoppedStraight}

@@ -1,12 +1,11 @@
 -- Blocks that a definition of the walk gets wrong easily. Assumes nothing.
 use mathlib.Core.Path.{_≡_, refl}
-use mathlib.Core.Bool.{Bool, true, false}
 use mathlib.Core.List.{List, [], _∷_, _++_}
 use Prim.Native.Nat.{ℕ, zero, suc}
 use Rattle.format.specs.Word.{be32, le32, xor}
 use Rattle.format.specs.Tag.{tagLength, tagFlipped, tagSplice}
 use Rattle.format.specs.Crc.{crc, crcByte, crcBits, crcBit}
-use Rattle.format.specs.Walk.{Event, ent, chk, inv, Class, past, entry, readBehind, classOf, bodyLength, walkIn, walkFrom, walk}
+use Rattle.format.specs.Walk.{ent, chk, inv, past, entry, readBehind, classOf, bodyLength, walkIn, walkFrom, walk}
 use Rattle.format.specs.Log.{committed, log, span, eventLength, tagAfter, logEnd, logEndTag}
 use Rattle.format.specs.Count.{countSpliced}
 use Rattle.cases.specs.Listing.{blank}

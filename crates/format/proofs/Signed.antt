@@ -1,15 +1,15 @@
 -- A word of w bits read as signed, by a subtraction that fits: where its top bit is set it is -1 less the word's distance m from all ones.
 -- One law for every width. Assumes nothing.
 use mathlib.Core.Path.{_≡_, refl, sym, ap, _∙_}
-use Prim.Native.Nat.{ℕ, zero, suc, _+_, _-_, _*_, _%_, _^_, _<_, _≤_}
+use Prim.Native.Nat.{ℕ, zero, suc, _+_, _-_, _%_, _^_, _<_, _≤_}
 use native.Mathlib.Nat.{zero-add}
 use native.Mathlib.Omega.{arith}
 use lib.IntN.{ℤ, pos, negsuc, _-ℤ_}
 use Rattle.format.specs.Word.{minus32}
 use mir.Syntax.{Width}
-use mir.Val.{SFits, Fits, toZ, bits, hbits}
+use mir.Val.{SFits, toZ, bits, hbits}
 use mir.ValLaws.{pow-bits}
-use mir.Facts.{toZ-pos, toZ-neg, toZ-ofZ, sfits-toZ}
+use mir.Facts.{toZ-pos, toZ-neg, sfits-toZ}
 
 less : (n : ℕ) → negsuc 0 -ℤ pos n ≡ negsuc n
 less zero = refl

@@ -6,10 +6,8 @@ use lib.IntN.{ℤ, pos, negℤ}
 use Rattle.format.specs.declared.LfsMdir.{LfsMdir}
 use Rattle.format.specs.declared.Refusal.{Refusal}
 use Rattle.format.specs.declared.Refusal.the-variants as refusal
-use Rattle.format.specs.declared.Aligned.{Aligned}
-use Rattle.format.specs.declared.Aligned.the-variants as aligned
-use Rattle.format.specs.declared.WordAt.{WordAt}
-use Rattle.format.specs.declared.WordAt.the-variants as wordAt
+use Rattle.format.specs.declared.Word.{Word}
+use Rattle.format.specs.declared.Word.the-variants as word
 use Rattle.format.specs.declared.Put.{Put}
 use Rattle.format.specs.declared.Put.the-variants as put
 use Rattle.format.specs.declared.Fetched.{Fetched}
@@ -83,21 +81,13 @@ abbrev pub flagOf : Bool → ℕ
 flagOf true = 1
 flagOf false = 0
 
-abbrev pub alignedResult : Aligned → ℤ
-alignedResult (aligned.At v) = pos 0
-alignedResult (aligned.Refused r) = refusalNumber r
+abbrev pub wordResult : Word → ℤ
+wordResult (word.Is v) = pos 0
+wordResult (word.Refused r) = refusalNumber r
 
-abbrev pub alignedValue : Aligned → ℕ
-alignedValue (aligned.At v) = v
-alignedValue (aligned.Refused r) = 0
-
-abbrev pub wordResult : WordAt → ℤ
-wordResult (wordAt.At v) = pos 0
-wordResult (wordAt.Refused r) = refusalNumber r
-
-abbrev pub wordValue : WordAt → ℕ
-wordValue (wordAt.At v) = v
-wordValue (wordAt.Refused r) = 0
+abbrev pub wordValue : Word → ℕ
+wordValue (word.Is v) = v
+wordValue (word.Refused r) = 0
 
 abbrev pub putResult : Put → ℤ
 putResult put.Done = pos 0

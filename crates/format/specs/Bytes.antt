@@ -8,8 +8,8 @@ use lib.ListN.{length, drop}
 use lib.Seq.{sets}
 use Rattle.format.specs.Word.{be32, le32, toBe32, toLe32}
 use Rattle.format.specs.declared.Refusal.the-variants.{Corrupt}
-use Rattle.format.specs.declared.WordAt.{WordAt}
-use Rattle.format.specs.declared.WordAt.the-variants as wordAt
+use Rattle.format.specs.declared.Word.{Word}
+use Rattle.format.specs.declared.Word.the-variants as word
 use Rattle.format.specs.declared.Put.{Put}
 use Rattle.format.specs.declared.Put.the-variants as put
 
@@ -17,11 +17,11 @@ use Rattle.format.specs.declared.Put.the-variants as put
 abbrev pub inside : List ℕ → ℕ → Bool
 inside s at = leb (at + 4) (length s)
 
-abbrev pub le32At : List ℕ → ℕ → WordAt
-le32At s at = cond (inside s at) (wordAt.At (le32 (drop at s))) (wordAt.Refused Corrupt)
+abbrev pub le32At : List ℕ → ℕ → Word
+le32At s at = cond (inside s at) (word.Is (le32 (drop at s))) (word.Refused Corrupt)
 
-abbrev pub be32At : List ℕ → ℕ → WordAt
-be32At s at = cond (inside s at) (wordAt.At (be32 (drop at s))) (wordAt.Refused Corrupt)
+abbrev pub be32At : List ℕ → ℕ → Word
+be32At s at = cond (inside s at) (word.Is (be32 (drop at s))) (word.Refused Corrupt)
 
 -- what a store answers, and what it leaves: `sets s at vs` has vs stored one after the other from `at` on
 abbrev pub putAnswer : List ℕ → ℕ → Put

@@ -67,15 +67,9 @@ pub enum Refusal {
     Coincidence,
 }
 
-// A number brought to a multiple.
-pub enum Aligned {
-    At(u32),
-    Refused(Refusal),
-}
-
-// Four bytes read.
-pub enum WordAt {
-    At(u32),
+// A word: read from four bytes, or brought to a multiple.
+pub enum Word {
+    Is(u32),
     Refused(Refusal),
 }
 

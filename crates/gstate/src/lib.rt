@@ -3,8 +3,8 @@
 // (lfs_gstate_fromle32 and lfs_gstate_tole32 have no counterpart: a state is read from bytes, see docs/DECISIONS.md.)
 ghost use mathlib.Core.Path.{_≡_};
 ghost use Rattle.format.specs.Gstate.{gstateXor, gstateZero, gstateHasOrphans, gstateOrphans, gstateNeedsSuperblock, gstateHasMove, gstateHasMoveHere};
-
-use format::{LfsGstate, LfsPair};
+use format::LfsGstate;
+use format::LfsPair;
 
 // ---- by value
 

@@ -34,7 +34,7 @@ pub fn lfs_tag_isvalid(tag: u32) -> bool
 pub fn lfs_tag_isdelete(tag: u32) -> bool
     ensures { λ r. ⌜ r ≡ tagDelete tag ⌝ }
 {
-    tag % 0x400 == 0x3ff
+    lfs_tag_size(tag) == 0x3ff
 }
 
 // Per lfs.c lfs_tag_type1.
@@ -95,6 +95,6 @@ pub fn lfs_tag_size(tag: u32) -> u32
 pub fn lfs_tag_dsize(tag: u32) -> u32
     ensures { λ r. ⌜ r ≡ tagLength tag ⌝ }
 {
-    let size = tag % 0x400;
+    let size = lfs_tag_size(tag);
     if size == 0x3ff { 4 } else { 4 + size }
 }

@@ -1,19 +1,13 @@
-// Small arithmetic, words in bytes, pairs: util.rs, lfs_util.h and lfs.c's lfs_pair_*, without the path helpers. Every function takes any
-// numbers and slices. (lfs_fromle32, lfs_tole32, lfs_frombe32 and lfs_tobe32 are the reads and stores of words here: docs/DECISIONS.md.)
+// Small arithmetic and pairs: util.rs, lfs_util.h and lfs.c's lfs_pair_*. Every function takes any numbers. Of util.rs, lfs_npw2, lfs_ctz and
+// lfs_popc stand in crate `bits`, words in bytes (lfs_fromle32, ..) in crate `word`; the path helpers are left out.
 ghost use mathlib.Core.Path.{_≡_};
 ghost use Prim.Native.Nat.{min, max};
 ghost use Rattle.format.specs.Count.{scmp};
 ghost use Rattle.format.specs.Arith.{alignDown, alignUp};
-ghost use Rattle.format.specs.Bytes.{inside, le32At, be32At, putAnswer, putLe32, putBe32};
 ghost use Rattle.format.specs.Pair.{pairSwapped, pairNull, pairCmp, pairSync};
-
-use format::{Aligned, LfsPair, Put, Refusal, WordAt};
-
-mod count;
-pub use count::{lfs_npw2, lfs_ctz, lfs_popc};
-
-// Words at an offset that the caller knows to be inside. They have a `requires`, and are for the crates of this repository.
-pub mod within;
+use format::LfsPair;
+use format::Refusal;
+use format::Word;
 
 const LFS_BLOCK_NULL: u32 = 0xffff_ffff;
 
@@ -32,18 +26,18 @@ pub fn lfs_min(a: u32, b: u32) -> u32
 }
 
 // Per lfs_util.h lfs_aligndown, but alignment 0, at which the Rust panics, is refused.
-pub fn lfs_aligndown(a: u32, alignment: u32) -> Aligned
+pub fn lfs_aligndown(a: u32, alignment: u32) -> Word
     ensures { λ r. ⌜ r ≡ alignDown a alignment ⌝ }
 {
     if alignment == 0 {
-        return Aligned::Refused(Refusal::Invalid);
+        return Word::Refused(Refusal::Invalid);
     }
     let below = a - a % alignment;
-    Aligned::At(below)
+    Word::Is(below)
 }
 
 // Per lfs_util.h lfs_alignup: the sum wraps.
-pub fn lfs_alignup(a: u32, alignment: u32) -> Aligned
+pub fn lfs_alignup(a: u32, alignment: u32) -> Word
     ensures { λ r. ⌜ r ≡ alignUp a alignment ⌝ }
 {
     let above = std::num::wrapping_add_u32(a, alignment);
@@ -59,67 +53,6 @@ pub fn lfs_scmp(a: u32, b: u32) -> i32
         d as i32
     } else {
         -1 - ((0xffff_ffff - d) as i32)
-    }
-}
-
-// Whether four bytes at `at` are inside; `at` may be any number.
-fn has_word(s: &[u8], at: usize) -> bool
-    ensures { λ r. ⌜ r ≡ inside (now (s .entry)) at ⌝ }
-{
-    if s.len() < 4 {
-        return false;
-    }
-    if s.len() - 4 < at {
-        return false;
-    }
-    true
-}
-
-// The little-endian word at an offset.
-pub fn lfs_le32_at(s: &[u8], at: usize) -> WordAt
-    ensures { λ r. ⌜ r ≡ le32At (now (s .entry)) at ⌝ }
-{
-    if has_word(s, at) {
-        WordAt::At(within::le32(s, at))
-    } else {
-        WordAt::Refused(Refusal::Corrupt)
-    }
-}
-
-// The big-endian word at an offset.
-pub fn lfs_be32_at(s: &[u8], at: usize) -> WordAt
-    ensures { λ r. ⌜ r ≡ be32At (now (s .entry)) at ⌝ }
-{
-    if has_word(s, at) {
-        WordAt::At(within::be32(s, at))
-    } else {
-        WordAt::Refused(Refusal::Corrupt)
-    }
-}
-
-// A word stored little-endian at an offset; a refusal alters nothing.
-pub fn lfs_put_le32(s: &mut [u8], at: usize, v: u32) -> Put
-    ensures { λ r. ⌜ r ≡ putAnswer (now (s .entry)) at ⌝ }
-    ensures { λ _. ⌜ now (s .exit) ≡ putLe32 (now (s .entry)) at v ⌝ }
-{
-    if has_word(s, at) {
-        within::put_le32(s, at, v);
-        Put::Done
-    } else {
-        Put::Refused(Refusal::Corrupt)
-    }
-}
-
-// A word stored big-endian at an offset; a refusal alters nothing.
-pub fn lfs_put_be32(s: &mut [u8], at: usize, v: u32) -> Put
-    ensures { λ r. ⌜ r ≡ putAnswer (now (s .entry)) at ⌝ }
-    ensures { λ _. ⌜ now (s .exit) ≡ putBe32 (now (s .entry)) at v ⌝ }
-{
-    if has_word(s, at) {
-        within::put_be32(s, at, v);
-        Put::Done
-    } else {
-        Put::Refused(Refusal::Corrupt)
     }
 }
 

@@ -1,5 +1,4 @@
 -- `util::lfs_pair_cmp` meets its contract: the test decides the definition's case. Assumes nothing.
-use borrow.Author.Needs.{needs}
 use Rattle.util.proofs.lfs_pair_cmp.Statement.{statement}
 use Rattle.util.proofs.lfs_pair_cmp.Tie as tie
 

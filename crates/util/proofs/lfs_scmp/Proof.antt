@@ -1,6 +1,6 @@
 -- `util::lfs_scmp` meets its contract: the wrapped difference, read as signed by `Signed.antt`.
 -- Assumes nothing.
-use mathlib.Core.Path.{_≡_, sym, ap, _∙_}
+use mathlib.Core.Path.{ap, _∙_}
 use Prim.Native.Nat.{_-_}
 use native.Mathlib.Omega.{arith}
 use mir.Syntax.{w32}

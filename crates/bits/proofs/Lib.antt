@@ -1,0 +1,4 @@
+-- Why the stairs of shifts count what they count.
+mod Stairs
+mod Lowest
+mod Fields

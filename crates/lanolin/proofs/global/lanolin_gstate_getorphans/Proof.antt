@@ -1,0 +1,16 @@
+-- `lanolin::global::lanolin_gstate_getorphans` meets its contract: a thin reader over `orphans_word` (gstate's `Thin.antt`). Assumes nothing.
+use mathlib.Core.Path.{_≡_}
+use mir.Syntax.{w32}
+use Rattle.format.specs.Gstate.{gstateOrphans}
+use Rattle.gstate.proofs.Thin.{number, reads}
+use Rattle.lanolin.proofs.global.orphans_word.Symbol.{name as #core}
+use Rattle.lanolin.proofs.global.orphans_word.Met as core-thm
+use Rattle.lanolin.proofs.global.lanolin_gstate_getorphans.Key.{name as #self}
+use Rattle.lanolin.proofs.global.lanolin_gstate_getorphans.Statement.{statement}
+use Rattle.lanolin.proofs.global.lanolin_gstate_getorphans.Code as code
+
+pub lanolin-gstate-getorphans-spec : {M : Type 1} → statement M
+unfolding code.routine
+lanolin-gstate-getorphans-spec 𝓤 H 𝓜 𝓖 𝓡 =
+    reads (number w32) (λ a r. r ≡ gstateOrphans a) #core 𝓤 H 𝓜 𝓖 𝓡
+    code.env #self (code.unfolded 𝓤 H 𝓜 𝓡) (core-thm.met 𝓤 H 𝓜 𝓖 𝓡)

@@ -1,0 +1,2 @@
+-- What the reads and the stores share.
+mod Inside
