@@ -1,4 +1,5 @@
-//! The port: every call of `liblanolin.a`, each with a safe wrapper.
+//! The port: every call of `liblanolin.a`, each with a safe wrapper. The leaves
+//! are here, the calls on a pair of blocks in `dir`.
 //!
 //! The shapes are those of `include/lanolin.h`. A wrapper adds nothing: it
 //! passes a slice as a pointer and a count, and hands back what the call
@@ -6,6 +7,11 @@
 //! a caller compares it as it compares an answer.
 //!
 //! Assumes that the archive keeps to those shapes: the linker sees names only.
+
+mod dir;
+
+pub use crate::calls::Gstate;
+pub use dir::Port;
 
 /// A word, or the refusal and 0.
 #[repr(C)]
@@ -19,14 +25,6 @@ pub struct Word {
 #[repr(C)]
 #[derive(Clone, Copy, Debug, PartialEq, Eq)]
 pub struct Pair {
-    pub pair: [u32; 2],
-}
-
-/// `lanolin_gstate`.
-#[repr(C)]
-#[derive(Clone, Copy, Debug, PartialEq, Eq)]
-pub struct Gstate {
-    pub tag: u32,
     pub pair: [u32; 2],
 }
 

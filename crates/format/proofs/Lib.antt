@@ -1,8 +1,17 @@
--- Laws of the definitions, for the code that cites them.
+-- Laws of the definitions, for the code and the theorems that cite them.
+--
+-- Words and tags.
 pub mod Xor
 pub mod Words
+pub mod Tags
 pub mod Signed
+pub mod Order
+-- The checksum.
 pub mod Linear
 pub mod Table
 pub mod Checksum
+-- The walk, the classes of a tag, and the walk back.
+pub mod Parts
 pub mod Walk
+pub mod Classes
+pub mod Back

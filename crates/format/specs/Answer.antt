@@ -8,8 +8,8 @@ use Rattle.format.specs.declared.Refusal.{Refusal}
 use Rattle.format.specs.declared.Refusal.the-variants as refusal
 use Rattle.format.specs.declared.Word.{Word}
 use Rattle.format.specs.declared.Word.the-variants as word
-use Rattle.format.specs.declared.Put.{Put}
-use Rattle.format.specs.declared.Put.the-variants as put
+use Rattle.format.specs.declared.Altered.{Altered}
+use Rattle.format.specs.declared.Altered.the-variants as altered
 use Rattle.format.specs.declared.Fetched.{Fetched}
 use Rattle.format.specs.declared.Fetched.the-variants as fetched
 use Rattle.format.specs.declared.Got.{Got}
@@ -89,9 +89,9 @@ abbrev pub wordValue : Word → ℕ
 wordValue (word.Is v) = v
 wordValue (word.Refused r) = 0
 
-abbrev pub putResult : Put → ℤ
-putResult put.Done = pos 0
-putResult (put.Refused r) = refusalNumber r
+abbrev pub alteredResult : Altered → ℤ
+alteredResult altered.Done = pos 0
+alteredResult (altered.Refused r) = refusalNumber r
 
 abbrev pub fetchedResult : Fetched → ℤ
 fetchedResult (fetched.Found m s) = pos 0

@@ -10,8 +10,8 @@ use Rattle.format.specs.Word.{be32, le32, toBe32, toLe32}
 use Rattle.format.specs.declared.Refusal.the-variants.{Corrupt}
 use Rattle.format.specs.declared.Word.{Word}
 use Rattle.format.specs.declared.Word.the-variants as word
-use Rattle.format.specs.declared.Put.{Put}
-use Rattle.format.specs.declared.Put.the-variants as put
+use Rattle.format.specs.declared.Altered.{Altered}
+use Rattle.format.specs.declared.Altered.the-variants as altered
 
 -- four bytes at `at` are inside
 abbrev pub inside : List ℕ → ℕ → Bool
@@ -24,8 +24,8 @@ abbrev pub be32At : List ℕ → ℕ → Word
 be32At s at = cond (inside s at) (word.Is (be32 (drop at s))) (word.Refused Corrupt)
 
 -- what a store answers, and what it leaves: `sets s at vs` has vs stored one after the other from `at` on
-abbrev pub putAnswer : List ℕ → ℕ → Put
-putAnswer s at = cond (inside s at) put.Done (put.Refused Corrupt)
+abbrev pub putAnswer : List ℕ → ℕ → Altered
+putAnswer s at = cond (inside s at) altered.Done (altered.Refused Corrupt)
 
 abbrev pub putLe32 : List ℕ → ℕ → ℕ → List ℕ
 putLe32 s at w = cond (inside s at) (sets s at (toLe32 w)) s

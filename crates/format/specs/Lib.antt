@@ -1,15 +1,29 @@
--- What a reader must believe, in the order in which to read it: numbers in bytes, the tag and its types, the checksum; the walk of a block
--- into its log, what is committed, which logs are regular; small arithmetic, pairs, the global state; document 01's numbers for each answer.
+-- What a reader must believe, in the order in which to read it.
+--
+-- Numbers in bytes, the tag and its types, the checksum.
 pub mod Word
 pub mod Tag
 pub mod Kind
 pub mod Crc
+-- The walk of a block into its log, and what is committed; what a log says; which of two blocks answers.
 pub mod Walk
 pub mod Log
 pub mod Count
-pub mod Regular
-pub mod Bytes
+pub mod Record
+pub mod View
+-- Small arithmetic, words at an offset, pairs, the global state; document 01's numbers for each answer.
 pub mod Arith
+pub mod Bytes
 pub mod Pair
 pub mod Gstate
 pub mod Answer
+-- Fetch.
+pub mod Fetch
+-- The walk back, the search in it, and the lookups.
+pub mod Back
+pub mod Look
+pub mod Lookup
+-- The writer: its rules and which logs are regular, a commit's bytes, what its stores leave.
+pub mod Regular
+pub mod Commit
+pub mod Stores

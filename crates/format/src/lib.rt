@@ -36,6 +36,13 @@ pub struct LfsGstate {
     pub pair: LfsPair,
 }
 
+// What is shown of an entry: its type, its size, and its name, zeros behind it.
+pub struct LfsInfo {
+    pub kind: u8,
+    pub size: u32,
+    pub name: [u8; 256],
+}
+
 // One entry of a commit: "type, id, data offset, length".
 #[repr(C)]
 pub struct Entry {
@@ -73,8 +80,8 @@ pub enum Word {
     Refused(Refusal),
 }
 
-// Four bytes stored.
-pub enum Put {
+// What was lent is altered.
+pub enum Altered {
     Done,
     Refused(Refusal),
 }
@@ -89,6 +96,12 @@ pub enum Fetched {
 pub enum Got {
     Found(u32),
     Refused(Refusal),
+}
+
+// An entry's info, all zero on a refusal. A struct with the answer beside the info, since an enum can hold no array.
+pub struct Informed {
+    pub answer: Altered,
+    pub info: LfsInfo,
 }
 
 // Commit and compaction: the record and the seed that fetch gives on the finished pair.

@@ -1,9 +1,9 @@
 // Answers as C gets them: document 01's numbers, and structs of plain fields.
 ghost use mathlib.Core.Path.{_≡_};
-ghost use Rattle.format.specs.Answer.{flagOf, refusalNumber, putResult};
+ghost use Rattle.format.specs.Answer.{flagOf, refusalNumber, alteredResult};
 ghost use Rattle.lanolin.specs.Values.{wordOut};
 use crate::Value;
-use format::Put;
+use format::Altered;
 use format::Refusal;
 use format::Word;
 
@@ -45,11 +45,11 @@ pub fn word_out(w: Word) -> Value
     }
 }
 
-pub fn put_out(p: Put) -> i32
-    ensures { λ r. ⌜ r ≡ putResult p ⌝ }
+pub fn altered_out(a: Altered) -> i32
+    ensures { λ r. ⌜ r ≡ alteredResult a ⌝ }
 {
-    match p {
-        Put::Done => 0,
-        Put::Refused(r) => number(r),
+    match a {
+        Altered::Done => 0,
+        Altered::Refused(r) => number(r),
     }
 }

@@ -1,7 +1,7 @@
 // The leaves for C callers: each export hands its numbers and slices to the call of the same name.
 ghost use mathlib.Core.Path.{_≡_};
 ghost use Prim.Native.Nat.{min, max};
-ghost use Rattle.format.specs.Answer.{flagOf, putResult};
+ghost use Rattle.format.specs.Answer.{flagOf, alteredResult};
 ghost use Rattle.format.specs.Arith.{alignDown, alignUp, npw2, ctz, popc};
 ghost use Rattle.format.specs.Bytes.{le32At, be32At, putAnswer, putLe32, putBe32};
 ghost use Rattle.format.specs.Count.{scmp};
@@ -11,7 +11,7 @@ ghost use Rattle.format.specs.Tag.{tagValid, tagType1, tagType2, tagType3, tagC
 ghost use Rattle.lanolin.specs.Values.{wordOut};
 use crate::Value;
 use crate::answers::flag;
-use crate::answers::put_out;
+use crate::answers::altered_out;
 use crate::answers::word_out;
 use format::LfsPair;
 
@@ -186,18 +186,18 @@ pub extern "C" fn lanolin_be32_at(bytes: &[u8], at: usize) -> Value
 
 #[no_mangle]
 pub extern "C" fn lanolin_put_le32(bytes: &mut [u8], at: usize, value: u32) -> i32
-    ensures { λ r. ⌜ r ≡ putResult (putAnswer (now (bytes .entry)) at) ⌝ }
+    ensures { λ r. ⌜ r ≡ alteredResult (putAnswer (now (bytes .entry)) at) ⌝ }
     ensures { λ _. ⌜ now (bytes .exit) ≡ putLe32 (now (bytes .entry)) at value ⌝ }
 {
-    put_out(word::lfs_put_le32(bytes, at, value))
+    altered_out(word::lfs_put_le32(bytes, at, value))
 }
 
 #[no_mangle]
 pub extern "C" fn lanolin_put_be32(bytes: &mut [u8], at: usize, value: u32) -> i32
-    ensures { λ r. ⌜ r ≡ putResult (putAnswer (now (bytes .entry)) at) ⌝ }
+    ensures { λ r. ⌜ r ≡ alteredResult (putAnswer (now (bytes .entry)) at) ⌝ }
     ensures { λ _. ⌜ now (bytes .exit) ≡ putBe32 (now (bytes .entry)) at value ⌝ }
 {
-    put_out(word::lfs_put_be32(bytes, at, value))
+    altered_out(word::lfs_put_be32(bytes, at, value))
 }
 
 // ---- pairs

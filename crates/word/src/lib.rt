@@ -2,7 +2,7 @@
 // store of four bytes at an offset of a slice. Any slice and offset; what passes the end is refused, and a refused store alters nothing.
 ghost use mathlib.Core.Path.{_≡_};
 ghost use Rattle.format.specs.Bytes.{inside, le32At, be32At, putAnswer, putLe32, putBe32};
-use format::Put;
+use format::Altered;
 use format::Refusal;
 use format::Word;
 
@@ -45,27 +45,27 @@ pub fn lfs_be32_at(s: &[u8], at: usize) -> Word
 }
 
 // A word stored little-endian at an offset; a refusal alters nothing.
-pub fn lfs_put_le32(s: &mut [u8], at: usize, v: u32) -> Put
+pub fn lfs_put_le32(s: &mut [u8], at: usize, v: u32) -> Altered
     ensures { λ r. ⌜ r ≡ putAnswer (now (s .entry)) at ⌝ }
     ensures { λ _. ⌜ now (s .exit) ≡ putLe32 (now (s .entry)) at v ⌝ }
 {
     if has_word(s, at) {
         within::put_le32(s, at, v);
-        Put::Done
+        Altered::Done
     } else {
-        Put::Refused(Refusal::Corrupt)
+        Altered::Refused(Refusal::Corrupt)
     }
 }
 
 // A word stored big-endian at an offset; a refusal alters nothing.
-pub fn lfs_put_be32(s: &mut [u8], at: usize, v: u32) -> Put
+pub fn lfs_put_be32(s: &mut [u8], at: usize, v: u32) -> Altered
     ensures { λ r. ⌜ r ≡ putAnswer (now (s .entry)) at ⌝ }
     ensures { λ _. ⌜ now (s .exit) ≡ putBe32 (now (s .entry)) at v ⌝ }
 {
     if has_word(s, at) {
         within::put_be32(s, at, v);
-        Put::Done
+        Altered::Done
     } else {
-        Put::Refused(Refusal::Corrupt)
+        Altered::Refused(Refusal::Corrupt)
     }
 }

@@ -1,0 +1,43 @@
+-- What follows from the definitions of `format` alone, in the order in which to read it. No code, and no assumption.
+--
+-- The walk: one step both ways; what stands in front does not depend on what follows; what was encoded is decoded; a commit cut short.
+pub mod Steps
+pub mod Local
+pub mod Decode
+pub mod Erased
+pub mod Cut
+-- The log and the pair: what is committed; one block under stores; two blocks and their view.
+pub mod Committed
+pub mod Stores
+pub mod Pair
+-- The directory: the machine and the search; compaction's acts; the walk back; events as acts.
+pub mod Directory
+pub mod Rebuild
+pub mod Backward
+pub mod Told
+pub mod Acts
+pub mod Types
+pub mod Seen
+-- Demand 3: an append; a compaction.
+pub mod Append
+pub mod Items
+pub mod Slots
+pub mod Compact
+pub mod Entries
+-- The lookups: what is allowed; masks; the key and the difference; on the bytes of a block; the move state; through an append.
+pub mod Allowed
+pub mod Queries
+pub mod Lookup
+pub mod Searchable
+pub mod Move
+pub mod Appended
+-- What a writer tests, document 01's Booleans, and all of the above from them: the pages to cite are Accepted, Writer and Compactor.
+pub mod Ruled
+pub mod Made
+pub mod Counts
+pub mod Accepted
+pub mod Writer
+pub mod Renewed
+pub mod Compactor
+pub mod Carried
+pub mod Instance

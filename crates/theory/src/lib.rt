@@ -1,0 +1,1 @@
+// What follows from the definitions of `format` alone: see specs/. No code.

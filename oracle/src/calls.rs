@@ -1,0 +1,137 @@
+//! The five calls on a pair of blocks, as values: what goes in, what comes out,
+//! and who can be asked.
+//!
+//! The structs with `repr(C)` are those of `include/lanolin.h`. The two marks of
+//! a record are bytes here, not `bool`: any byte that the archive hands back is
+//! then a value that can be compared, and one that is neither 0 nor 1 is seen.
+//!
+//! Assumes nothing.
+
+/// Document 01's numbers for the refusals of fetch and lookups.
+pub const INVAL: i32 = -22;
+pub const CORRUPT: i32 = -84;
+pub const NOENT: i32 = -2;
+
+/// `lanolin_geometry`.
+#[repr(C)]
+#[derive(Clone, Copy, Debug, PartialEq, Eq)]
+pub struct Geometry {
+    pub block_size: u32,
+    pub prog_size: u32,
+}
+
+/// `lanolin_mdir`, the record.
+#[repr(C)]
+#[derive(Clone, Copy, Debug, Default, PartialEq, Eq)]
+pub struct Mdir {
+    pub pair: [u32; 2],
+    pub rev: u32,
+    pub off: u32,
+    pub etag: u32,
+    pub count: u16,
+    pub erased: u8,
+    pub split: u8,
+    pub tail: [u32; 2],
+}
+
+/// `lanolin_gstate`.
+#[repr(C)]
+#[derive(Clone, Copy, Debug, Default, PartialEq, Eq)]
+pub struct Gstate {
+    pub tag: u32,
+    pub pair: [u32; 2],
+}
+
+/// `lanolin_fetched`.
+#[repr(C)]
+#[derive(Clone, Copy, Debug, PartialEq, Eq)]
+pub struct Fetched {
+    pub result: i32,
+    pub dir: Mdir,
+    pub seed: u32,
+}
+
+/// `lanolin_got`.
+#[repr(C)]
+#[derive(Clone, Copy, Debug, PartialEq, Eq)]
+pub struct Got {
+    pub result: i32,
+    pub tag: u32,
+}
+
+impl Got {
+    pub fn refused(result: i32) -> Got {
+        Got { result, tag: 0 }
+    }
+
+    /// The one word that the Rust answers: the tag, or the refusal.
+    pub fn word(self) -> u32 {
+        match self.result {
+            0 => self.tag,
+            refusal => refusal as u32,
+        }
+    }
+}
+
+/// `lanolin_info`.
+#[repr(C)]
+#[derive(Clone, Copy, Debug, PartialEq, Eq)]
+pub struct Info {
+    pub result: i32,
+    pub type_: u8,
+    pub size: u32,
+    pub name: [u8; 256],
+}
+
+impl Info {
+    pub fn refused(result: i32) -> Info {
+        Info {
+            result,
+            type_: 0,
+            size: 0,
+            name: [0; 256],
+        }
+    }
+}
+
+/// What every call takes: the sizes, the two images and their block numbers.
+#[derive(Clone, Copy)]
+pub struct Blocks<'a> {
+    pub geometry: Geometry,
+    pub images: [&'a [u8]; 2],
+    pub numbers: [u32; 2],
+}
+
+#[derive(Clone, Copy)]
+pub struct Fetch<'a> {
+    pub blocks: Blocks<'a>,
+    pub block_count: u32,
+    pub seed: u32,
+}
+
+/// What every lookup takes beside the blocks: the record, and the global state
+/// as it stands on the disk.
+#[derive(Clone, Copy)]
+pub struct Lookup<'a> {
+    pub blocks: Blocks<'a>,
+    pub dir: Mdir,
+    pub gdisk: Gstate,
+}
+
+/// What `lfs_dir_getslice` and `lfs_dir_get` look for; the latter has offset 0.
+#[derive(Clone, Copy, Debug)]
+pub struct Query {
+    pub mask: u32,
+    pub key: u32,
+    pub offset: u32,
+}
+
+/// Who answers the five calls: the port, or the second implementation.
+pub trait Voice {
+    fn fetch(&self, input: &Fetch) -> Fetched;
+    fn getslice(&self, input: &Lookup, query: Query, buffer: &mut [u8]) -> Got;
+    /// The query's offset is not looked at.
+    fn get(&self, input: &Lookup, query: Query, buffer: &mut [u8]) -> Got;
+    fn getinfo(&self, input: &Lookup, name_max: u32, id: u32) -> Info;
+    fn getgstate(&self, input: &Lookup, state: &mut Gstate) -> i32;
+}
