@@ -1,12 +1,19 @@
--- Document 01, Cases: (1) to (9), (11) and (12), as one statement over a list. Case (10) is one of fetch. Assumes nothing.
+-- Document 01, Cases: (1) to (12), as one statement over a list. Assumes nothing.
 use mathlib.Core.Path.{_≡_, refl}
 use mathlib.Core.List.{List, [], _∷_, map}
 use lib.Count.{leadingZeros, trailingZeros}
 use lib.IntN.{ℤ, pos, negℤ}
-use Rattle.format.specs.Answer.{flagOf}
+use lib.ListN.{replicate}
+use Rattle.format.specs.Word.{be32, le32, xor}
+use Rattle.format.specs.Crc.{crc, crcByte, crcBits, crcBit}
+use Rattle.format.specs.Walk.{readBehind, classOf, bodyLength, walkIn, walkFrom, walk}
+use Rattle.format.specs.Log.{committed, log}
+use Rattle.format.specs.View.{rank, view}
+use Rattle.format.specs.Fetch.{geometryFits, pairFits, tooHigh, fetchOf}
+use Rattle.format.specs.Answer.{flagOf, fetchedResult}
 use Rattle.format.specs.Arith.{npw2, ctz}
 use Rattle.format.specs.Count.{secondFirst, countNamed, countSpliced}
-use Rattle.format.specs.Tag.{tagLength, tagSplice}
+use Rattle.format.specs.Tag.{tagLength, tagFlipped, tagSplice}
 
 -- a case: what the definition gives, and what document 01 says that it is
 pub record Case : Type 0 where
@@ -28,6 +35,8 @@ cases =
     ∷ record { given = pos (countSpliced 0 (negℤ (pos 1))); said = pos 0 }
     ∷ record { given = pos (countSpliced 65_535 (pos 1)); said = pos 0 }
     ∷ record { given = pos (countNamed 0 1_023); said = pos 1_024 }
+    -- "(10) all 0xff pair: -84"
+    ∷ record { given = fetchedResult (fetchOf (record { «block_size» = 128; «prog_size» = 16 }) (replicate 128 0xff) (replicate 128 0xff) 0 1 0 0); said = negℤ (pos 84) }
     -- "(11) `lfs_npw2` of 0, 1, 5: 32, 1, 3"
     ∷ record { given = pos (npw2 0); said = pos 32 }
     ∷ record { given = pos (npw2 1); said = pos 1 }
@@ -38,5 +47,5 @@ cases =
     ∷ []
 
 pub all-said : map (λ c. c .given) cases ≡ map (λ c. c .said) cases
-unfolding tagLength npw2 ctz leadingZeros trailingZeros
+unfolding tagLength npw2 ctz leadingZeros trailingZeros fetchOf geometryFits pairFits tooHigh view rank log committed walk walkFrom walkIn classOf readBehind bodyLength tagFlipped be32 le32 xor crc crcByte crcBits crcBit
 all-said = refl

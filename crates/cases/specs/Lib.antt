@@ -2,3 +2,4 @@ pub mod Cases
 pub mod Listing
 pub mod Walks
 pub mod Rules
+pub mod Pairs

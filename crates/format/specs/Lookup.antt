@@ -1,7 +1,7 @@
 -- Document 01, Lookup: the answers of `lfs_dir_getslice`, `lfs_dir_get`, `lfs_dir_getinfo` and `lfs_dir_getgstate`, and what they leave in a
 -- buffer, an info or a state. Assumes nothing.
-use mathlib.Core.Bool.{Bool, true, false, not, cond, _&&_, _||_}
-use mathlib.Core.List.{List, [], _∷_, _++_}
+use mathlib.Core.Bool.{Bool, not, cond, _&&_}
+use mathlib.Core.List.{List, _∷_, _++_}
 use Prim.Native.Nat.{ℕ, _+_, _-_, _%_, _^_, min}
 use lib.ListN.{length, take, drop, replicate}
 use lib.Dec.{leb, ltb, eqb}
@@ -16,10 +16,8 @@ use Rattle.format.specs.Fetch.{pairFits}
 use Rattle.format.specs.Back.{back}
 use Rattle.format.specs.Look.{Found, noEntry, found, wlook}
 use Rattle.format.specs.declared.Geometry.{Geometry}
-use Rattle.format.specs.declared.LfsPair.{LfsPair}
 use Rattle.format.specs.declared.LfsMdir.{LfsMdir}
 use Rattle.format.specs.declared.LfsGstate.{LfsGstate}
-use Rattle.format.specs.declared.LfsInfo.{LfsInfo}
 use Rattle.format.specs.declared.Refusal.{Refusal}
 use Rattle.format.specs.declared.Refusal.the-variants.{Invalid, Corrupt, NoEntry}
 use Rattle.format.specs.declared.Got.{Got}

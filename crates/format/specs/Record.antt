@@ -1,6 +1,6 @@
 -- Document 01, Fetch: what a log says, each part as a fold over its events. "Then the record takes count, tail, split, end and end tag; the seed
 -- takes the checksum's four bytes" (end and end tag stand in Log). Assumes nothing.
-use mathlib.Core.Bool.{Bool, true, false, cond}
+use mathlib.Core.Bool.{Bool, cond}
 use mathlib.Core.List.{List, [], _∷_}
 use Prim.Native.Nat.{ℕ, _%_}
 use lib.ListN.{drop}

@@ -1,16 +1,15 @@
 -- Fetch's count, by names and splices as document 01 words it, is the number of slots in a regular log. Assumes nothing.
 use mathlib.Core.Path.{_≡_, refl, sym, ap, _∙_}
 use mathlib.Core.Logic.{_⊎_, inl, inr}
-use mathlib.Core.Bool.{true, false, cond, _&&_}
+use mathlib.Core.Bool.{true, false, _&&_}
 use mathlib.Core.List.{List, [], _∷_}
 use Prim.Native.Nat.{ℕ, _/_, _^_, _≤_, _<_}
 use native.Mathlib.Omega.{arith}
 use lib.Dec.{eqb, leb, ltb}
 use borrow.Author.Tests.{ne-eqb, leb-true, ltb-true}
-use Rattle.format.specs.Tag.{tagType1, tagType3, tagChunk, tagSplice, tagId, tagSize}
+use Rattle.format.specs.Tag.{tagType1, tagType3, tagChunk, tagId, tagSize}
 use Rattle.format.specs.Kind.{typeName, typeSplice, typeCreate, typeDelete, typeCheck, isName, isSplice}
 use Rattle.format.specs.Walk.{Event, ent, chk, inv}
-use Rattle.format.specs.Count.{countNamed, countSpliced}
 use Rattle.format.specs.Record.{counted, countOf}
 use Rattle.format.specs.Regular.{Rule, ruleOf, between, ruleHolds, countAfter, regularFrom, Regular, create, delete, name, inlined, eight, attribute, tail, move, forward, bad}
 use Rattle.theory.specs.Steps.{both-true}

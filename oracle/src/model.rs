@@ -1,0 +1,62 @@
+//! A second implementation of fetch and lookups, written from document 01 and
+//! not from the Rust: a third voice beside the port and the Rust, and the one
+//! that decides where document 01 leaves the Rust (what it marks Ours).
+//!
+//! It can be given a `Fault`, a change in one place. `oracle teeth` runs each
+//! one through the comparison, to show that the comparison sees it.
+//!
+//! Assumes nothing, and never panics, also with a fault: a slice is read by
+//! `get`, never by an index.
+
+mod bytes;
+mod erased;
+mod fault;
+mod fetch;
+mod info;
+mod lookup;
+mod sizes;
+mod tag;
+mod walk;
+
+pub use bytes::{be32, crc, le32, ONES};
+pub use fault::{Fault, Seen, FAULTS};
+pub use tag::*;
+
+use crate::calls::{Fetch, Fetched, Got, Gstate, Info, Lookup, Query, Voice};
+
+/// The second implementation, with at most one fault.
+#[derive(Clone, Copy)]
+pub struct Model {
+    pub fault: Fault,
+}
+
+/// The one without a fault.
+pub const FAULTLESS: Model = Model { fault: Fault::None };
+
+impl Model {
+    fn has(&self, fault: Fault) -> bool {
+        self.fault == fault
+    }
+}
+
+impl Voice for Model {
+    fn fetch(&self, input: &Fetch) -> Fetched {
+        self.fetch_and_say(input).0
+    }
+
+    fn getslice(&self, input: &Lookup, query: Query, buffer: &mut [u8]) -> Got {
+        self.slice(input, query, buffer)
+    }
+
+    fn get(&self, input: &Lookup, query: Query, buffer: &mut [u8]) -> Got {
+        self.sized(input, query, buffer)
+    }
+
+    fn getinfo(&self, input: &Lookup, name_max: u32, id: u32) -> Info {
+        self.info_and_say(input, name_max, id).0
+    }
+
+    fn getgstate(&self, input: &Lookup, state: &mut Gstate) -> i32 {
+        self.gstate_and_say(input, state).0
+    }
+}

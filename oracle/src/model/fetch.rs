@@ -1,0 +1,127 @@
+//! Fetch: the newest valid log of a pair.
+//!
+//! Assumes nothing.
+
+use super::walk::{Commit, Walk};
+use super::{bytes::*, Fault, Model};
+use crate::calls::{Fetch, Fetched, Mdir, CORRUPT, INVAL, NOENT};
+
+/// "-2: fetch: count above 1,023"
+const MOST_SLOTS: u32 = 1023;
+
+impl Model {
+    /// The answer, and whether the rule on forward lengths past the block, which
+    /// is Ours, decided the erased mark.
+    pub fn fetch_and_say(&self, input: &Fetch) -> (Fetched, bool) {
+        if !self.blocks_fit(&input.blocks) {
+            return (refused(INVAL, input.seed), false);
+        }
+        if self.number_too_high(input) {
+            return (refused(CORRUPT, input.seed), false);
+        }
+        let first = self.first(input);
+        let mut earlier = None;
+        for which in [first, 1 - first] {
+            let walk = Walk::of(self.fault, input.blocks.images[which], input.seed, earlier);
+            if let Some(commit) = walk.committed {
+                return self.answer(input, which, &walk, &commit);
+            }
+            earlier = Some(walk);
+            if self.has(Fault::SecondBlockUntried) {
+                break;
+            }
+        }
+        let mut answer = refused(CORRUPT, input.seed);
+        if self.has(Fault::RefusalHasRecord) {
+            answer.dir.pair = input.blocks.numbers;
+        }
+        (answer, false)
+    }
+
+    /// "block number not below a non-zero block count"
+    fn number_too_high(&self, input: &Fetch) -> bool {
+        let ([n0, n1], count) = (input.blocks.numbers, input.block_count);
+        let high = |number: u32| match self.fault {
+            Fault::BlockCountIncluded => number > count,
+            _ => number >= count,
+        };
+        let second = high(n1) && !self.has(Fault::SecondNumberUntested);
+        count != 0 && (high(n0) || second)
+    }
+
+    /// "The second block ranks first only if its revision minus the first's,
+    /// wrapping and read as signed, is above 0."
+    fn first(&self, input: &Fetch) -> usize {
+        let [rev0, rev1] = self.revisions(input);
+        let ahead = rev1.wrapping_sub(rev0) as i32;
+        usize::from(match self.fault {
+            Fault::RevisionUnsigned => rev1 > rev0,
+            Fault::RevisionSigned => (rev1 as i32) > (rev0 as i32),
+            Fault::EqualRevisionsSecond => ahead >= 0,
+            _ => ahead > 0,
+        })
+    }
+
+    fn revisions(&self, input: &Fetch) -> [u32; 2] {
+        input.blocks.images.map(|image| match self.fault {
+            Fault::RevisionBigEndian => be32(image, 0).unwrap_or(0),
+            _ => le32(image, 0).unwrap_or(0),
+        })
+    }
+
+    fn answer(&self, input: &Fetch, which: usize, walk: &Walk, commit: &Commit) -> (Fetched, bool) {
+        let contents = match self.fault {
+            Fault::UncommittedShown => walk.contents,
+            _ => commit.contents,
+        };
+        let (erased, ours) = self.erased(walk, commit, input.blocks.geometry.prog_size);
+        let numbers = input.blocks.numbers;
+        let shown = match self.fault {
+            Fault::PairAsGiven => 0,
+            _ => which,
+        };
+        let dir = Mdir {
+            pair: [numbers[shown], numbers[1 - shown]],
+            rev: self.revisions(input)[which],
+            off: commit.end as u32,
+            etag: commit.end_tag,
+            count: contents.count as u16,
+            erased: erased.into(),
+            split: contents.split.into(),
+            tail: contents.tail,
+        };
+        let answer = Fetched {
+            result: self.result(contents.count),
+            dir,
+            seed: walk.seed,
+        };
+        match self.fault {
+            Fault::NoentHasNoRecord if answer.result == NOENT => {
+                (refused(NOENT, input.seed), ours)
+            }
+            Fault::NoentHasOldSeed if answer.result == NOENT => {
+                let seed = input.seed;
+                (Fetched { seed, ..answer }, ours)
+            }
+            _ => (answer, ours),
+        }
+    }
+
+    fn result(&self, count: u32) -> i32 {
+        let most = match self.fault {
+            Fault::CountBelow1023 => MOST_SLOTS - 1,
+            Fault::CountTo1024 => MOST_SLOTS + 1,
+            _ => MOST_SLOTS,
+        };
+        match count > most {
+            true => NOENT,
+            false => 0,
+        }
+    }
+}
+
+/// "record all zero, seed as given"
+fn refused(result: i32, seed: u32) -> Fetched {
+    let dir = Mdir::default();
+    Fetched { result, dir, seed }
+}

@@ -1,0 +1,136 @@
+/* Calls every function of include/lanolin.h through the archive, on document 01's listing pair and at the edges. Prints each failed line and
+ * exits 1, or one line with the number of checks. What is expected comes from document 01 and from the format, worked out by hand. */
+#include "lanolin.h"
+
+#include <stdio.h>
+#include <string.h>
+
+static int checks, failures;
+#define EXPECT(c) (checks++, (c) ? (void)0 : (failures++, (void)printf("%s:%d: not so: %s\n", __FILE__, __LINE__, #c)))
+
+/* Document 01's listing input: one slot, q212, with the payload abc and the deadline 90 5f 01 00 under attribute type 0x74. */
+static const uint8_t LISTED[39] = {
+    0x01, 0x00, 0x00, 0x00, 0xbf, 0xef, 0xff, 0xff, 0x40, 0x00, 0x00, 0x04, 'q',  '2',  '1',  '2',  0x20, 0x00, 0x00, 0x07,
+    'a',  'b',  'c',  0x17, 0x50, 0x00, 0x07, 0x90, 0x5f, 0x01, 0x00, 0x67, 0x4f, 0xfc, 0x09, 0x47, 0x38, 0xe4, 0x4d};
+
+static const lanolin_geometry G = {128, 16};
+static const lanolin_gstate STILL = {0, {0, 0}};
+static uint8_t b0[128], b1[128];
+
+static lanolin_fetched fetch(uint32_t n0, uint32_t n1, uint32_t block_count, uint32_t seed) {
+    return lanolin_fetch(G, b0, sizeof b0, b1, sizeof b1, n0, n1, block_count, seed);
+}
+
+static lanolin_got slice(lanolin_mdir dir, lanolin_gstate gdisk, uint32_t mask, uint32_t key, uint32_t off, uint8_t *buffer, size_t size) {
+    return lanolin_getslice(G, b0, sizeof b0, b1, sizeof b1, 0, 1, dir, gdisk, mask, key, off, buffer, size);
+}
+
+static int is_zero(const void *p, size_t n) {
+    for (size_t i = 0; i < n; i++)
+        if (((const uint8_t *)p)[i]) return 0;
+    return 1;
+}
+
+static void test_fetch(void) {
+    lanolin_fetched f = fetch(0, 1, 0, 0);
+    EXPECT(f.result == 0 && f.dir.pair[0] == 0 && f.dir.pair[1] == 1 && f.dir.rev == 1 && f.dir.off == 48);
+    EXPECT(f.dir.etag == 0x500ffc0d && f.dir.count == 1 && !f.dir.erased && !f.dir.split);
+    EXPECT(f.dir.tail[0] == 0xffffffff && f.dir.tail[1] == 0xffffffff && f.seed == lanolin_crc(0, LISTED + 35, 4));
+    f = fetch(3, 3, 0, 7);
+    EXPECT(f.result == -22 && f.seed == 7 && is_zero(&f.dir, sizeof f.dir));
+    f = fetch(0, 9, 9, 7);
+    EXPECT(f.result == -84 && f.seed == 7 && is_zero(&f.dir, sizeof f.dir));
+    EXPECT(lanolin_fetch(G, b1, sizeof b1, b1, sizeof b1, 0, 1, 0, 7).result == -84);
+    EXPECT(lanolin_fetch(G, b0, 127, b1, sizeof b1, 0, 1, 0, 7).result == -22);
+    EXPECT(lanolin_fetch(G, NULL, 0, NULL, 0, 0, 1, 0, 7).result == -22);
+}
+
+static void test_lookups(void) {
+    lanolin_mdir dir = fetch(0, 1, 0, 0).dir;
+    uint8_t buffer[6] = {9, 9, 9, 9, 9, 9};
+    lanolin_got got = slice(dir, STILL, 0x700ffc00, 0x00000000, 0, buffer, 6);
+    EXPECT(got.result == 0 && got.tag == 0x00100004 && !memcmp(buffer, "q212\0\0", 6));
+    got = slice(dir, STILL, 0x7ffffc00, 0x37400000, 1, buffer, 2);
+    EXPECT(got.result == 0 && got.tag == 0x37400004 && !memcmp(buffer, "\x5f\x01" "12\0\0", 6));
+    got = slice(dir, STILL, 0x7ffffc00, 0x37500000, 0, buffer, 6);
+    EXPECT(got.result == -2 && got.tag == 0 && !memcmp(buffer, "\x5f\x01" "12\0\0", 6));
+    got = slice(dir, STILL, 0x7ffffc00, 0x37400000, 1000, buffer, 6);
+    EXPECT(got.result == -84 && got.tag == 0 && !memcmp(buffer, "\x5f\x01" "12\0\0", 6));
+    lanolin_gstate moving = {0x4ff00000, {1, 9}};
+    EXPECT(slice(dir, moving, 0x700ffc00, 0, 0, buffer, 6).result == -2);
+    lanolin_mdir wrong = dir;
+    wrong.off = 129;
+    EXPECT(slice(wrong, STILL, 0x700ffc00, 0, 0, buffer, 6).result == -22);
+    memset(buffer, 9, 6);
+    got = lanolin_get(G, b0, sizeof b0, b1, sizeof b1, 0, 1, dir, STILL, 0x7ffffc00, 0x37400005, buffer, 6);
+    EXPECT(got.result == 0 && got.tag == 0x37400004 && !memcmp(buffer, "\x90\x5f\x01\0\0\x09", 6));
+    got = lanolin_get(G, b0, sizeof b0, b1, sizeof b1, 0, 1, dir, STILL, 0x7ffffc00, 0x37400007, buffer, 6);
+    EXPECT(got.result == -22 && !memcmp(buffer, "\x90\x5f\x01\0\0\x09", 6));
+}
+
+static void test_info_and_state(void) {
+    lanolin_mdir dir = fetch(0, 1, 0, 0).dir;
+    lanolin_info info = lanolin_getinfo(G, b0, sizeof b0, b1, sizeof b1, 0, 1, dir, STILL, 255, 0);
+    EXPECT(info.result == 0 && info.type == 1 && info.size == 3 && !strcmp((char *)info.name, "q212"));
+    info = lanolin_getinfo(G, b0, sizeof b0, b1, sizeof b1, 0, 1, dir, STILL, 255, 1023);
+    EXPECT(info.result == 0 && info.type == 2 && info.size == 0 && !strcmp((char *)info.name, "/"));
+    info = lanolin_getinfo(G, b0, sizeof b0, b1, sizeof b1, 0, 1, dir, STILL, 255, 1);
+    EXPECT(info.result == -2 && info.type == 0 && info.size == 0 && is_zero(info.name, 256));
+    EXPECT(lanolin_getinfo(G, b0, sizeof b0, b1, sizeof b1, 0, 1, dir, STILL, 0, 1023).result == -22);
+    EXPECT(lanolin_getinfo(G, b0, sizeof b0, b1, sizeof b1, 0, 1, dir, STILL, 255, 1024).result == -22);
+    lanolin_gstate state = {5, {6, 7}};
+    EXPECT(lanolin_getgstate(G, b0, sizeof b0, b1, sizeof b1, 0, 1, dir, STILL, &state) == 0);
+    EXPECT(state.tag == 5 && state.pair[0] == 6 && state.pair[1] == 7);
+    EXPECT(lanolin_getgstate(G, b0, sizeof b0, b1, sizeof b1, 0, 2, dir, STILL, &state) == -22);
+    EXPECT(state.tag == 5 && state.pair[0] == 6 && state.pair[1] == 7);
+}
+
+static void test_tags(void) {
+    uint32_t t = lanolin_mktag(0x4ff, 0x155, 0x3ff);
+    EXPECT(t == 0x4ff557ff && lanolin_mktag_if(true, 0x4ff, 0x155, 0x3ff) == t && lanolin_mktag_if(false, 1, 2, 3) == 0);
+    EXPECT(lanolin_tag_isvalid(t) == 1 && lanolin_tag_isvalid(0x80000000) == 0 && lanolin_tag_isdelete(t) == 1 && lanolin_tag_isdelete(0) == 0);
+    EXPECT(lanolin_tag_type1(t) == 0x400 && lanolin_tag_type2(t) == 0x480 && lanolin_tag_type3(t) == 0x4ff && lanolin_tag_chunk(t) == 0xff);
+    EXPECT(lanolin_tag_splice(t) == -1 && lanolin_tag_splice(0x47f00000) == 127 && lanolin_tag_splice(0x48000000) == -128);
+    EXPECT(lanolin_tag_id(t) == 0x155 && lanolin_tag_size(t) == 0x3ff && lanolin_tag_dsize(t) == 4 && lanolin_tag_dsize(0x500ffc0d) == 17);
+    EXPECT((lanolin_crc(0xffffffff, (const uint8_t *)"123456789", 9) ^ 0xffffffff) == 0xcbf43926 && lanolin_crc(5, NULL, 0) == 5);
+}
+
+static void test_numbers(void) {
+    EXPECT(lanolin_min(2, 3) == 2 && lanolin_max(2, 3) == 3 && lanolin_scmp(0, 0xffffffff) == 1 && lanolin_scmp(0, 0x80000000) == INT32_MIN);
+    EXPECT(lanolin_aligndown(130, 5).value == 130 && lanolin_aligndown(134, 5).value == 130 && lanolin_alignup(131, 5).value == 135);
+    EXPECT(lanolin_aligndown(7, 0).result == -22 && lanolin_aligndown(7, 0).value == 0 && lanolin_alignup(7, 0).result == -22);
+    EXPECT(lanolin_npw2(0) == 32 && lanolin_npw2(1) == 1 && lanolin_npw2(5) == 3 && lanolin_ctz(0) == 0 && lanolin_ctz(0x80000000) == 31 && lanolin_popc(0xf0f00001) == 9);
+    uint8_t bytes[5] = {1, 2, 3, 4, 5};
+    EXPECT(lanolin_le32_at(bytes, 5, 1).value == 0x05040302 && lanolin_be32_at(bytes, 5, 1).value == 0x02030405);
+    EXPECT(lanolin_le32_at(bytes, 5, 2).result == -84 && lanolin_be32_at(bytes, 5, SIZE_MAX).result == -84 && lanolin_le32_at(NULL, 0, 0).result == -84);
+    EXPECT(lanolin_put_le32(bytes, 5, 1, 0x0a0b0c0d) == 0 && !memcmp(bytes, "\x01\x0d\x0c\x0b\x0a", 5));
+    EXPECT(lanolin_put_be32(bytes, 5, 0, 0x0a0b0c0d) == 0 && !memcmp(bytes, "\x0a\x0b\x0c\x0d\x0a", 5));
+    EXPECT(lanolin_put_le32(bytes, 5, 2, 0) == -84 && lanolin_put_be32(bytes, 5, 2, 0) == -84 && !memcmp(bytes, "\x0a\x0b\x0c\x0d\x0a", 5));
+}
+
+static void test_pairs_and_states(void) {
+    EXPECT(lanolin_pair_swap(1, 2).pair[0] == 2 && lanolin_pair_swap(1, 2).pair[1] == 1);
+    EXPECT(lanolin_pair_isnull(0xffffffff, 2) == 1 && lanolin_pair_isnull(1, 2) == 0);
+    EXPECT(lanolin_pair_cmp(1, 2, 2, 3) == 0 && lanolin_pair_cmp(1, 2, 3, 4) == 1);
+    EXPECT(lanolin_pair_issync(1, 2, 2, 1) == 1 && lanolin_pair_issync(1, 2, 2, 3) == 0);
+    lanolin_gstate a = {0x4ff00201, {1, 2}}, b = {0x4ff00201, {1, 3}};
+    EXPECT(lanolin_gstate_hasmove(&a) == 1 && lanolin_gstate_hasmovehere(&a, 9, 1) == 1 && lanolin_gstate_hasmovehere(&a, 8, 9) == 0);
+    EXPECT(lanolin_gstate_hasorphans(&a) == 1 && lanolin_gstate_getorphans(&a) == 1 && lanolin_gstate_needssuperblock(&a) == 1);
+    lanolin_gstate_xor(&a, &b);
+    EXPECT(a.tag == 0 && a.pair[0] == 0 && a.pair[1] == 1 && b.pair[1] == 3 && lanolin_gstate_iszero(&a) == 0);
+    EXPECT(lanolin_gstate_iszero(&STILL) == 1 && lanolin_gstate_hasmove(&STILL) == 0);
+}
+
+int main(void) {
+    memset(b0, 0xff, sizeof b0);
+    memset(b1, 0xff, sizeof b1);
+    memcpy(b0, LISTED, sizeof LISTED);
+    test_fetch();
+    test_lookups();
+    test_info_and_state();
+    test_tags();
+    test_numbers();
+    test_pairs_and_states();
+    printf("C: %d checks, %d failed\n", checks, failures);
+    return failures != 0;
+}

@@ -1,0 +1,148 @@
+/* Fetches every pair of samples/real/ and looks up each name, struct, size and attribute, all 256 attribute types of each slot: they must be
+ * what the littlefs that wrote the pairs shows (shown.txt; README.md there has its lines).
+ *
+ *     real_test samples/real        prints each difference and exits 1, or one line with what was compared */
+#include "lanolin.h"
+
+#include <stdio.h>
+#include <stdlib.h>
+#include <string.h>
+
+enum { MOST_BLOCK = 512, MOST_DATA = 1024, MOST_SLOTS = 1024 };
+
+typedef struct {
+    lanolin_geometry g;
+    uint8_t b0[MOST_BLOCK], b1[MOST_BLOCK];
+    uint32_t n0, n1;
+    lanolin_gstate gdisk;
+    lanolin_mdir dir;
+} pair_t;
+
+static pair_t at;
+static char file[256];
+static unsigned pairs, slots, attrs, absent, differences;
+
+static void differs(const char *what, unsigned long id, const char *line) {
+    differences++;
+    printf("%s: %s of slot %lu differs: %s\n", file, what, id, line);
+}
+
+static size_t bytes_of(const char *hex, uint8_t *out) {
+    size_t n = 0;
+    if (!strcmp(hex, "-")) return 0;
+    for (; hex[2 * n] && hex[2 * n] != '\n' && n < MOST_DATA; n++) {
+        char two[3] = {hex[2 * n], hex[2 * n + 1], 0};
+        out[n] = (uint8_t)strtoul(two, NULL, 16);
+    }
+    return n;
+}
+
+static lanolin_got look(uint32_t mask, uint32_t key, uint8_t *buffer, size_t size) {
+    return lanolin_getslice(at.g, at.b0, at.g.block_size, at.b1, at.g.block_size, at.n0, at.n1, at.dir, at.gdisk, mask, key, 0, buffer, size);
+}
+
+/* The attributes of one slot that were listed; the others must be missing. */
+static bool listed[256];
+static long slot_now = -1;
+
+static void check_absent(void) {
+    uint8_t byte = 0xa5;
+    for (uint32_t type = 0; slot_now >= 0 && type < 256; type++) {
+        if (listed[type]) continue;
+        lanolin_got got = look(0x7ffffc00, lanolin_mktag(0x300 + type, (uint32_t)slot_now, 0), &byte, 1);
+        if (got.result != -2 || byte != 0xa5) differs("a missing attribute", (unsigned long)slot_now, "found");
+        absent++;
+    }
+    memset(listed, 0, sizeof listed);
+    slot_now = -1;
+}
+
+static void read_pair(const char *directory, const char *line) {
+    char path[1024];
+    unsigned size, prog, n0, n1, tag, p0, p1;
+    if (sscanf(line, "pair %255s %u %u %u %u %u %u %u", file, &size, &prog, &n0, &n1, &tag, &p0, &p1) != 8 || size > MOST_BLOCK) exit(2);
+    snprintf(path, sizeof path, "%s/%s", directory, file);
+    FILE *f = fopen(path, "rb");
+    if (!f || fread(at.b0, 1, size, f) != size || fread(at.b1, 1, size, f) != size) {
+        printf("%s can't be read\n", path);
+        exit(2);
+    }
+    fclose(f);
+    at.g = (lanolin_geometry){size, prog};
+    at.n0 = n0;
+    at.n1 = n1;
+    at.gdisk = (lanolin_gstate){tag, {p0, p1}};
+    pairs++;
+}
+
+static void check_record(const char *line) {
+    unsigned p0, p1, rev, off, etag, count, erased, split, t0, t1;
+    if (sscanf(line, "record %u %u %u %u %u %u %u %u %u %u", &p0, &p1, &rev, &off, &etag, &count, &erased, &split, &t0, &t1) != 10) exit(2);
+    lanolin_fetched f = lanolin_fetch(at.g, at.b0, at.g.block_size, at.b1, at.g.block_size, at.n0, at.n1, 0, 0);
+    lanolin_mdir *d = &f.dir;
+    at.dir = f.dir;
+    if (f.result || d->pair[0] != p0 || d->pair[1] != p1 || d->rev != rev || d->off != off || d->etag != etag || d->count != count ||
+        d->erased != erased || d->split != split || d->tail[0] != t0 || d->tail[1] != t1)
+        differs("the record", 0, line);
+}
+
+static void check_slot(const char *line) {
+    unsigned id, kind, structure, size;
+    char name[2 * MOST_DATA + 1], data[2 * MOST_DATA + 1];
+    uint8_t want[MOST_DATA], have[MOST_DATA];
+    if (sscanf(line, "slot %u %u %2048s %u %u %2048s", &id, &kind, name, &structure, &size, data) != 6) exit(2);
+    size_t n = bytes_of(name, want);
+    lanolin_got got = look(0x700ffc00, lanolin_mktag(0, id, 0), have, sizeof have);
+    if (got.result || got.tag != lanolin_mktag(kind, id, (uint32_t)n) || memcmp(have, want, n)) differs("the name", id, line);
+    lanolin_info info = lanolin_getinfo(at.g, at.b0, at.g.block_size, at.b1, at.g.block_size, at.n0, at.n1, at.dir, at.gdisk, 255, id);
+    /* a superblock's name type is not among those that getinfo's mask 0x780 takes */
+    if (kind == 0x0ff ? info.result != -2 : info.result || info.type != kind || info.size != size || memcmp(info.name, want, n) || info.name[n])
+        differs("the info", id, line);
+    got = look(0x700ffc00, lanolin_mktag(0x200, id, 0), have, sizeof have);
+    if (got.result || lanolin_tag_type3(got.tag) != structure) differs("the struct's type", id, line);
+    if (structure == 0x201 && lanolin_tag_size(got.tag) != size) differs("the size", id, line);
+    if (structure == 0x202 && lanolin_le32_at(have, 8, 4).value != size) differs("the size", id, line);
+    n = bytes_of(data, want);
+    if (n && (lanolin_tag_size(got.tag) != n || memcmp(have, want, n))) differs("the struct", id, line);
+    slot_now = id;
+    slots++;
+}
+
+static void check_attr(const char *line) {
+    unsigned id, type;
+    char data[2 * MOST_DATA + 1];
+    uint8_t want[MOST_DATA], have[MOST_DATA];
+    if (sscanf(line, "attr %u %u %2048s", &id, &type, data) != 3 || type > 255) exit(2);
+    size_t n = bytes_of(data, want);
+    lanolin_got got = look(0x7ffffc00, lanolin_mktag(0x300 + type, id, 0), have, sizeof have);
+    if (got.result || got.tag != lanolin_mktag(0x300 + type, id, (uint32_t)n) || memcmp(have, want, n)) differs("an attribute", id, line);
+    listed[type] = true;
+    attrs++;
+}
+
+static void check_hidden(const char *line) {
+    unsigned id;
+    uint8_t byte;
+    if (sscanf(line, "hidden %u", &id) != 1) exit(2);
+    if (look(0x700ffc00, lanolin_mktag(0, id, 0), &byte, 1).result != -2) differs("the moved entry", id, line);
+}
+
+int main(int argc, char **argv) {
+    char path[1024], line[8192];
+    if (argc != 2) return fprintf(stderr, "usage: real_test DIRECTORY   (samples/real)\n"), 2;
+    snprintf(path, sizeof path, "%s/shown.txt", argv[1]);
+    FILE *f = fopen(path, "r");
+    if (!f) return fprintf(stderr, "%s can't be read\n", path), 2;
+    while (fgets(line, sizeof line, f)) {
+        if (strncmp(line, "attr ", 5)) check_absent();
+        if (!strncmp(line, "pair ", 5)) read_pair(argv[1], line);
+        else if (!strncmp(line, "record ", 7)) check_record(line);
+        else if (!strncmp(line, "slot ", 5)) check_slot(line);
+        else if (!strncmp(line, "attr ", 5)) check_attr(line);
+        else if (!strncmp(line, "hidden ", 7)) check_hidden(line);
+        else return fprintf(stderr, "%s: not a line: %s", path, line), 2;
+    }
+    check_absent();
+    printf("real pairs: %u pairs, %u slots, %u attributes, %u missing attributes, %u differences\n", pairs, slots, attrs, absent, differences);
+    return differences != 0 || pairs == 0;
+}
