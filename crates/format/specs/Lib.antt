@@ -25,5 +25,6 @@ pub mod Look
 pub mod Lookup
 -- The writer: its rules and which logs are regular, a commit's bytes, what its stores leave.
 pub mod Regular
+pub mod Directory
 pub mod Commit
 pub mod Stores

@@ -13,13 +13,13 @@ use Rattle.format.specs.Walk.{Event, ent, chk, inv}
 use Rattle.format.specs.Log.{log}
 use Rattle.format.specs.Regular.{Rule, ruleOf, between, ruleHolds, countAfter, regularFrom, Regular}
 use Rattle.format.specs.Commit.{Item, commitSum, written, itemsHold}
+use Rattle.format.specs.Directory.{acts}
 use Rattle.format.proofs.Tags.{length-size}
 use Rattle.theory.specs.Steps.{both-true}
 use Rattle.theory.specs.Local.{AllContained}
 use Rattle.theory.specs.Stores.{commitEvents}
 use Rattle.theory.specs.Directory.{mostSlots}
 use Rattle.theory.specs.Told.{Stands, log-stands}
-use Rattle.theory.specs.Acts.{acts}
 use Rattle.theory.specs.Seen.{Eights}
 use Rattle.theory.specs.Append.{itemActs}
 use Rattle.theory.specs.Slots.{PutsOk}

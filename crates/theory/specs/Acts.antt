@@ -1,45 +1,8 @@
 -- Events as acts of the directory machine, and the directory of a log. Assumes nothing.
 use mathlib.Core.Path.{_≡_, refl, ap}
-use mathlib.Core.Bool.{Bool, cond}
-use mathlib.Core.Option.{Option, none, some}
-use mathlib.Core.List.{List, [], _∷_, _++_, reverse, reverseAux}
-use Prim.Native.Nat.{ℕ, _+_}
-use lib.Dec.{eqb}
-use Rattle.format.specs.Tag.{tagType1, tagType3, tagChunk, tagId, tagDelete}
-use Rattle.format.specs.Kind.{typeDirStruct, typeUserAttr, typeCreate, typeDelete, isName}
+use mathlib.Core.List.{List, [], _∷_, _++_, reverseAux}
 use Rattle.format.specs.Walk.{Event, ent, chk, inv}
-use Rattle.theory.specs.Directory.{Load, Act, put, mk, rm, skip, dir, Slot, apply}
-
--- what an entry puts: its type and bytes, or nothing for a removal
-abbrev pub loadOf : ℕ → List ℕ → Option Load
-loadOf t d = cond (tagDelete t) none (some (record { type = tagType3 t; bytes = d }))
-
--- structs and user attributes go by type1, as names do
-abbrev pub isStruct : ℕ → Bool
-isStruct t = eqb (tagType1 t) typeDirStruct
-
-abbrev pub isAttr : ℕ → Bool
-isAttr t = eqb (tagType1 t) typeUserAttr
-
--- a tag and its bytes as an act
-unfoldable pub act : ℕ → List ℕ → Act
-act t d =
-    cond (isName t) (put (tagId t) 0 (loadOf t d))
-    (cond (isStruct t) (put (tagId t) 1 (loadOf t d))
-    (cond (isAttr t) (put (tagId t) (2 + tagChunk t) (loadOf t d))
-    (cond (eqb (tagType3 t) typeCreate) (mk (tagId t))
-    (cond (eqb (tagType3 t) typeDelete) (rm (tagId t)) skip))))
-
--- oldest first
-unfoldable pub acts : List Event → List Act
-acts [] = []
-acts (ent t d ∷ es) = act t d ∷ acts es
-acts (chk t c ∷ es) = skip ∷ acts es
-acts (inv ∷ es) = acts es
-
--- ---- the directory of a log
-unfoldable pub dirOf : List Event → List Slot
-dirOf es = dir (reverse (acts es))
+use Rattle.format.specs.Directory.{Act, skip, dir, Slot, apply, act, acts, dirOf}
 
 -- entries applied
 unfoldable pub applyAll : List Slot → List Act → List Slot

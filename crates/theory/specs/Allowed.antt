@@ -8,11 +8,12 @@ use lib.ListN.{length, length-set, getD}
 use Rattle.format.specs.Tag.{tagLength}
 use Rattle.format.specs.Walk.{Event, ent, chk, inv}
 use Rattle.format.specs.Commit.{Item, commitSum, written}
+use Rattle.format.specs.Directory.{Act, mk, rm, put, skip, apply, Slot, empty, upd, dir, dirOf, acts}
 use Rattle.theory.specs.Local.{AllContained}
 use Rattle.theory.specs.Decode.{AllGood, GoodCheck}
 use Rattle.theory.specs.Stores.{commitEvents}
-use Rattle.theory.specs.Directory.{Act, mk, rm, put, skip, Allowed, apply, Slot, length-ins, empty, length-del, upd, AllAllowed, dir}
-use Rattle.theory.specs.Acts.{applyAll, dirOf, acts, dir-rev, acts-app}
+use Rattle.theory.specs.Directory.{Allowed, length-ins, length-del, AllAllowed}
+use Rattle.theory.specs.Acts.{applyAll, dir-rev, acts-app}
 use Rattle.theory.specs.Seen.{Eights}
 use Rattle.theory.specs.Append.{itemActs, acts-written}
 

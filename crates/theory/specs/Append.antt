@@ -15,6 +15,7 @@ use Rattle.format.specs.Log.{log, logEnd, logEndTag}
 use Rattle.format.specs.View.{at}
 use Rattle.format.specs.Commit.{Item, commitBytes, commitSum, written}
 use Rattle.format.specs.Stores.{erased, fill, entriesLength, appending}
+use Rattle.format.specs.Directory.{Act, skip, apply, Slot, act, acts, dirOf}
 use Rattle.format.proofs.Words.{length-toBe32, length-toLe32}
 use Rattle.theory.specs.Local.{AllContained}
 use Rattle.theory.specs.Decode.{AllGood, GoodCheck}
@@ -22,8 +23,7 @@ use Rattle.theory.specs.Erased.{erased-append}
 use Rattle.theory.specs.Cut.{NoCoincidence}
 use Rattle.theory.specs.Stores.{Appends, room, filled, commitEvents}
 use Rattle.theory.specs.Pair.{viewAt, crash-append, done-append}
-use Rattle.theory.specs.Directory.{Act, skip, apply, Slot}
-use Rattle.theory.specs.Acts.{act, acts, applyAll, dirOf, dirOf-app}
+use Rattle.theory.specs.Acts.{applyAll, dirOf-app}
 
 -- k bytes stored over erased ones
 pub fill-take : (k : ℕ) (N : List ℕ) (m n : ℕ) → k ≤ length N → n ≡ length N - k + m → fill k N ++ erased m ≡ take k N ++ erased n

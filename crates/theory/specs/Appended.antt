@@ -12,11 +12,12 @@ use Rattle.format.specs.Log.{logEndTag}
 use Rattle.format.specs.View.{at}
 use Rattle.format.specs.Commit.{Item, commitSum, written}
 use Rattle.format.specs.Stores.{entriesLength, appending}
+use Rattle.format.specs.Directory.{Act, skip, empty, act, acts, dirOf}
 use Rattle.theory.specs.Decode.{AllGood, GoodCheck}
 use Rattle.theory.specs.Stores.{commitEvents}
 use Rattle.theory.specs.Pair.{viewAt, view-log}
-use Rattle.theory.specs.Directory.{Act, skip, mostSlots, empty}
-use Rattle.theory.specs.Acts.{act, acts, acts-app, dirOf, applyAll}
+use Rattle.theory.specs.Directory.{mostSlots}
+use Rattle.theory.specs.Acts.{acts-app, applyAll}
 use Rattle.theory.specs.Append.{itemActs, acts-written, AppendOk, demand3-append}
 use Rattle.theory.specs.Allowed.{slotsAfter, slotsAfterAll, AllowedFrom, sound-commit}
 use Rattle.theory.specs.Queries.{Query}

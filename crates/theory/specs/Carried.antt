@@ -15,18 +15,17 @@ use Rattle.format.specs.Walk.{Event, bodyLength, ent, chk, inv}
 use Rattle.format.specs.Log.{log}
 use Rattle.format.specs.Regular.{Rule, ruleOf, between, ruleHolds, countAfter, regularFrom, Regular}
 use Rattle.format.specs.Commit.{tagOf, Item, commitSum, written}
+use Rattle.format.specs.Directory.{Load, Slot, Act, mk, rm, put, skip, loadOf, moveOf, isMove}
 use Rattle.format.proofs.Tags.{length-size, of-type3, of-size}
 use Rattle.theory.specs.Steps.{both-true}
 use Rattle.theory.specs.Stores.{commitEvents}
-use Rattle.theory.specs.Directory.{Load, Slot, Act, mk, rm, put, skip, mostSlots}
+use Rattle.theory.specs.Directory.{mostSlots}
 use Rattle.theory.specs.Rebuild.{rebuild}
 use Rattle.theory.specs.Told.{Stands, log-stands}
-use Rattle.theory.specs.Acts.{loadOf}
 use Rattle.theory.specs.Types.{not-wide}
 use Rattle.theory.specs.Items.{toItem, OkAct, type-low, AllOk, ok-rev}
 use Rattle.theory.specs.Slots.{OkSlots, rebuild-ok}
 use Rattle.theory.specs.Compact.{compactItems}
-use Rattle.theory.specs.Move.{moveOf, isMove}
 use Rattle.theory.specs.Renewed.{written-app}
 
 -- ---- the move state of a regular log is one, with twelve bytes

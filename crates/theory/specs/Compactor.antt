@@ -18,12 +18,12 @@ use Rattle.format.specs.View.{at}
 use Rattle.format.specs.Regular.{between, Regular}
 use Rattle.format.specs.Commit.{checkTag, Item, itemsHold}
 use Rattle.format.specs.Stores.{compacted, compacting, coincides}
+use Rattle.format.specs.Directory.{empty, dirOf}
 use Rattle.format.proofs.Tags.{of-size}
 use Rattle.theory.specs.Steps.{both-true}
 use Rattle.theory.specs.Stores.{CommitFits, commitEvents}
 use Rattle.theory.specs.Pair.{viewAt, view-log}
-use Rattle.theory.specs.Directory.{mostSlots, empty}
-use Rattle.theory.specs.Acts.{dirOf}
+use Rattle.theory.specs.Directory.{mostSlots}
 use Rattle.theory.specs.Slots.{OkSlots, ok-dirOf}
 use Rattle.theory.specs.Compact.{Still, compactItems, compact-good, AfterCompact, demand3-compact}
 use Rattle.theory.specs.Entries.{good-check, plain-check}

@@ -12,9 +12,9 @@ use Rattle.format.specs.Kind.{typeName, typeSplice, typeCreate, typeDelete, typ
 use Rattle.format.specs.Walk.{Event, ent, chk, inv}
 use Rattle.format.specs.Record.{counted, countOf}
 use Rattle.format.specs.Regular.{Rule, ruleOf, between, ruleHolds, countAfter, regularFrom, Regular, create, delete, name, inlined, eight, attribute, tail, move, forward, bad}
+use Rattle.format.specs.Directory.{acts}
 use Rattle.theory.specs.Steps.{both-true}
 use Rattle.theory.specs.Directory.{mostSlots}
-use Rattle.theory.specs.Acts.{acts}
 use Rattle.theory.specs.Types.{type1-of, not-splice, chunk-of}
 use Rattle.theory.specs.Allowed.{slotsAfter, slotsAfterAll}
 use Rattle.theory.specs.Ruled.{ruled, Says, rule-says}

@@ -1,10 +1,11 @@
 -- The directory machine, "slots inserted, removed, attributes set", and the search back through what was done to it: they agree. Assumes nothing.
+use Rattle.format.specs.Directory.{Act, Load, Slot, apply, dir, empty, mk, put, rm, skip, upd}
 use mathlib.Core.Path.{_≡_, refl, sym, ap, _∙_}
 use mathlib.Core.Logic.{_≢_}
 use mathlib.Core.Bool.{Bool, true, false, cond, _&&_}
 use mathlib.Core.Option.{Option, none}
 use mathlib.Core.List.{List, [], _∷_, _++_}
-use Prim.Native.Nat.{ℕ, suc, _+_, _-_, _^_, _≤_, _<_}
+use Prim.Native.Nat.{ℕ, suc, _+_, _-_, _≤_, _<_}
 use native.Mathlib.Omega.{arith}
 use lib.ListN.{take, drop, set, getD, length, List·getD-append, length-append, length-drop, length-set}
 use lib.Seq.{length-take-le, getD-take, getD-append-add, getD-drop, getD-set-same, getD-set-other}
@@ -14,42 +15,6 @@ use borrow.Author.Tests.{leb-false, eqb-true, leb-true, eqb-false}
 -- the rules leave a directory at most so many slots: "c at most 1,022" before a create
 abbrev pub mostSlots : ℕ
 mostSlots = 1_023
-
--- classes of what a slot holds: 0 name, 1 struct, 2 + u user attribute u
-abbrev pub classes : ℕ
-classes = 2 + 2 ^ 8
-
--- what stands under a slot's class: the entry's type and bytes
-pub record Load : Type 0 where
-  pub type : ℕ
-  pub bytes : List ℕ
-
--- what an entry does: make a slot, remove one, put something (or, for a removal, nothing) under a slot's class; or none of these
-pub data Act : Type 0 where
-  mk : ℕ → Act
-  rm : ℕ → Act
-  put : ℕ → ℕ → Option Load → Act
-  skip : Act
-
-abbrev pub Slot : Type 0
-Slot = ℕ → Option Load
-
-unfoldable pub empty : Slot
-empty c = none
-
-unfoldable pub upd : Slot → ℕ → Option Load → Slot
-upd s c v k = cond (eqb k c) v (s k)
-
-unfoldable pub apply : List Slot → Act → List Slot
-apply D (mk j) = take j D ++ empty ∷ drop j D
-apply D (rm j) = take j D ++ drop (suc j) D
-apply D (put j c v) = set D j (upd (getD D j empty) c v)
-apply D skip = D
-
--- newest first
-unfoldable pub dir : List Act → List Slot
-dir [] = []
-dir (a ∷ l) = apply (dir l) a
 
 abbrev pub Allowed : Act → ℕ → Type 0
 Allowed (mk j) n = j ≤ n

@@ -9,11 +9,10 @@ use lib.ListN.{length}
 use Rattle.format.specs.Tag.{tagType3, removalSize, tagFlipped}
 use Rattle.format.specs.Kind.{typeUserAttr, typeCheck, typeForward, typeTail, typeMove, noSlot, isWide}
 use Rattle.format.specs.Commit.{tagOf, checkTag}
+use Rattle.format.specs.Directory.{skip, act}
 use Rattle.format.proofs.Tags.{of-valid, of-type2, of-length, of-type3, length-removal, of-size}
 use Rattle.theory.specs.Steps.{not-true}
 use Rattle.theory.specs.Decode.{GoodCheck, GoodItem}
-use Rattle.theory.specs.Directory.{skip}
-use Rattle.theory.specs.Acts.{act}
 use Rattle.theory.specs.Types.{not-wide, act-other, not-check}
 use Rattle.theory.specs.Items.{good-item}
 

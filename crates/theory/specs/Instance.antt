@@ -14,9 +14,8 @@ use Rattle.format.specs.Log.{committed, log, eventLength, span, tagAfter}
 use Rattle.format.specs.Regular.{ruleOf, ruleHolds, countAfter, regularFrom, Regular}
 use Rattle.format.specs.Commit.{tagOf, Item, itemsHold}
 use Rattle.format.specs.Stores.{erased, allErased, fill, entriesLength, coincides}
-use Rattle.theory.specs.Directory.{empty, dir, apply, upd}
+use Rattle.format.specs.Directory.{empty, dir, apply, upd, act, acts, dirOf}
 use Rattle.theory.specs.Rebuild.{rebuild, puts}
-use Rattle.theory.specs.Acts.{act, acts, dirOf}
 use Rattle.theory.specs.Items.{toItem}
 use Rattle.theory.specs.Compact.{compactItems}
 use Rattle.theory.specs.Allowed.{slotsAfter, slotsAfterAll}

@@ -12,11 +12,10 @@ use Rattle.format.specs.Tag.{tagType3, tagChunk, tagId, removalSize}
 use Rattle.format.specs.Kind.{typeDirStruct, typeUserAttr, typeCreate, typeDelete, typeCheck, typeMove, noSlot, isWide}
 use Rattle.format.specs.Regular.{ruleOf, ruleHolds}
 use Rattle.format.specs.Commit.{tagOf, Item}
+use Rattle.format.specs.Directory.{Act, mk, rm, put, skip, Load, loadOf, act}
 use Rattle.format.proofs.Tags.{of-valid, of-type3, of-length, of-size, of-id, of-chunk}
 use Rattle.theory.specs.Steps.{not-true}
 use Rattle.theory.specs.Decode.{GoodItem, AllGood}
-use Rattle.theory.specs.Directory.{Act, mk, rm, put, skip, Load}
-use Rattle.theory.specs.Acts.{loadOf, act}
 use Rattle.theory.specs.Types.{not-check, not-wide, act-name, act-struct, act-attr, act-create}
 use Rattle.theory.specs.Append.{itemActs}
 

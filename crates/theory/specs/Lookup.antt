@@ -16,10 +16,10 @@ use Rattle.format.specs.Kind.{typeSplice, typeCreate, typeDelete, isSplice}
 use Rattle.format.specs.Commit.{tagOf}
 use Rattle.format.specs.Back.{Met}
 use Rattle.format.specs.Look.{Found, asIds, splicedAt, wlook, noEntry, found}
+use Rattle.format.specs.Directory.{Load, Act, mk, rm, put, skip, dir, apply, empty, upd, loadOf, act}
 use Rattle.format.proofs.Tags.{of-chunk, of-fields, of-valid, of-type1, of-id}
 use Rattle.theory.specs.Steps.{both-true}
-use Rattle.theory.specs.Directory.{Load, Act, mk, rm, put, skip, dir, mostSlots, find, AllAllowed, Allowed, apply, length-ins, empty, length-del, upd}
-use Rattle.theory.specs.Acts.{loadOf, act}
+use Rattle.theory.specs.Directory.{mostSlots, find, AllAllowed, Allowed, length-ins, length-del}
 use Rattle.theory.specs.Seen.{seen}
 use Rattle.theory.specs.Queries.{Query, hitAct}
 

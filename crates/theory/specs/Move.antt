@@ -18,21 +18,17 @@ use Rattle.format.specs.Walk.{Event, walkFrom, walk, ent, chk, inv}
 use Rattle.format.specs.Log.{committed, log, logEnd, logEndTag}
 use Rattle.format.specs.Back.{Met, hop, back, places}
 use Rattle.format.specs.Look.{maskMove, splicedAt, wlook, noEntry, found}
+use Rattle.format.specs.Directory.{Load, loadOf, isMove, moveOf}
 use Rattle.format.proofs.Tags.{low-length, low-type3, xor-low}
 use Rattle.format.proofs.Back.{back-step}
 use Rattle.theory.specs.Local.{AllContained}
 use Rattle.theory.specs.Committed.{committed-split, committed-twice}
-use Rattle.theory.specs.Directory.{Load}
 use Rattle.theory.specs.Backward.{back-log}
 use Rattle.theory.specs.Told.{Told, chains}
-use Rattle.theory.specs.Acts.{loadOf}
 use Rattle.theory.specs.Types.{check-type3}
 use Rattle.theory.specs.Seen.{Eights}
 use Rattle.theory.specs.Lookup.{bytesAt, holds}
 use Rattle.theory.specs.Searchable.{last-check}
-
-abbrev pub isMove : ℕ → Bool
-isMove t = eqb (tagType3 t) typeMove
 
 -- the mask as a field test: the key is a move state of any id and size
 move-top : (low : ℕ) → low < 2 ^ 20 → (maskMove + low) / 2 ^ 20 % 2 ^ 11 ≡ typeMove
@@ -66,13 +62,6 @@ wlook-move b low (m ∷ ms) h =
     go true true e ih = rw e
     go true false e ih = rw e
     go false gone e ih = ih
-
--- the move state of a log: the last one
-unfoldable pub moveOf : Option Load → List Event → Option Load
-moveOf v [] = v
-moveOf v (ent t d ∷ es) = moveOf (cond (isMove t) (loadOf t d) v) es
-moveOf v (chk t c ∷ es) = moveOf v es
-moveOf v (inv ∷ es) = moveOf v es
 
 pub moveOf-app : (es more : List Event) (v : Option Load) → moveOf v (es ++ more) ≡ moveOf (moveOf v es) more
 unfolding moveOf

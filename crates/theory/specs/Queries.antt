@@ -13,9 +13,8 @@ use Rattle.format.specs.Tag.{tagType1, tagType3, tagChunk, tagId}
 use Rattle.format.specs.Kind.{typeName, typeDirStruct, typeUserAttr, typeCreate, typeDelete, isName}
 use Rattle.format.specs.Commit.{tagOf}
 use Rattle.format.specs.Look.{maskType1, maskType3}
+use Rattle.format.specs.Directory.{Act, put, mk, rm, skip, act, isStruct, isAttr, loadOf}
 use Rattle.format.proofs.Tags.{of-type1, of-id, of-type3}
-use Rattle.theory.specs.Directory.{Act, put, mk, rm, skip}
-use Rattle.theory.specs.Acts.{act, isStruct, isAttr, loadOf}
 use Rattle.theory.specs.Types.{type1-of, chunk-of}
 
 -- ---- the masks as fields

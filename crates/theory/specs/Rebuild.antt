@@ -10,7 +10,7 @@ use lib.ListN.{length, drop-of-length-le, length-append}
 use lib.Seq.{take-all, getD-at, set-at, append-snoc}
 use lib.Dec.{ltb, eqb}
 use borrow.Author.Tests.{le-ltb, lt-ltb, eqb-true, ltb-true, eqb-false, ltb-false}
-use Rattle.theory.specs.Directory.{Load, Act, put, Slot, classes, mk, empty, upd, dir, apply}
+use Rattle.format.specs.Directory.{Load, Act, put, Slot, classes, mk, empty, upd, dir, apply}
 
 abbrev pub emit : ℕ → ℕ → Option Load → List Act → List Act
 emit i n none l = l

@@ -12,9 +12,10 @@ use Rattle.format.specs.Kind.{typeSplice, typeCreate}
 use Rattle.format.specs.Walk.{Event, ent, chk}
 use Rattle.format.specs.Regular.{Rule, ruleOf, between, ruleHolds, countAfter, regularFrom, Regular, create, delete, name, inlined, eight, attribute, tail, move, forward, bad}
 use Rattle.format.specs.Commit.{Item, commitSum, written, itemsHold}
+use Rattle.format.specs.Directory.{Act, Slot, mk, rm, put, skip, dir, apply, Load, classes}
 use Rattle.format.proofs.Tags.{of-type3, of-id, of-size}
 use Rattle.theory.specs.Stores.{commitEvents}
-use Rattle.theory.specs.Directory.{Act, Allowed, mostSlots, Slot, mk, rm, put, skip, AllAllowed, dir, apply, Load, classes}
+use Rattle.theory.specs.Directory.{Allowed, mostSlots, AllAllowed}
 use Rattle.theory.specs.Rebuild.{puts, puts-dir, upTo, emit, rebuild, rebuilt}
 use Rattle.theory.specs.Acts.{dir-rev}
 use Rattle.theory.specs.Items.{OkAct, toItem, type-low, AllOk, ok-rev}

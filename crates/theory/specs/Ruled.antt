@@ -14,10 +14,10 @@ use Rattle.format.specs.Kind.{typeFile, typeDirectory, typeSuperblock, typeDirS
 use Rattle.format.specs.Walk.{bodyLength}
 use Rattle.format.specs.Regular.{Rule, ruleOf, between, ruleHolds, countAfter, create, delete, name, inlined, eight, attribute, tail, move, forward, bad}
 use Rattle.format.specs.Commit.{tagOf}
+use Rattle.format.specs.Directory.{put, skip, empty, mk, rm, act, loadOf}
 use Rattle.format.proofs.Tags.{length-size, of-fields}
 use Rattle.theory.specs.Steps.{both-true, not-true}
-use Rattle.theory.specs.Directory.{Allowed, mostSlots, put, skip, empty, mk, rm}
-use Rattle.theory.specs.Acts.{act, loadOf}
+use Rattle.theory.specs.Directory.{Allowed, mostSlots}
 use Rattle.theory.specs.Types.{not-check, not-splice, not-wide, act-other, act-create, act-delete, act-name, act-struct, act-attr, chunk-of}
 use Rattle.theory.specs.Items.{TypeOf}
 use Rattle.theory.specs.Slots.{PutOk}

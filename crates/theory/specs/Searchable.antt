@@ -17,14 +17,14 @@ use Rattle.format.specs.Log.{committed, log, tagAfter, logEnd, logEndTag}
 use Rattle.format.specs.Commit.{tagOf}
 use Rattle.format.specs.Back.{Met, hop, back, places}
 use Rattle.format.specs.Look.{wlook}
+use Rattle.format.specs.Directory.{Act, dir, Load, empty, act, acts, dirOf}
 use Rattle.format.proofs.Tags.{flipped-low, low-length, low-type1, xor-low, of-valid}
 use Rattle.format.proofs.Back.{back-step}
 use Rattle.theory.specs.Local.{AllContained}
 use Rattle.theory.specs.Committed.{kept-same, kept-more, committed-split, committed-twice}
-use Rattle.theory.specs.Directory.{Act, mostSlots, dir, AllAllowed, Load, empty, find-dir}
+use Rattle.theory.specs.Directory.{mostSlots, AllAllowed, find-dir}
 use Rattle.theory.specs.Backward.{Chain, back-log}
 use Rattle.theory.specs.Told.{Told, chains}
-use Rattle.theory.specs.Acts.{act, acts, dirOf}
 use Rattle.theory.specs.Types.{check-type1, act-check, act-without-top}
 use Rattle.theory.specs.Seen.{Eights, seen, back-without-top, map-reverseAux, seen-places}
 use Rattle.theory.specs.Allowed.{slotsAfter, AllowedFrom, length-apply, Sound, allowed-newest}

@@ -10,11 +10,10 @@ use Rattle.format.specs.Tag.{tagLength}
 use Rattle.format.specs.Kind.{isWide}
 use Rattle.format.specs.Walk.{Event, ent, chk, inv}
 use Rattle.format.specs.Back.{Met, hop, back, places}
+use Rattle.format.specs.Directory.{Act, act, acts}
 use Rattle.format.proofs.Tags.{low-length, xor-low}
 use Rattle.format.proofs.Back.{back-step}
-use Rattle.theory.specs.Directory.{Act}
 use Rattle.theory.specs.Told.{Told}
-use Rattle.theory.specs.Acts.{act, acts}
 use Rattle.theory.specs.Types.{act-check, act-without-top}
 
 -- what the walk back reads at a place

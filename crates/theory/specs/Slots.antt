@@ -9,9 +9,8 @@ use lib.ListN.{length, take, drop, getD, set}
 use lib.Dec.{eqb}
 use borrow.Author.Tests.{eqb-true}
 use Rattle.format.specs.Walk.{Event}
-use Rattle.theory.specs.Directory.{Slot, Load, classes, put, Act, mk, rm, skip, empty, upd, dir, apply}
+use Rattle.format.specs.Directory.{Slot, Load, classes, put, Act, mk, rm, skip, empty, upd, dir, apply, dirOf, acts}
 use Rattle.theory.specs.Rebuild.{AllHeld, puts, emit, rebuild}
-use Rattle.theory.specs.Acts.{dirOf, acts}
 use Rattle.theory.specs.Items.{LoadOk, TypeOf, AllOk}
 
 abbrev pub OkSlot : Slot → Type 0

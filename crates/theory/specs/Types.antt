@@ -8,9 +8,8 @@ use native.Mathlib.Omega.{arith}
 use borrow.Author.Tests.{ne-eqb, eqb-true}
 use Rattle.format.specs.Tag.{tagType1, tagType2, tagType3, tagChunk, tagId}
 use Rattle.format.specs.Kind.{typeName, typeDirStruct, typeUserAttr, typeSplice, typeCreate, typeDelete, typeCheck, typeForward, typeTail, isSplice, isCheck, isWide}
+use Rattle.format.specs.Directory.{put, mk, rm, skip, act, loadOf}
 use Rattle.format.proofs.Tags.{low-type1, low-id, low-type3, low-chunk, low-size}
-use Rattle.theory.specs.Directory.{put, mk, rm, skip}
-use Rattle.theory.specs.Acts.{act, loadOf}
 
 -- ---- the types under 0x700 and 0x780, from the whole type
 pub type1-of : (t : ℕ) → tagType1 t ≡ tagType3 t / 2 ^ 8 * 2 ^ 8

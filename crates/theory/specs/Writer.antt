@@ -18,13 +18,13 @@ use Rattle.format.specs.View.{at}
 use Rattle.format.specs.Regular.{between, Regular}
 use Rattle.format.specs.Commit.{checkTag, Item, itemsHold}
 use Rattle.format.specs.Stores.{erasedByte, erased, allErased, fill, entriesLength, appending, coincides}
+use Rattle.format.specs.Directory.{empty, acts, dirOf}
 use Rattle.format.proofs.Tags.{of-size}
 use Rattle.theory.specs.Steps.{both-true}
 use Rattle.theory.specs.Cut.{NoCoincidence}
 use Rattle.theory.specs.Stores.{commitEvents}
 use Rattle.theory.specs.Pair.{viewAt}
-use Rattle.theory.specs.Directory.{empty}
-use Rattle.theory.specs.Acts.{acts, dirOf, applyAll}
+use Rattle.theory.specs.Acts.{applyAll}
 use Rattle.theory.specs.Append.{AppendOk, AfterAppend, demand3-append, itemActs}
 use Rattle.theory.specs.Entries.{good-check, plain-check}
 use Rattle.theory.specs.Allowed.{slotsAfterAll}
