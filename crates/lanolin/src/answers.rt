@@ -1,9 +1,16 @@
 // Answers as C gets them: document 01's numbers, and structs of plain fields.
 ghost use mathlib.Core.Path.{_≡_};
-ghost use Rattle.format.specs.Answer.{flagOf, refusalNumber, alteredResult};
-ghost use Rattle.lanolin.specs.Values.{wordOut};
+ghost use Rattle.format.specs.Answer.{flagOf, refusalNumber, refusalMdir, refusalSeed, alteredResult, zeroMdir};
+ghost use Rattle.lanolin.specs.Values.{wordOut, gotOut, fetchedOut, infoOut};
+use crate::FetchedOut;
+use crate::InfoOut;
 use crate::Value;
 use format::Altered;
+use format::Fetched;
+use format::Got;
+use format::Informed;
+use format::LfsMdir;
+use format::LfsPair;
 use format::Refusal;
 use format::Word;
 
@@ -51,5 +58,100 @@ pub fn altered_out(a: Altered) -> i32
     match a {
         Altered::Done => 0,
         Altered::Refused(r) => number(r),
+    }
+}
+
+pub fn got_out(g: Got) -> Value
+    ensures { λ r. ⌜ r ≡ gotOut g ⌝ }
+{
+    match g {
+        Got::Found(t) => Value {
+            result: 0,
+            value: t,
+        },
+        Got::Refused(r) => Value {
+            result: number(r),
+            value: 0,
+        },
+    }
+}
+
+fn zero_mdir() -> LfsMdir
+    ensures { λ r. ⌜ r ≡ zeroMdir ⌝ }
+{
+    LfsMdir {
+        pair: LfsPair { n0: 0, n1: 0 },
+        rev: 0,
+        off: 0,
+        etag: 0,
+        count: 0,
+        erased: false,
+        split: false,
+        tail: LfsPair { n0: 0, n1: 0 },
+    }
+}
+
+// The record that comes back with a refusal: all zero, but what was read where the count is too high.
+fn refused_mdir(r: Refusal) -> LfsMdir
+    ensures { λ m. ⌜ m ≡ refusalMdir r ⌝ }
+{
+    match r {
+        Refusal::TooMany(m, _) => m,
+        Refusal::Invalid => zero_mdir(),
+        Refusal::Corrupt => zero_mdir(),
+        Refusal::NoEntry => zero_mdir(),
+        Refusal::BadEntry(_) => zero_mdir(),
+        Refusal::Irregular => zero_mdir(),
+        Refusal::NoSpace => zero_mdir(),
+        Refusal::Unclean => zero_mdir(),
+        Refusal::Coincidence => zero_mdir(),
+    }
+}
+
+// The seed that comes back with a refusal: as given, or as read.
+fn refused_seed(seed: u32, r: Refusal) -> u32
+    ensures { λ s. ⌜ s ≡ refusalSeed seed r ⌝ }
+{
+    match r {
+        Refusal::TooMany(_, s) => s,
+        Refusal::Invalid => seed,
+        Refusal::Corrupt => seed,
+        Refusal::NoEntry => seed,
+        Refusal::BadEntry(_) => seed,
+        Refusal::Irregular => seed,
+        Refusal::NoSpace => seed,
+        Refusal::Unclean => seed,
+        Refusal::Coincidence => seed,
+    }
+}
+
+pub fn fetched_out(seed: u32, f: Fetched) -> FetchedOut
+    ensures { λ r. ⌜ r ≡ fetchedOut seed f ⌝ }
+{
+    match f {
+        Fetched::Found(m, s) => FetchedOut {
+            result: 0,
+            dir: m,
+            seed: s,
+        },
+        Fetched::Refused(r) => FetchedOut {
+            result: number(r),
+            dir: refused_mdir(r),
+            seed: refused_seed(seed, r),
+        },
+    }
+}
+
+pub fn info_out(i: Informed) -> InfoOut
+    ensures { λ r. ⌜ r ≡ infoOut i ⌝ }
+{
+    let answer = i.answer;
+    let info = i.info;
+    let name = info.name;
+    InfoOut {
+        result: altered_out(answer),
+        kind: info.kind,
+        size: info.size,
+        name: name,
     }
 }
