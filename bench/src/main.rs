@@ -6,8 +6,12 @@
 //! Assumes that nothing else of weight runs meanwhile.
 
 #[cfg(lfs_rust)]
+mod directory;
+#[cfg(lfs_rust)]
 mod measure;
 
+#[cfg(lfs_rust)]
+use std::hint::black_box;
 use std::process::ExitCode;
 
 const USAGE: &str = "usage: bench [--goal]
@@ -42,15 +46,30 @@ const GOAL: (f64, usize) = (1.10, 4096);
 #[cfg(lfs_rust)]
 fn measure(goal: bool) -> ExitCode {
     println!(
-        "{:<10}{:>7}{:>12}{:>12}{:>12}{:>12}{:>12}",
+        "{:<26}{:>7}{:>12}{:>12}{:>12}{:>12}{:>12}",
         "", "bytes", "port ns", "port MB/s", "Rust ns", "Rust MB/s", "port/Rust"
     );
     let mut missed = false;
     for len in [4096, 512, 64] {
         let bytes: Vec<u8> = oracle::random::Random::new(len as u64).bytes(len);
-        let times = measure::side_by_side(&bytes, oracle::port::crc, rust_crc);
-        print_line("lfs_crc", len, &times);
+        let times = measure::side_by_side(
+            |crc| oracle::port::crc(crc, black_box(&bytes)),
+            |crc| rust_crc(crc, black_box(&bytes)),
+        );
+        print_line("lfs_crc", len, Some(len), &times);
         missed |= len == GOAL.1 && times.ratio() > GOAL.0;
+    }
+    for (block_size, slots, in_a_commit, looked_up) in DIRECTORIES {
+        let directory = directory::Directory::new(block_size, slots, in_a_commit);
+        println!("a block of {block_size} bytes, {slots} slots:");
+        for line in directory.lines(looked_up) {
+            print_line(
+                line.name,
+                directory.dir.off as usize,
+                line.bytes,
+                &line.times,
+            );
+        }
     }
     if goal {
         let end = if missed { "missed" } else { "met" };
@@ -58,6 +77,12 @@ fn measure(goal: bool) -> ExitCode {
     }
     ExitCode::from(u8::from(goal && missed))
 }
+
+/// Block size, slots, slots in each commit, and slots that are looked up: all of
+/// the smaller directory, and some of the larger one, spread evenly, so that a
+/// slice stays short.
+#[cfg(lfs_rust)]
+const DIRECTORIES: [(u32, u32, u32, u32); 2] = [(4096, 100, 4, 100), (32_768, 1000, 8, 40)];
 
 /// The Rust's function is `inline(always)`: it is called through this one, which
 /// is not, so that it pays for a call as the port does.
@@ -67,12 +92,17 @@ fn rust_crc(crc: u32, bytes: &[u8]) -> u32 {
     oracle::rust::crc::lfs_crc(crc, bytes.as_ptr(), bytes.len())
 }
 
+/// `read` is what a call reads of the `len` bytes, where that is the same for
+/// every call.
 #[cfg(lfs_rust)]
-fn print_line(name: &str, len: usize, times: &measure::Times) {
+fn print_line(name: &str, len: usize, read: Option<usize>, times: &measure::Times) {
     // Bytes in a nanosecond are thousands of MB in a second.
-    let speed = |time: f64| len as f64 * 1000.0 / time;
+    let speed = |time: f64| match read {
+        Some(read) => format!("{:.1}", read as f64 * 1000.0 / time),
+        None => String::from("-"),
+    };
     println!(
-        "{name:<10}{len:>7}{:>12.1}{:>12.1}{:>12.1}{:>12.1}{:>12.2}",
+        "{name:<26}{len:>7}{:>12.1}{:>12}{:>12.1}{:>12}{:>12.2}",
         times.port,
         speed(times.port),
         times.rust,

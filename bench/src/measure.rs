@@ -10,7 +10,11 @@
 use std::hint::black_box;
 use std::time::{Duration, Instant};
 
-const ROUNDS: usize = 400;
+/// The most rounds, and the most time that they may take together: a call that
+/// is long gets fewer of them.
+const ROUNDS: u128 = 400;
+const LONGEST: Duration = Duration::from_millis(1500);
+const FEWEST: u128 = 10;
 const SLICE: Duration = Duration::from_micros(200);
 
 /// The least time of one call, in nanoseconds, on each side.
@@ -23,19 +27,29 @@ impl Times {
     pub fn ratio(&self) -> f64 {
         self.port / self.rust
     }
+
+    /// The times of one part, where a call is so many of them.
+    pub fn of_each(self, parts: usize) -> Times {
+        Times {
+            port: self.port / parts as f64,
+            rust: self.rust / parts as f64,
+        }
+    }
 }
 
-/// Measures two functions from a register and bytes to a register.
-pub fn side_by_side<P, R>(bytes: &[u8], port: P, rust: R) -> Times
+/// Measures two functions from a register to a register.
+pub fn side_by_side<P, R>(mut port: P, mut rust: R) -> Times
 where
-    P: Fn(u32, &[u8]) -> u32,
-    R: Fn(u32, &[u8]) -> u32,
+    P: FnMut(u32) -> u32,
+    R: FnMut(u32) -> u32,
 {
-    let calls = calls_in_a_slice(bytes, &rust);
+    let calls = calls_in_a_slice(&mut rust);
+    let both = slice(calls, &mut port).0 + slice(calls, &mut rust).0;
+    let rounds = LONGEST.as_nanos() / both.as_nanos().max(1);
     let mut least = [Duration::MAX; 2];
-    for _ in 0..ROUNDS {
-        let (port_time, port_end) = slice(calls, bytes, &port);
-        let (rust_time, rust_end) = slice(calls, bytes, &rust);
+    for _ in 0..rounds.clamp(FEWEST, ROUNDS) {
+        let (port_time, port_end) = slice(calls, &mut port);
+        let (rust_time, rust_end) = slice(calls, &mut rust);
         assert_eq!(port_end, rust_end, "the port and the Rust answer the same");
         least = [least[0].min(port_time), least[1].min(rust_time)];
     }
@@ -44,22 +58,22 @@ where
 }
 
 /// How many calls of the Rust fill a slice. The port gets as many.
-fn calls_in_a_slice(bytes: &[u8], rust: impl Fn(u32, &[u8]) -> u32) -> u32 {
+fn calls_in_a_slice(rust: &mut impl FnMut(u32) -> u32) -> u32 {
     let mut calls = 1;
-    while slice(calls, bytes, &rust).0 < SLICE {
+    while slice(calls, rust).0 < SLICE {
         calls *= 2;
     }
     calls
 }
 
 /// A chain of calls, each on the answer of the one before: its time and its
-/// last answer. Register and bytes are hidden from the compiler, so that no
-/// call is left out or computed beforehand.
-fn slice(calls: u32, bytes: &[u8], call: impl Fn(u32, &[u8]) -> u32) -> (Duration, u32) {
+/// last answer. The register is hidden from the compiler, so that no call is
+/// left out or computed beforehand.
+fn slice(calls: u32, call: &mut impl FnMut(u32) -> u32) -> (Duration, u32) {
     let start = Instant::now();
     let mut register = u32::MAX;
     for _ in 0..calls {
-        register = call(black_box(register), black_box(bytes));
+        register = call(black_box(register));
     }
     let end = black_box(register);
     (start.elapsed(), end)

@@ -7,6 +7,8 @@
 //!
 //! Assumes nothing.
 
+use std::fmt::{self, Debug, Formatter};
+
 /// Document 01's numbers for the refusals of fetch and lookups.
 pub const INVAL: i32 = -22;
 pub const CORRUPT: i32 = -84;
@@ -22,7 +24,7 @@ pub struct Geometry {
 
 /// `lanolin_mdir`, the record.
 #[repr(C)]
-#[derive(Clone, Copy, Debug, Default, PartialEq, Eq)]
+#[derive(Clone, Copy, Default, PartialEq, Eq)]
 pub struct Mdir {
     pub pair: [u32; 2],
     pub rev: u32,
@@ -53,7 +55,7 @@ pub struct Fetched {
 
 /// `lanolin_got`.
 #[repr(C)]
-#[derive(Clone, Copy, Debug, PartialEq, Eq)]
+#[derive(Clone, Copy, PartialEq, Eq)]
 pub struct Got {
     pub result: i32,
     pub tag: u32,
@@ -75,7 +77,7 @@ impl Got {
 
 /// `lanolin_info`.
 #[repr(C)]
-#[derive(Clone, Copy, Debug, PartialEq, Eq)]
+#[derive(Clone, Copy, PartialEq, Eq)]
 pub struct Info {
     pub result: i32,
     pub type_: u8,
@@ -92,6 +94,56 @@ impl Info {
             name: [0; 256],
         }
     }
+}
+
+// Answers as text: bits in hexadecimal, counts and results in decimal.
+
+impl Debug for Mdir {
+    fn fmt(&self, f: &mut Formatter) -> fmt::Result {
+        let Mdir {
+            pair,
+            rev,
+            off,
+            etag,
+            count,
+            ..
+        } = self;
+        write!(
+            f,
+            "record of pair {pair:x?}, revision {rev:#x}, end {off}, "
+        )?;
+        write!(
+            f,
+            "end tag {etag:#010x}, count {count}, erased {}, ",
+            self.erased
+        )?;
+        write!(f, "split {}, tail {:x?}", self.split, self.tail)
+    }
+}
+
+impl Debug for Got {
+    fn fmt(&self, f: &mut Formatter) -> fmt::Result {
+        write!(f, "result {}, tag {:#010x}", self.result, self.tag)
+    }
+}
+
+impl Debug for Info {
+    fn fmt(&self, f: &mut Formatter) -> fmt::Result {
+        write!(f, "result {}, type {:#x}, ", self.result, self.type_)?;
+        write!(f, "size {:#x}, name {}", self.size, hex(&self.name))
+    }
+}
+
+/// Bytes in hexadecimal, the last one said with how often it stands there.
+pub fn hex(bytes: &[u8]) -> String {
+    let Some(last) = bytes.last() else {
+        return String::from("of no bytes");
+    };
+    let other = bytes.iter().rposition(|byte| byte != last);
+    let (first, rest) = bytes.split_at(other.map_or(0, |other| other + 1));
+    let text: String = first.iter().map(|byte| format!("{byte:02x}")).collect();
+    let space = if first.is_empty() { "" } else { " then " };
+    format!("{text}{space}{} times {last:02x}", rest.len())
 }
 
 /// What every call takes: the sizes, the two images and their block numbers.

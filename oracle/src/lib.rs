@@ -3,7 +3,8 @@
 //! The Rust's files speak of each other as `crate::tag`, `crate::dir::fetch`,
 //! so they stand at this crate's root; callers name them through `rust`.
 //! Without the Rust's directory the cfg `lfs_rust` is off, and of this crate
-//! only the port, the generator and the counting are left.
+//! only the port, the second implementation, the generators and the counting are
+//! left.
 //!
 //! Assumes that overflow checks are off, as in every profile of this package.
 
@@ -32,9 +33,20 @@ pub mod rust {
 /// Where the Rust's files were looked for when this crate was built.
 pub const LOOKED_FOR: &str = env!("LFS_RUST_LOOKED_FOR");
 
+pub mod calls;
+#[cfg(lfs_rust)]
+pub mod device;
+#[cfg(lfs_rust)]
+pub mod dirs;
+pub mod generate;
 pub mod inputs;
 #[cfg(lfs_rust)]
 pub mod leaves;
+pub mod model;
 pub mod port;
 pub mod random;
+#[cfg(lfs_rust)]
+pub mod record;
 pub mod tally;
+#[cfg(lfs_rust)]
+pub mod teeth;

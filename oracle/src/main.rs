@@ -1,28 +1,59 @@
 //! The comparison of the port with the unchanged Rust, as a program.
 //!
 //! Exit: 0 if nothing differed, or if the Rust was not there (the line begins
-//! with `SKIPPED:`, and no count is printed); 1 on a difference; 2 on a wrong
-//! argument.
+//! with `SKIPPED:`, and no count is printed); 1 on a difference, on a fault that
+//! is not seen, or if a file cannot be written; 2 on a wrong argument.
 //!
 //! Assumes nothing beyond what `build.rs` found.
 
 use std::process::ExitCode;
 
-const USAGE: &str = "usage: oracle
-Compares the port with the unchanged Rust. Takes no arguments; what is compared
-is fixed when the program is built, by LFS_RUST_SRC and LANOLIN_LIB.";
+const USAGE: &str = "usage: oracle | oracle teeth | oracle record FILE N
+Compares the port with the unchanged Rust. `teeth` instead runs every fault of
+the second implementation through the comparison, and `record` writes N inputs
+with the Rust's answers to a file. What is compared is fixed when the program is
+built, by LFS_RUST_SRC and LANOLIN_LIB.";
 
 fn main() -> ExitCode {
-    if let Some(argument) = std::env::args_os().nth(1) {
-        eprintln!("oracle: no such argument: {}", argument.to_string_lossy());
-        eprintln!("{USAGE}");
-        return ExitCode::from(2);
+    let arguments: Vec<String> = std::env::args_os()
+        .skip(1)
+        .map(|argument| argument.to_string_lossy().into_owned())
+        .collect();
+    let words: Vec<&str> = arguments.iter().map(String::as_str).collect();
+    match words[..] {
+        [] => compare(),
+        ["teeth"] => teeth(),
+        ["record", file, number] => match number.parse() {
+            Ok(number) => record(file, number),
+            Err(_) => wrong(&format!("not a number: {number}")),
+        },
+        _ => wrong(&format!("no such arguments: {}", words.join(" "))),
     }
-    compare()
+}
+
+fn wrong(why: &str) -> ExitCode {
+    eprintln!("oracle: {why}");
+    eprintln!("{USAGE}");
+    ExitCode::from(2)
 }
 
 #[cfg(not(lfs_rust))]
 fn compare() -> ExitCode {
+    skip()
+}
+
+#[cfg(not(lfs_rust))]
+fn teeth() -> ExitCode {
+    skip()
+}
+
+#[cfg(not(lfs_rust))]
+fn record(_file: &str, _number: usize) -> ExitCode {
+    skip()
+}
+
+#[cfg(not(lfs_rust))]
+fn skip() -> ExitCode {
     println!(
         "SKIPPED: the directory of the unchanged Rust was not found (looked for {}; \
          LFS_RUST_SRC names another), and nothing was compared.",
@@ -38,8 +69,8 @@ fn compare() -> ExitCode {
     println!("The port against the unchanged Rust.");
     let start = std::time::Instant::now();
     let mut totals = Totals::default();
-    for subject in oracle::leaves::SUBJECTS {
-        let subject = subject();
+    let leaves = oracle::leaves::SUBJECTS.iter().map(|subject| subject());
+    for subject in leaves.chain(std::iter::once_with(oracle::dirs::compare).flatten()) {
         subject.print();
         totals.add(subject.totals());
     }
@@ -56,6 +87,10 @@ fn conclude(totals: oracle::tally::Totals) -> ExitCode {
         "of ours, with no Rust behind them: {} checks",
         grouped(totals.ours)
     );
+    println!(
+        "by the second implementation, beside the Rust: {} checks",
+        grouped(totals.model)
+    );
     if totals.differences == 0 {
         println!("oracle: {} comparisons, no difference", totals.comparisons);
         return ExitCode::SUCCESS;
@@ -65,4 +100,33 @@ fn conclude(totals: oracle::tally::Totals) -> ExitCode {
         totals.comparisons, totals.differences, totals.differing
     );
     ExitCode::from(1)
+}
+
+#[cfg(lfs_rust)]
+fn teeth() -> ExitCode {
+    println!("The faults of the second implementation, in the comparison.");
+    let start = std::time::Instant::now();
+    let all = oracle::teeth::bite();
+    println!("time: {:.2} s", start.elapsed().as_secs_f64());
+    ExitCode::from(u8::from(!all))
+}
+
+#[cfg(lfs_rust)]
+fn record(file: &str, number: usize) -> ExitCode {
+    let mut list = Vec::new();
+    let written = oracle::record::write(&mut list, number)
+        .and_then(|counts| std::fs::write(file, &list).map(|()| counts));
+    match written {
+        Ok(counts) => {
+            for (kind, count) in counts {
+                println!("  {kind:<20}{count:>8}");
+            }
+            println!("{number} records, {} bytes, in {file}", list.len());
+            ExitCode::SUCCESS
+        }
+        Err(error) => {
+            eprintln!("oracle: {file}: {error}");
+            ExitCode::from(1)
+        }
+    }
 }

@@ -31,7 +31,7 @@ impl Model {
         match self.fault {
             Fault::ErasedUnaligned => true,
             Fault::ErasedByMask => end & (prog - 1) == 0,
-            _ => end % prog == 0,
+            _ => end.is_multiple_of(prog),
         }
     }
 

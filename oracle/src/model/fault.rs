@@ -44,7 +44,6 @@ faults! {
     ShortCheckStops Rust "fetch: a check of size below 4 or 1,023 stops";
     CheckMayPass Rust "fetch: a check may pass the block";
     EntryAtEndStops Rust "fetch: an entry that ends at the block's end stops";
-    ReadPastGoesOn Rust "fetch: a tail's read past the block goes on";
     RemovalHasData Rust "fetch: a removal is 1,023 bytes long";
     PreviousUnflipped Rust "fetch: previous tag not flipped";
     EndTagUnflipped Rust "fetch: end tag not flipped";
@@ -54,6 +53,7 @@ faults! {
     SecondBlockGoesOn Rust "fetch: second block's state not reset";
     SecondBlockUntried Rust "fetch: second block never tried";
     UncommittedShown Rust "fetch: uncommitted count and tail shown";
+    RevisionOfFirst Rust "fetch: revision of the block that ranks first";
     PairAsGiven Rust "fetch: pair not swapped when the second answers";
     NameRaisesToId Rust "fetch: name raises count to id";
     NameSetsCount Rust "fetch: name sets count";
@@ -70,6 +70,7 @@ faults! {
     NoentHasOldSeed Rust "fetch: -2 with the seed as given";
     TailIsExact Rust "fetch: only 0x600 and 0x601 are tails";
     TailResets Rust "fetch: tail reset at each commit";
+    TailFromZero Rust "fetch: tail begins as two zeros";
     TailSwapped Rust "fetch: tail's words swapped";
     SplitFromBit1 Rust "fetch: split from the wrong bit";
     RemovedTailUnread Rust "fetch: removal-sized tail reads 0 bytes";
@@ -112,6 +113,8 @@ faults! {
     KeyCleared Rust "lookup: bit 31 of the key cleared";
     FirstTagUnread Rust "lookup: the first tag is not reached";
     RevisionIsATag Rust "lookup: the walk goes on into the revision";
+    SearchEndsAtCheck Rust "lookup: only the last commit is searched";
+    SearchBoundByCount Rust "lookup: ids from the record's count on are -2";
     FirstImageAlways Rust "lookup: always in the first image";
     RestUnzeroed Rust "lookup: rest of the buffer not zeroed";
     ReadStopsAtEntry Rust "lookup: bytes stop at the entry's end";

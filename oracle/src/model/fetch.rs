@@ -80,9 +80,13 @@ impl Model {
             Fault::PairAsGiven => 0,
             _ => which,
         };
+        let of = match self.fault {
+            Fault::RevisionOfFirst => self.first(input),
+            _ => which,
+        };
         let dir = Mdir {
             pair: [numbers[shown], numbers[1 - shown]],
-            rev: self.revisions(input)[which],
+            rev: self.revisions(input)[of],
             off: commit.end as u32,
             etag: commit.end_tag,
             count: contents.count as u16,
@@ -96,9 +100,7 @@ impl Model {
             seed: walk.seed,
         };
         match self.fault {
-            Fault::NoentHasNoRecord if answer.result == NOENT => {
-                (refused(NOENT, input.seed), ours)
-            }
+            Fault::NoentHasNoRecord if answer.result == NOENT => (refused(NOENT, input.seed), ours),
             Fault::NoentHasOldSeed if answer.result == NOENT => {
                 let seed = input.seed;
                 (Fetched { seed, ..answer }, ours)

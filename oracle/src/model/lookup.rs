@@ -58,6 +58,9 @@ impl Model {
     /// "a pending move (global tag's type1 not 0) whose pair shares any block
     /// answers -2 at its own id and lowers the difference by one id above it"
     fn pending(&self, input: &Lookup, id: u32) -> Option<u32> {
+        if self.has(Fault::SearchBoundByCount) && id >= u32::from(input.dir.count) {
+            return None;
+        }
         let (moved, here) = (input.gdisk, input.dir.pair);
         let shared = match self.fault {
             Fault::MoveNeedsBothBlocks => here.iter().all(|block| moved.pair.contains(block)),
@@ -106,6 +109,9 @@ impl Model {
             }
             if matches(mask, tag, self.key(key), difference) {
                 return self.found(tag, at, difference);
+            }
+            if self.has(Fault::SearchEndsAtCheck) && type2_of(next) == CHECK {
+                break;
             }
         }
         None
@@ -167,7 +173,9 @@ impl Model {
             Fault::DifferenceStaysInId => {
                 Some(difference.wrapping_add(ids.wrapping_mul(ONE_ID)) & ID_BITS)
             }
-            Fault::SplicesAreOne => Some(difference.wrapping_add((ids as i32).signum() as u32 * ONE_ID)),
+            Fault::SplicesAreOne => {
+                Some(difference.wrapping_add((ids as i32).signum() as u32 * ONE_ID))
+            }
             _ => Some(difference.wrapping_add(ids.wrapping_mul(ONE_ID))),
         }
     }

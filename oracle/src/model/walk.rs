@@ -74,8 +74,10 @@ impl<'a> Walk<'a> {
             walk.contents = earlier.contents;
             walk.forward = earlier.forward;
         }
-        if fault == Fault::RevisionUnsummed {
-            walk.sum = ONES;
+        match fault {
+            Fault::RevisionUnsummed => walk.sum = ONES,
+            Fault::TailFromZero => walk.contents.tail = [0; 2],
+            _ => {}
         }
         loop {
             if let Err(stop) = walk.step() {
@@ -276,7 +278,6 @@ impl<'a> Walk<'a> {
         let second = le32(self.block, self.at + 8);
         match (first, second) {
             (Some(first), Some(second)) => Ok([first, second]),
-            _ if self.has(Fault::ReadPastGoesOn) => Ok([ONES; 2]),
             _ => Err(Stop::Other),
         }
     }

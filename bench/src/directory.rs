@@ -1,0 +1,198 @@
+//! A directory of many slots, and what is measured on it: fetch and lookups.
+//!
+//! Each slot is a small file with a user attribute. Slots are created at places
+//! spread over the directory, a few in each commit, so that a lookup has
+//! splices to go around.
+//!
+//! Assumes that the slots fit into the block, and checks it.
+
+use crate::measure::{side_by_side, Times};
+use oracle::calls::{Blocks, Fetch, Geometry, Gstate, Lookup, Mdir, Query, Voice};
+use oracle::device::Rust;
+use oracle::generate::Log;
+use oracle::model::{tag_of, CHECK, CREATE, FILE, ID_BITS, INLINE, NAME, NO_SLOT, STRUCT};
+use oracle::port::Port;
+use std::hint::black_box;
+
+const ATTRIBUTE: u32 = 0x374;
+const NO_ATTRIBUTE: u32 = 0x3aa;
+const PROG_SIZE: u32 = 16;
+const BUFFER: usize = 16;
+
+pub struct Directory {
+    images: [Vec<u8>; 2],
+    geometry: Geometry,
+    pub dir: Mdir,
+    slots: u32,
+    /// The slot that was created first: its create is the log's first tag.
+    oldest: u32,
+}
+
+/// One line of the table.
+pub struct Line {
+    pub name: &'static str,
+    /// The bytes that a call reads, where that says something.
+    pub bytes: Option<usize>,
+    pub times: Times,
+}
+
+impl Directory {
+    pub fn new(block_size: u32, slots: u32, in_a_commit: u32) -> Directory {
+        let geometry = Geometry {
+            block_size,
+            prog_size: PROG_SIZE,
+        };
+        let mut log = Log::new(block_size as usize, 1);
+        let mut oldest = 0;
+        for i in 0..slots {
+            // A multiplier without a common factor spreads the places.
+            let id = i * 7919 % (i + 1);
+            oldest += u32::from(i > 0 && id <= oldest);
+            create(&mut log, id, i);
+            if i % in_a_commit == in_a_commit - 1 || i == slots - 1 {
+                commit(&mut log);
+            }
+        }
+        let images = [log.bytes, vec![0xff; block_size as usize]];
+        let mut directory = Directory {
+            images,
+            geometry,
+            dir: Mdir::default(),
+            slots,
+            oldest,
+        };
+        directory.dir = Rust::default().fetch(&directory.fetch(0)).dir;
+        assert_eq!(u32::from(directory.dir.count), slots, "the slots fit");
+        directory
+    }
+
+    fn blocks(&self) -> Blocks<'_> {
+        Blocks {
+            geometry: self.geometry,
+            images: [&self.images[0], &self.images[1]],
+            numbers: [0, 1],
+        }
+    }
+
+    fn fetch(&self, seed: u32) -> Fetch<'_> {
+        Fetch {
+            blocks: self.blocks(),
+            block_count: 0,
+            seed,
+        }
+    }
+
+    fn lookup(&self) -> Lookup<'_> {
+        Lookup {
+            blocks: self.blocks(),
+            dir: self.dir,
+            gdisk: Gstate::default(),
+        }
+    }
+
+    /// Every line of this directory, with so many of its slots looked up.
+    pub fn lines(&self, looked_up: u32) -> Vec<Line> {
+        let step = self.slots.div_ceil(looked_up).max(1);
+        let ids: Vec<u32> = (0..self.slots).step_by(step as usize).collect();
+        let mut found = Vec::new();
+        for &id in &ids {
+            found.push(query(0x700, NAME, id));
+            found.push(query(0x700, STRUCT, id));
+            found.push(query(0x7ff, ATTRIBUTE, id));
+        }
+        let missed = [query(0x7ff, NO_ATTRIBUTE, self.oldest)];
+        let line = |name, times| Line {
+            name,
+            bytes: None,
+            times,
+        };
+        vec![
+            Line {
+                name: "lfs_dir_fetch",
+                bytes: Some(self.dir.off as usize),
+                times: self.time_fetch(),
+            },
+            line("lfs_dir_getslice", self.time_slices(&found)),
+            line("lfs_dir_getslice, a miss", self.time_slices(&missed)),
+            line("lfs_dir_getinfo", self.time_infos(&ids)),
+        ]
+    }
+
+    /// The seed goes from one fetch into the next.
+    fn time_fetch(&self) -> Times {
+        let mut rust = Rust::default();
+        side_by_side(
+            |seed| Port.fetch(black_box(&self.fetch(seed))).seed,
+            |seed| rust.fetch(black_box(&self.fetch(seed))).seed,
+        )
+    }
+
+    /// The mean over all queries.
+    fn time_slices(&self, queries: &[Query]) -> Times {
+        let (mut rust, input) = (Rust::default(), self.lookup());
+        let port = |register| {
+            queries.iter().fold(register, |register, &query| {
+                let mut buffer = [0; BUFFER];
+                let got = Port.getslice(black_box(&input), query, &mut buffer);
+                mixed(register, got.word(), buffer[0])
+            })
+        };
+        let rust = |register| {
+            queries.iter().fold(register, |register, &query| {
+                let mut buffer = [0; BUFFER];
+                let word = rust.getslice(black_box(&input), query, &mut buffer);
+                mixed(register, word, buffer[0])
+            })
+        };
+        side_by_side(port, rust).of_each(queries.len())
+    }
+
+    /// The mean over all slots.
+    fn time_infos(&self, ids: &[u32]) -> Times {
+        let (mut rust, input) = (Rust::default(), self.lookup());
+        let port = |register| {
+            ids.iter().fold(register, |register, &id| {
+                let info = Port.getinfo(black_box(&input), 255, id);
+                mixed(register, info.size, info.name[4])
+            })
+        };
+        let rust = |register| {
+            ids.iter().fold(register, |register, &id| {
+                let info = rust.getinfo(black_box(&input), 255, id);
+                mixed(register, info.size, info.name[4])
+            })
+        };
+        side_by_side(port, rust).of_each(ids.len())
+    }
+}
+
+fn create(log: &mut Log, id: u32, i: u32) {
+    let name = format!("f{i:04}");
+    let entries = [
+        (tag_of(CREATE, id, 0), &[][..]),
+        (tag_of(FILE, id, 5), name.as_bytes()),
+        (tag_of(INLINE, id, 4), b"data"),
+        (tag_of(ATTRIBUTE, id, 4), b"attr"),
+    ];
+    for (tag, data) in entries {
+        assert!(log.put(tag, data), "the slots fit");
+    }
+}
+
+fn commit(log: &mut Log) {
+    let size = log.check_size(0, PROG_SIZE as usize);
+    assert!(log.check(tag_of(CHECK, NO_SLOT, size)), "the slots fit");
+}
+
+fn query(types: u32, type_: u32, id: u32) -> Query {
+    Query {
+        mask: types << 20 | ID_BITS,
+        key: tag_of(type_, id, 0),
+        offset: 0,
+    }
+}
+
+/// Makes the register depend on an answer and on a byte that was read.
+fn mixed(register: u32, word: u32, byte: u8) -> u32 {
+    register.rotate_left(5) ^ word ^ u32::from(byte)
+}

@@ -1,0 +1,80 @@
+-- What the code reads off a walk, from the tests that a branch made; and that of the block's own walk it is format's record. Assumes nothing.
+use mathlib.Core.Path.{_≡_, refl, sym, ap, _∙_}
+use mathlib.Core.Bool.{Bool, true, false, _&&_}
+use mathlib.Core.List.{List}
+use Prim.Native.Nat.{ℕ, _+_, _-_, _%_, _<_, _≤_}
+use native.Mathlib.Omega.{arith}
+use lib.Dec.{leb, eqb}
+use lib.ListN.{length, take, drop}
+use borrow.Author.Tests.{eq-eqb, ne-eqb, lt-ltb, le-ltb, le-leb, lt-leb}
+use Rattle.format.specs.Word.{le32, allOnes}
+use Rattle.format.specs.Crc.{crc}
+use Rattle.format.specs.Log.{log, logEnd}
+use Rattle.format.specs.Record.{Forward, noForward, forward, forwardOf, seedOf}
+use Rattle.format.specs.Fetch.{forwardFits, erasedOf, mdirOf, fewEnough}
+use Rattle.format.specs.declared.LfsMdir.{LfsMdir}
+use Rattle.format.specs.declared.Refusal.the-variants.{TooMany}
+use Rattle.format.specs.declared.Fetched.the-variants.{Found, Refused}
+use Rattle.walk.specs.Block.{fcrcOf, walkedOf}
+use Rattle.walk.specs.declared.Walked.{Walked}
+use Rattle.fetch.specs.Read.{erasedBy, mdirBy, answerBy}
+
+-- ---- the erased mark, from the tests in order
+module _ (prog : ℕ) (b : List ℕ) (w : Walked) where
+  pub not-straight : w .straight ≡ false → false ≡ erasedBy prog b w
+  unfolding erasedBy
+  not-straight h = simp h
+
+  module _ (s : w .straight ≡ true) where
+    pub not-multiple : (w .taken .off % prog ≡ 0 → ⊥) → false ≡ erasedBy prog b w
+    unfolding erasedBy
+    not-multiple h = simp (s, ne-eqb _ _ h)
+
+    module _ (m : w .taken .off % prog ≡ 0) where
+      pub not-seen : w .taken .dir .fcrc .seen ≡ false → false ≡ erasedBy prog b w
+      unfolding erasedBy
+      not-seen h = simp (s, eq-eqb _ _ m, h)
+
+      module _ (f : w .taken .dir .fcrc .seen ≡ true) where
+        pub no-room : length b < w .taken .off + w .taken .dir .fcrc .size → false ≡ erasedBy prog b w
+        unfolding erasedBy
+        no-room h = simp (s, eq-eqb _ _ m, f, lt-leb _ _ h)
+
+        -- x is what `lfs_crc` answers
+        pub with-room : (x : ℕ) → w .taken .off + w .taken .dir .fcrc .size ≤ length b
+            → x ≡ crc allOnes (take (w .taken .off + w .taken .dir .fcrc .size - w .taken .off) (drop (w .taken .off) b))
+            → eqb x (w .taken .dir .fcrc .sum) ≡ erasedBy prog b w
+        unfolding erasedBy
+        with-room x h e =
+            let q : w .taken .off + w .taken .dir .fcrc .size - w .taken .off ≡ w .taken .dir .fcrc .size = omega arith in
+            simp (s, eq-eqb _ _ m, f, le-leb _ _ h) (cc)
+
+-- ---- the answer: k is what `mdir` answers
+module _ (prog n m : ℕ) (b : List ℕ) (w : Walked) (k : LfsMdir) (e : k ≡ mdirBy prog n m b w) where
+  pub too-many : 1_023 < k .count → Refused (TooMany k (w .taken .seed)) ≡ answerBy prog n m b w
+  unfolding answerBy
+  too-many h = sym (ap (λ (d : LfsMdir). fewEnough d (w .taken .seed)) (sym e) ∙ rw (lt-ltb 1_023 (k .count) h))
+
+  pub few : k .count ≤ 1_023 → Found k (w .taken .seed) ≡ answerBy prog n m b w
+  unfolding answerBy
+  few h = sym (ap (λ (d : LfsMdir). fewEnough d (w .taken .seed)) (sym e) ∙ rw (le-ltb 1_023 (k .count) h))
+
+-- ---- of the block's own walk
+forward-fits : (b : List ℕ) (end : ℕ) (f : Forward)
+    → fcrcOf f .seen && (leb (end + fcrcOf f .size) (length b) && eqb (crc allOnes (take (fcrcOf f .size) (drop end b))) (fcrcOf f .sum)) ≡ forwardFits b end f
+forward-fits b end noForward = refl
+forward-fits b end (forward n s) = refl
+
+erased-is : (prog : ℕ) (b : List ℕ) (seed : ℕ) → erasedBy prog b (walkedOf b seed) ≡ erasedOf prog b (log b)
+unfolding erasedBy walkedOf erasedOf
+erased-is prog b seed = rw (forward-fits b (logEnd (log b)) (forwardOf noForward (log b)))
+
+pub answer-is : (prog n m : ℕ) (b : List ℕ) (seed : ℕ)
+    → answerBy prog n m b (walkedOf b seed) ≡ fewEnough (mdirOf prog n m b (le32 b) (log b)) (seedOf seed (log b))
+unfolding answerBy mdirBy walkedOf mdirOf
+answer-is prog n m b seed = ap (λ (q : Bool). fewEnough (marked q) (seedOf seed (log b))) (erased-is prog b seed)
+  where
+    marked : Bool → LfsMdir
+    marked q =
+        let k = walkedOf b seed .taken in
+        record { pair = record { n0 = n; n1 = m }; rev = le32 b; off = k .off; etag = k .etag; count = k .dir .count; erased = q; split = k .dir .split; tail = k .dir .tail }

@@ -1,0 +1,57 @@
+-- What fetch reads off a walk, as the code does it: the record, the erased mark, the answer, the two blocks in rank. Assumes nothing.
+use mathlib.Core.Bool.{Bool, false, _&&_}
+use mathlib.Core.List.{List}
+use Prim.Native.Nat.{ℕ, _+_, _%_, _<_, _≤_}
+use lib.Dec.{leb, eqb}
+use lib.ListN.{length, take, drop}
+use Rattle.format.specs.Word.{le32, allOnes}
+use Rattle.format.specs.Crc.{crc}
+use Rattle.format.specs.Log.{log}
+use Rattle.format.specs.View.{rank}
+use Rattle.format.specs.Fetch.{fewEnough, viewed}
+use Rattle.format.specs.declared.LfsMdir.{LfsMdir}
+use Rattle.format.specs.declared.Fetched.{Fetched}
+use Rattle.walk.specs.declared.Walked.{Walked}
+
+-- the sizes that were tested: no division by zero, room for a revision, and numbers that fit
+pub record Readables (prog : ℕ) (b c : List ℕ) : Type 0 where
+  pub divides : 0 < prog
+  pub low : 4 ≤ length b
+  pub high : length b ≤ 32_768
+  pub other-low : 4 ≤ length c
+  pub other-high : length c ≤ 32_768
+
+-- the same of a block that was walked: the end of what was taken lies in it
+pub record Readable (prog : ℕ) (b : List ℕ) (w : Walked) : Type 0 where
+  pub divides : 0 < prog
+  pub low : 4 ≤ length b
+  pub high : length b ≤ 32_768
+  pub within : w .taken .off ≤ length b
+
+unfoldable pub erasedBy : ℕ → List ℕ → Walked → Bool
+erasedBy prog b w =
+    let k = w .taken in
+    let f = k .dir .fcrc in
+    w .straight && eqb (k .off % prog) 0
+    && (f .seen && (leb (k .off + f .size) (length b) && eqb (crc allOnes (take (f .size) (drop (k .off) b))) (f .sum)))
+
+unfoldable pub mdirBy : ℕ → ℕ → ℕ → List ℕ → Walked → LfsMdir
+mdirBy prog n m b w =
+    let k = w .taken in
+    record {
+      pair = record { n0 = n; n1 = m };
+      rev = le32 b;
+      off = k .off;
+      etag = k .etag;
+      count = k .dir .count;
+      erased = erasedBy prog b w;
+      split = k .dir .split;
+      tail = k .dir .tail;
+    }
+
+unfoldable pub answerBy : ℕ → ℕ → ℕ → List ℕ → Walked → Fetched
+answerBy prog n m b w = fewEnough (mdirBy prog n m b w) (w .taken .seed)
+
+-- the block n with the bytes b is tried first
+unfoldable pub inOrder : ℕ → ℕ → List ℕ → ℕ → List ℕ → ℕ → Fetched
+inOrder prog n b m c seed = viewed prog n m b c seed (rank false (le32 b) (le32 c) (log b) (log c))

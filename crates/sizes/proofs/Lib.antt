@@ -1,0 +1,2 @@
+-- What the tests tell their callers.
+pub mod Sized

@@ -1,0 +1,124 @@
+//! The teeth of the comparison: every fault of the second implementation goes
+//! through it, on the same inputs in the same order, until it is seen.
+//!
+//! A fault that the Rust decides must be seen against the Rust; one that is
+//! Ours, against the second implementation without a fault.
+//!
+//! Assumes nothing.
+
+use crate::calls::Voice;
+use crate::device::Rust;
+use crate::dirs::inputs::{self, Question};
+use crate::dirs::truth::{stated, FetchTruth, GstateTruth, InfoTruth, SliceTruth, Truth};
+use crate::generate::Sizes;
+use crate::model::{Fault, Model, Seen, FAULTS};
+use crate::tally::grouped;
+
+/// So many pairs of blocks are tried before a fault counts as not seen.
+const CASES: u64 = 200_000;
+
+/// One fault on its way through the inputs.
+struct Tried {
+    fault: Fault,
+    must: Seen,
+    text: &'static str,
+    /// After how many questions it was seen, and by which call.
+    caught: Option<(u64, &'static str)>,
+}
+
+/// Tries every fault; says each one. True if all were seen.
+pub fn bite() -> bool {
+    let mut tried: Vec<Tried> = FAULTS
+        .iter()
+        .map(|&(fault, must, text)| Tried {
+            fault,
+            must,
+            text,
+            caught: None,
+        })
+        .collect();
+    let mut rust = Rust::default();
+    let mut asked = 0;
+    for case in 0..CASES {
+        if tried.iter().all(|tried| tried.caught.is_some()) {
+            break;
+        }
+        inputs::ask(case, Sizes::Any, &mut |_, question| {
+            asked += 1;
+            ask_all(&mut rust, &question, asked, &mut tried);
+        });
+    }
+    for tried in &tried {
+        println!("  {:<58}{}", tried.text, said(tried));
+    }
+    let caught = tried.iter().filter(|tried| tried.caught.is_some()).count();
+    println!("teeth: {caught} of {} faults caught", tried.len());
+    caught == tried.len()
+}
+
+fn said(tried: &Tried) -> String {
+    let whose = match tried.must {
+        Seen::Rust => "",
+        Seen::Ours => " (ours)",
+    };
+    match tried.caught {
+        Some((inputs, call)) => {
+            format!("caught after {} inputs, by {call}{whose}", grouped(inputs))
+        }
+        None => format!("NOT CAUGHT{whose}"),
+    }
+}
+
+/// One question to every fault that is not caught yet.
+fn ask_all(rust: &mut Rust, question: &Question, asked: u64, tried: &mut [Tried]) {
+    match *question {
+        Question::Fetch(ref input) => {
+            let truth = FetchTruth::of(rust, input);
+            hold(&truth, "fetch", asked, tried, |model| model.fetch(input));
+        }
+        Question::Slice {
+            slicer,
+            ref input,
+            query,
+            length,
+            ..
+        } => {
+            let truth = SliceTruth::of(rust, slicer, input, query, length);
+            hold(&truth, "getslice or get", asked, tried, |model| {
+                slicer.ask(model, input, query, length)
+            });
+        }
+        Question::Info {
+            ref input,
+            name_max,
+            id,
+        } => {
+            let truth = InfoTruth::of(rust, input, name_max, id);
+            hold(&truth, "getinfo", asked, tried, |model| {
+                model.getinfo(input, name_max, id)
+            });
+        }
+        Question::Gstate { ref input, state } => {
+            let truth = GstateTruth::of(rust, input, state);
+            hold(&truth, "getgstate", asked, tried, |model| {
+                stated(model, input, state)
+            });
+        }
+    }
+}
+
+/// The answers of all faults against one truth.
+fn hold<T: Truth>(
+    truth: &T,
+    call: &'static str,
+    asked: u64,
+    tried: &mut [Tried],
+    answer: impl Fn(&Model) -> T::Answer,
+) {
+    for tried in tried.iter_mut().filter(|tried| tried.caught.is_none()) {
+        let model = Model { fault: tried.fault };
+        if truth.wrong(&answer(&model)) == Some(tried.must) {
+            tried.caught = Some((asked, call));
+        }
+    }
+}
