@@ -7,6 +7,9 @@ mod answers;
 // Tags, the checksum, small arithmetic, words and pairs: on numbers and slices.
 pub mod leaves;
 
+// Fetch and lookups.
+pub mod reading;
+
 // The global state, which stands with the caller.
 pub mod global;
 

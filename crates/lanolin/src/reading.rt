@@ -1,0 +1,85 @@
+// Reading for C callers: fetch and lookups. Each export hands its numbers, slices and records to the call of the same name.
+ghost use mathlib.Core.Path.{_≡_};
+ghost use Rattle.format.specs.Fetch.{fetchOf};
+ghost use Rattle.format.specs.Lookup.{getsliceOf, getsliceBuffer, getOf, getBuffer, getinfoOf};
+ghost use Rattle.lanolin.specs.Values.{fetchedOut, gotOut, infoOut};
+
+use crate::FetchedOut;
+use crate::InfoOut;
+use crate::Value;
+use crate::answers::fetched_out;
+use crate::answers::got_out;
+use crate::answers::info_out;
+use format::Geometry;
+use format::LfsGstate;
+use format::LfsMdir;
+
+#[no_mangle]
+pub extern "C" fn lanolin_fetch(g: Geometry, b0: &[u8], b1: &[u8], n0: u32, n1: u32, block_count: u32, seed: u32) -> FetchedOut
+    ensures { λ r. ⌜ r ≡ fetchedOut seed (fetchOf g (now (b0 .entry)) (now (b1 .entry)) n0 n1 «block_count» seed) ⌝ }
+{
+    fetched_out(seed, fetch::lfs_dir_fetch(g, b0, b1, n0, n1, block_count, seed))
+}
+
+// The tag stands in the value.
+#[no_mangle]
+pub extern "C" fn lanolin_getslice(
+    g: Geometry,
+    b0: &[u8],
+    b1: &[u8],
+    n0: u32,
+    n1: u32,
+    dir: LfsMdir,
+    gdisk: LfsGstate,
+    gmask: u32,
+    gtag: u32,
+    goff: u32,
+    buffer: &mut [u8],
+) -> Value
+    ensures { λ r. ⌜ r ≡ gotOut (getsliceOf g (now (b0 .entry)) (now (b1 .entry)) n0 n1 dir gdisk gmask gtag goff (now (buffer .entry))) ⌝ }
+    ensures { λ _. ⌜ now (buffer .exit) ≡ getsliceBuffer g (now (b0 .entry)) (now (b1 .entry)) n0 n1 dir gdisk gmask gtag goff (now (buffer .entry)) ⌝ }
+{
+    got_out(lookup::lfs_dir_getslice(
+        g, b0, b1, n0, n1, dir, gdisk, gmask, gtag, goff, buffer,
+    ))
+}
+
+#[no_mangle]
+pub extern "C" fn lanolin_get(
+    g: Geometry,
+    b0: &[u8],
+    b1: &[u8],
+    n0: u32,
+    n1: u32,
+    dir: LfsMdir,
+    gdisk: LfsGstate,
+    gmask: u32,
+    gtag: u32,
+    buffer: &mut [u8],
+) -> Value
+    ensures { λ r. ⌜ r ≡ gotOut (getOf g (now (b0 .entry)) (now (b1 .entry)) n0 n1 dir gdisk gmask gtag (now (buffer .entry))) ⌝ }
+    ensures { λ _. ⌜ now (buffer .exit) ≡ getBuffer g (now (b0 .entry)) (now (b1 .entry)) n0 n1 dir gdisk gmask gtag (now (buffer .entry)) ⌝ }
+{
+    got_out(lookup::lfs_dir_get(
+        g, b0, b1, n0, n1, dir, gdisk, gmask, gtag, buffer,
+    ))
+}
+
+#[no_mangle]
+pub extern "C" fn lanolin_getinfo(
+    g: Geometry,
+    b0: &[u8],
+    b1: &[u8],
+    n0: u32,
+    n1: u32,
+    dir: LfsMdir,
+    gdisk: LfsGstate,
+    name_max: u32,
+    id: u32,
+) -> InfoOut
+    ensures { λ r. ⌜ r ≡ infoOut (getinfoOf g (now (b0 .entry)) (now (b1 .entry)) n0 n1 dir gdisk «name_max» id) ⌝ }
+{
+    info_out(lookup::lfs_dir_getinfo(
+        g, b0, b1, n0, n1, dir, gdisk, name_max, id,
+    ))
+}

@@ -1,0 +1,3 @@
+-- What the walk back rests on.
+pub mod Turn
+pub mod Splice
