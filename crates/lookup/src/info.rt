@@ -16,9 +16,13 @@ use format::Refusal;
 pub const ROOT: u32 = 0x3ff;
 
 const LFS_TYPE_NAME: u32 = 0x000;
+
 const LFS_TYPE_DIR: u8 = 0x02;
+
 const LFS_TYPE_STRUCT: u32 = 0x200;
+
 const LFS_TYPE_INLINESTRUCT: u16 = 0x201;
+
 const LFS_TYPE_CTZSTRUCT: u16 = 0x202;
 
 pub fn refused(r: Refusal) -> Informed

@@ -72,7 +72,19 @@ pub fn lfs_dir_get(
     if LONGEST_BUFFER < buffer.len() {
         return Got::Refused(Refusal::Invalid);
     }
-    lfs_dir_getslice(g, b0, b1, n0, n1, dir, gdisk, gmask, gtag, 0, &mut buffer[..size])
+    lfs_dir_getslice(
+        g,
+        b0,
+        b1,
+        n0,
+        n1,
+        dir,
+        gdisk,
+        gmask,
+        gtag,
+        0,
+        &mut buffer[..size],
+    )
 }
 
 // Per lfs.c lfs_dir_getinfo. The longest name read is a parameter, and the info comes back by value: all zero on a refusal.

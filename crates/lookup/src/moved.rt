@@ -4,12 +4,12 @@ ghost use Prim.Native.Nat.{_≤_};
 ghost use lib.ListN.{length};
 ghost use Rattle.format.specs.Look.{found};
 ghost use Rattle.format.specs.Lookup.{gstateIn, moveMask, moveKey, moveAnswer, moveState, searched};
+use crate::GotGstate;
 use format::Altered;
 use format::Got;
 use format::LfsGstate;
 use format::LfsMdir;
 use format::LfsPair;
-use crate::GotGstate;
 use search::Hit;
 
 const LFS_TYPE_MOVESTATE: u32 = 0x7ff;

@@ -15,6 +15,7 @@ use format::LfsGstate;
 use format::LfsMdir;
 
 const LFS_TYPE_SPLICE: u16 = 0x400;
+
 const LFS_TYPE_CREATE: u32 = 0x401;
 
 // What was found: the tag, where it stands, and the difference there.
@@ -27,7 +28,8 @@ pub enum Hit {
 fn splices(ids: bool, tag: u32, key: u32) -> bool
     ensures { λ r. ⌜ r ≡ splicedAt ids tag key ⌝ }
 {
-    ids & (tag::lfs_tag_type1(tag) == LFS_TYPE_SPLICE)
+    ids
+        & (tag::lfs_tag_type1(tag) == LFS_TYPE_SPLICE)
         & (tag::lfs_tag_id(tag) <= tag::lfs_tag_id(key))
 }
 
@@ -105,11 +107,7 @@ fn find_back(b: &[u8], end: usize, etag: u32, gmask: u32, gtag: u32, diff: u32) 
 fn first_diff(moved_below: bool) -> u32
     ensures { λ r. ⌜ r ≡ cond «moved_below» (minus32 0 (2 ^ 10)) 0 ⌝ }
 {
-    if moved_below {
-        key_at(0, 0x400)
-    } else {
-        0
-    }
+    if moved_below { key_at(0, 0x400) } else { 0 }
 }
 
 // The newest entry of a record's block. A pending move is compared with the id that was asked for, before any splice.
@@ -118,8 +116,7 @@ pub fn newest(b: &[u8], dir: LfsMdir, gdisk: LfsGstate, gmask: u32, gtag: u32) -
     ensures { λ r. ⌜ (foundAs r ≡ searched (now (b .entry)) dir gdisk gmask gtag) × Inside (dir .off) r ⌝ }
 {
     let pair = dir.pair;
-    let moves =
-        (tag::lfs_tag_id(gmask) != 0) & gstate::has_move_here(gdisk, pair.n0, pair.n1);
+    let moves = (tag::lfs_tag_id(gmask) != 0) & gstate::has_move_here(gdisk, pair.n0, pair.n1);
     let moved = tag::lfs_tag_id(gdisk.tag);
     let id = tag::lfs_tag_id(gtag);
     if moves & (moved == id) {

@@ -5,7 +5,6 @@ use lib.ListN.{drop}
 use Rattle.format.specs.Word.{le32}
 use Rattle.format.specs.Tag.{tagType3, tagSize}
 use Rattle.format.specs.Lookup.{infoSize}
-
 use borrow.Author.Tests.{eq-eqb, ne-eqb}
 use borrow.Author.Needs.{needs}
 use Rattle.lookup.proofs.info.size_of.Statement.{statement}
