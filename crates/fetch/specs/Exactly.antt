@@ -16,6 +16,7 @@ use Rattle.format.specs.View.{View, none, at, rank, view}
 use Rattle.format.specs.Fetch.{pairFits, tooHigh, mdirOf, fewEnough, viewed, fetchOf}
 use Rattle.format.specs.declared.Geometry.{Geometry}
 use Rattle.format.specs.declared.LfsMdir.{LfsMdir}
+use Rattle.format.specs.declared.Refusal.{Refusal}
 use Rattle.format.specs.declared.Refusal.the-variants.{Invalid, Corrupt, TooMany}
 use Rattle.format.specs.declared.Fetched.{Fetched}
 use Rattle.format.specs.declared.Fetched.the-variants.{Found, Refused}
@@ -24,31 +25,24 @@ use Rattle.format.specs.declared.Fetched.the-variants.{Found, Refused}
 apart : {A : Type 0} → _≡_ {A = ℕ} 0 1 → A
 apart e = absurd (omega arith)
 
--- a block that answers is not -22 and not -84
-few-not-corrupt : {A : Type 0} (m : LfsMdir) (s : ℕ) → fewEnough m s ≡ Refused Corrupt → A
-few-not-corrupt m s h = go (ltb 1_023 (m .count)) h
+-- a block that answers is refused for its count only
+few-refuses : (m : LfsMdir) (s : ℕ) (r : Refusal) → fewEnough m s ≡ Refused r → r ≡ TooMany m s
+few-refuses m s r h = go (ltb 1_023 (m .count)) h
   where
-    go : {A : Type 0} (q : Bool) → cond q (Refused (TooMany m s)) (Found m s) ≡ Refused Corrupt → A
-    go true h = apart (cc)
-    go false h = apart (cc)
-
-few-not-invalid : {A : Type 0} (m : LfsMdir) (s : ℕ) → fewEnough m s ≡ Refused Invalid → A
-few-not-invalid m s h = go (ltb 1_023 (m .count)) h
-  where
-    go : {A : Type 0} (q : Bool) → cond q (Refused (TooMany m s)) (Found m s) ≡ Refused Invalid → A
-    go true h = apart (cc)
+    go : (q : Bool) → cond q (Refused (TooMany m s)) (Found m s) ≡ Refused r → r ≡ TooMany m s
+    go true h = cc
     go false h = apart (cc)
 
 module _ (prog n0 n1 : ℕ) (b0 b1 : List ℕ) (seed : ℕ) where
   not-invalid : {A : Type 0} (v : View) → viewed prog n0 n1 b0 b1 seed v ≡ Refused Invalid → A
   not-invalid none h = apart (cc)
-  not-invalid (at false rev es) h = few-not-invalid (mdirOf prog n0 n1 b0 rev es) (seedOf seed es) h
-  not-invalid (at true rev es) h = few-not-invalid (mdirOf prog n1 n0 b1 rev es) (seedOf seed es) h
+  not-invalid (at false rev es) h = let e = few-refuses (mdirOf prog n0 n1 b0 rev es) (seedOf seed es) Invalid h in apart (cc)
+  not-invalid (at true rev es) h = let e = few-refuses (mdirOf prog n1 n0 b1 rev es) (seedOf seed es) Invalid h in apart (cc)
 
   corrupt-none : (v : View) → viewed prog n0 n1 b0 b1 seed v ≡ Refused Corrupt → v ≡ none
   corrupt-none none h = refl
-  corrupt-none (at false rev es) h = few-not-corrupt (mdirOf prog n0 n1 b0 rev es) (seedOf seed es) h
-  corrupt-none (at true rev es) h = few-not-corrupt (mdirOf prog n1 n0 b1 rev es) (seedOf seed es) h
+  corrupt-none (at false rev es) h = let e = few-refuses (mdirOf prog n0 n1 b0 rev es) (seedOf seed es) Corrupt h in apart (cc)
+  corrupt-none (at true rev es) h = let e = few-refuses (mdirOf prog n1 n0 b1 rev es) (seedOf seed es) Corrupt h in apart (cc)
 
 -- no block answers exactly when both logs are empty
 rank-none : (q : Bool) (r s : ℕ) (es fs : List Event) → rank q r s es fs ≡ none → (es ≡ []) × (fs ≡ [])

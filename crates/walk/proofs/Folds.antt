@@ -85,10 +85,14 @@ steps-folds k f e (chk t x ∷ es) =
 steps-folds k f e (inv ∷ es) =
     steps-folds k f e es ∙ moved k f (inv ∷ es) (k .off + span es) (ap (λ (n : ℕ). k .off + n) (sym (zero-add (span es))))
 
--- what the loop leaves from the start is what format's folds say of the committed events
-pub settles-folds : (seed : ℕ) (es : List Event) → settles (takenNone seed) (takenNone seed) es ≡ takenOf seed (committed es)
+-- the code's record over a log, from the start, is what format's folds say of the log
+pub steps-taken : (seed : ℕ) (es : List Event) → steps (takenNone seed) es ≡ takenOf seed es
 unfolding takenNone emptyDir
-settles-folds seed es = settles-steps (takenNone seed) es ∙ steps-folds (takenNone seed) noForward refl (committed es)
+steps-taken seed es = steps-folds (takenNone seed) noForward refl es
+
+-- and what the loop leaves of a walk is what they say of what it committed
+pub settles-taken : (seed : ℕ) (es : List Event) → settles (takenNone seed) (takenNone seed) es ≡ takenOf seed (committed es)
+settles-taken seed es = settles-steps (takenNone seed) es ∙ steps-taken seed (committed es)
 
 -- ---- the end of a log lies in its block
 span-kept : (e : Event) (es : List Event) → span (keptBefore e es) ≤ eventLength e + span es

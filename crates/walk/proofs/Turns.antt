@@ -26,12 +26,12 @@ use Rattle.walk.specs.declared.WalkState.{WalkState}
 use Rattle.walk.specs.declared.Walked.{Walked}
 use Rattle.walk.proofs.Seen.{follow, from-next, entry-seen, check-seen}
 use Rattle.walk.proofs.Steps.{entered-body}
-use Rattle.walk.proofs.Folds.{settles-folds}
+use Rattle.walk.proofs.Folds.{settles-taken}
 
 -- c and w are what `start` and `begin` answer
 pub begun-leaves : (b : List ℕ) (seed : ℕ) (c : Cursor) (w : WalkState) → c ≡ startOf b → w ≡ begun seed → leaves b w c ≡ walkedOf b seed
 unfolding leaves walkedOf begun startOf from working takenNone log walk
-begun-leaves b seed c w ec ew = rw (ec, ew, settles-folds seed (walk b))
+begun-leaves b seed c w ec ew = rw (ec, ew, settles-taken seed (walk b))
 
 -- ---- a turn
 left : List ℕ → Taken → Taken → Bool → Cursor → Walked

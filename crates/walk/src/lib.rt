@@ -1,5 +1,5 @@
 // The walk over one metadata block, from its revision to where it stops: what `lfs_dir_fetchmatch` learns of a block. The state goes in and
-// comes back by value, stepped by its own operations.
+// comes back by value, stepped by its own operations. A function with a `requires` is for the crates of this repository, which test first.
 ghost use mathlib.Core.Path.{_≡_};
 ghost use Prim.Native.Nat.{_+_, _≤_};
 ghost use lib.ListN.{length};
@@ -31,6 +31,7 @@ pub struct WalkState {
 }
 
 impl WalkState {
+    // Nothing is read, and nothing is taken.
     pub fn begin(seed: u32) -> Self
         ensures { λ r. ⌜ r ≡ begun seed ⌝ }
     {
