@@ -1,4 +1,4 @@
 -- The laws by which functions over a lent state are proved, here and in every crate that has such functions. Assumes nothing.
-mod Lent
+pub mod Lent
 pub mod Thin
 pub mod Alter

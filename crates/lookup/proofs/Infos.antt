@@ -1,12 +1,11 @@
 -- The info: what the two lookups say of it, and the test before them. Assumes nothing.
 use mathlib.Core.Path.{_≡_, refl, sym, ap, _∙_}
 use mathlib.Core.Bool.{Bool, true, false, not, _&&_}
-use mathlib.Core.List.{List, [], _∷_, _++_}
+use mathlib.Core.List.{List, _∷_, _++_}
 use Prim.Native.Nat.{ℕ, zero, suc, _+_, _-_, _%_, _^_, _≤_}
 use native.Mathlib.Omega.{arith}
 use lib.Dec.{leb}
-use lib.ListN.{length, take, drop, replicate, length-replicate}
-use lib.Seq.{length-take-le}
+use lib.ListN.{length, take, drop, length-replicate}
 use borrow.Author.Tests.{leb-true, eq-eqb, ne-eqb, not-true, not-false}
 use Rattle.format.specs.Tag.{tagType3, mkTag}
 use Rattle.format.specs.Look.{Found}
@@ -14,7 +13,6 @@ use Rattle.format.specs.Lookup.{recordFits, blockOf, searched, sliceAnswer, sli
 use Rattle.format.specs.declared.Geometry.{Geometry}
 use Rattle.format.specs.declared.LfsMdir.{LfsMdir}
 use Rattle.format.specs.declared.LfsGstate.{LfsGstate}
-use Rattle.format.specs.declared.LfsInfo.{LfsInfo}
 use Rattle.format.specs.declared.Refusal.{Refusal}
 use Rattle.format.specs.declared.Refusal.the-variants.{Invalid}
 use Rattle.format.specs.declared.Got.{Got}
@@ -23,7 +21,7 @@ use Rattle.format.specs.declared.Altered.the-variants as altered
 use Rattle.format.specs.declared.Informed.{Informed}
 use Rattle.lookup.specs.Info.{infoNamed}
 use Rattle.lookup.proofs.Records.{both, end-inside}
-use Rattle.lookup.proofs.Slices.{slice-length}
+use Rattle.search.proofs.Slices.{slice-length}
 use Rattle.lookup.proofs.Moves.{tag-made}
 
 -- ---- the front and the back of a blank buffer are blank

@@ -1,6 +1,6 @@
--- What the lookups rest on: stores in a row, the domain, the slice, the move state, the info.
-pub mod Fill
+-- What the lookups rest on: the domain, the slice, the move state, the info.
 pub mod Records
 pub mod Slices
 pub mod Moves
 pub mod Infos
+pub mod Lends

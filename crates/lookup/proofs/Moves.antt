@@ -2,7 +2,7 @@
 use mathlib.Core.Path.{_≡_, refl, sym, ap, _∙_}
 use mathlib.Core.Bool.{Bool, true, false, not, cond}
 use mathlib.Core.List.{List}
-use Prim.Native.Nat.{ℕ, _+_, _*_, _^_, _<_}
+use Prim.Native.Nat.{ℕ, _^_, _<_}
 use native.Mathlib.Omega.{arith}
 use lib.Dec.{leb}
 use lib.ListN.{length}
@@ -11,7 +11,7 @@ use Rattle.format.specs.Word.{plus32}
 use Rattle.format.specs.Tag.{mkTag}
 use Rattle.format.specs.Commit.{tagOf}
 use Rattle.format.specs.Gstate.{gstateXor}
-use Rattle.format.specs.Look.{Found, noEntry, found}
+use Rattle.format.specs.Look.{Found, found}
 use Rattle.format.specs.Lookup.{recordFits, blockOf, searched, sliceEnd, sliceAnswer, sliceBuffer, blankBuffer, gstateIn, moveMask, moveKey, moveAnswer, moveState, getgstateOf, getgstateState}
 use Rattle.format.specs.declared.Geometry.{Geometry}
 use Rattle.format.specs.declared.LfsMdir.{LfsMdir}
@@ -26,7 +26,7 @@ use Rattle.format.proofs.Words.{mkTag-sum}
 use Rattle.search.specs.Hit.{foundAs}
 use Rattle.search.specs.declared.Hit.{Hit}
 use Rattle.search.specs.declared.Hit.the-variants.{At, Nothing}
-use Rattle.lookup.proofs.Slices.{of-nothing, of-hit}
+use Rattle.search.proofs.Slices.{of-nothing, of-hit}
 
 -- the tag that LFS_MKTAG makes of fields that fit
 pub tag-made : (type id size r : ℕ) → type < 2 ^ 12 → id < 2 ^ 10 → size < 2 ^ 10 → r ≡ mkTag type id size → r ≡ tagOf type id size

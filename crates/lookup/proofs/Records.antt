@@ -1,5 +1,5 @@
 -- What the test of a record tells: its end is inside both images, and which of them it was read from. Assumes nothing.
-use mathlib.Core.Path.{_≡_, refl, sym, _∙_}
+use mathlib.Core.Path.{_≡_, refl, sym}
 use mathlib.Core.Bool.{Bool, true, false, not, _&&_}
 use mathlib.Core.List.{List}
 use Prim.Native.Nat.{ℕ, _≤_}
@@ -10,7 +10,6 @@ use Rattle.format.specs.Pair.{pairSync}
 use Rattle.format.specs.Fetch.{geometryFits, pairFits}
 use Rattle.format.specs.Lookup.{recordFits, blockOf}
 use Rattle.format.specs.declared.Geometry.{Geometry}
-use Rattle.format.specs.declared.LfsPair.{LfsPair}
 use Rattle.format.specs.declared.LfsMdir.{LfsMdir}
 
 pub both : (a b : Bool) → (a && b) ≡ true → (a ≡ true) × (b ≡ true)

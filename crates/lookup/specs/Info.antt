@@ -3,7 +3,6 @@ use mathlib.Core.List.{List}
 use Prim.Native.Nat.{ℕ, _%_, _^_}
 use Rattle.format.specs.Tag.{tagType3}
 use Rattle.format.specs.Lookup.{infoRefused, infoSize}
-use Rattle.format.specs.declared.LfsInfo.{LfsInfo}
 use Rattle.format.specs.declared.Got.{Got}
 use Rattle.format.specs.declared.Got.the-variants as got
 use Rattle.format.specs.declared.Altered.the-variants as altered

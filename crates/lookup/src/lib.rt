@@ -15,7 +15,6 @@ use format::Refusal;
 mod domain;
 mod info;
 mod moved;
-mod slice;
 
 // Document 01's bound of a lookup buffer.
 const LONGEST_BUFFER: usize = 65536;
@@ -43,9 +42,9 @@ pub fn lfs_dir_getslice(
     }
     let pair = dir.pair;
     if pair.n0 == n0 {
-        slice::read(b0, dir, gdisk, gmask, gtag, goff, buffer)
+        search::slice::read(b0, dir, gdisk, gmask, gtag, goff, buffer)
     } else {
-        slice::read(b1, dir, gdisk, gmask, gtag, goff, buffer)
+        search::slice::read(b1, dir, gdisk, gmask, gtag, goff, buffer)
     }
 }
 
@@ -147,4 +146,22 @@ pub fn getgstate_of(
     } else {
         moved::read(b1, dir, gdisk, gstate)
     }
+}
+
+// Per lfs.c lfs_dir_getgstate: the move state of a pair XORed into a lent state, where it stands. Thin, over the function above.
+pub fn lfs_dir_getgstate(
+    g: Geometry,
+    b0: &[u8],
+    b1: &[u8],
+    n0: u32,
+    n1: u32,
+    dir: LfsMdir,
+    gdisk: LfsGstate,
+    gstate: &mut LfsGstate,
+) -> Altered
+    ensures { λ r. ⌜ (r ≡ getgstateOf g (now (b0 .entry)) (now (b1 .entry)) n0 n1 dir gdisk) × (now (gstate .exit) ≡ getgstateState g (now (b0 .entry)) (now (b1 .entry)) n0 n1 dir gdisk (now (gstate .entry))) ⌝ }
+{
+    let r = getgstate_of(g, b0, b1, n0, n1, dir, gdisk, *gstate);
+    *gstate = r.gstate;
+    r.answer
 }

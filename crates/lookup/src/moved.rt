@@ -34,7 +34,7 @@ fn xored_at(b: &[u8], t: u32, at: usize, diff: u32, gstate: LfsGstate) -> GotGst
     ensures { λ r. ⌜ (r .answer ≡ moveAnswer (now (b .entry)) (found t at diff)) × (r .gstate ≡ moveState (now (b .entry)) gstate (found t at diff)) ⌝ }
 {
     let mut d = [0u8; 12];
-    match crate::slice::read_at(b, t, at, diff, 0, &mut d) {
+    match search::slice::read_at(b, t, at, diff, 0, &mut d) {
         Got::Refused(r) => GotGstate {
             answer: Altered::Refused(r),
             gstate: gstate,

@@ -1,3 +1,5 @@
--- What the walk back rests on.
-pub mod Turn
+-- What the walk back and the slice rest on.
 pub mod Splice
+pub mod Turn
+pub mod Fill
+pub mod Slices

@@ -14,6 +14,8 @@ ghost use Rattle.search.specs.Hit.{foundAs, Inside};
 use format::LfsGstate;
 use format::LfsMdir;
 
+pub mod slice;
+
 const LFS_TYPE_SPLICE: u16 = 0x400;
 
 const LFS_TYPE_CREATE: u32 = 0x401;

@@ -5,11 +5,11 @@ ghost use Prim.Native.Nat.{_+_, _-_, _≤_, min};
 ghost use lib.ListN.{length, take, drop, replicate};
 ghost use Rattle.format.specs.Look.{found};
 ghost use Rattle.format.specs.Lookup.{sliceAnswer, sliceBuffer, searched};
+use crate::Hit;
 use format::Got;
 use format::LfsGstate;
 use format::LfsMdir;
 use format::Refusal;
-use search::Hit;
 
 fn smaller(a: usize, b: usize) -> usize
     ensures { λ r. ⌜ r ≡ min a b ⌝ }
@@ -71,7 +71,7 @@ pub fn read(
     ensures { λ r. ⌜ r ≡ sliceAnswer (now (b .entry)) goff (length (now (buffer .entry))) (searched (now (b .entry)) dir gdisk gmask gtag) ⌝ }
     ensures { λ _. ⌜ now (buffer .exit) ≡ sliceBuffer (now (b .entry)) goff (now (buffer .entry)) (searched (now (b .entry)) dir gdisk gmask gtag) ⌝ }
 {
-    match search::newest(b, dir, gdisk, gmask, gtag) {
+    match crate::newest(b, dir, gdisk, gmask, gtag) {
         Hit::Nothing => Got::Refused(Refusal::NoEntry),
         Hit::At(t, at, diff) => read_at(b, t, at, diff, goff, buffer),
     }
