@@ -28,3 +28,6 @@ pub mod Regular
 pub mod Directory
 pub mod Commit
 pub mod Stores
+pub mod Entries
+pub mod Writer
+pub mod Compaction

@@ -40,4 +40,13 @@ pub mod Writer
 pub mod Renewed
 pub mod Compactor
 pub mod Carried
+-- The calls: what a found record says; an accepted verdict of a commit, and of a compaction, is an acceptance. The page to cite is Compaction.
+pub mod Fetched
+pub mod Judged
+pub mod Verdict
+pub mod Reading
+pub mod Gathered
+pub mod Listed
+pub mod Behind
+pub mod Compaction
 pub mod Instance

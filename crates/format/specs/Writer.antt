@@ -1,0 +1,162 @@
+-- Document 01, The added writer: which commits are accepted, what an accepted one stores, and what both calls answer and leave.
+-- Assumes nothing.
+use mathlib.Core.Bool.{Bool, true, false, not, cond, _&&_}
+use mathlib.Core.List.{List}
+use Prim.Native.Nat.{ℕ, _+_, _-_, _%_, min}
+use lib.ListN.{length, drop}
+use lib.Dec.{leb, ltb, eqb}
+use Rattle.format.specs.Word.{allOnes}
+use Rattle.format.specs.Tag.{tagValid}
+use Rattle.format.specs.Walk.{Event}
+use Rattle.format.specs.Log.{log, logEnd, logEndTag}
+use Rattle.format.specs.Record.{countOf}
+use Rattle.format.specs.Arith.{downTo}
+use Rattle.format.specs.Fetch.{pairFits, fetchOf}
+use Rattle.format.specs.Regular.{Regular}
+use Rattle.format.specs.Commit.{Item, checkTag}
+use Rattle.format.specs.Stores.{allErased, entriesLength, appending, coincides}
+use Rattle.format.specs.Entries.{itemsOf, Judged, judge, bad, good}
+use Rattle.format.specs.declared.Geometry.{Geometry}
+use Rattle.format.specs.declared.LfsMdir.{LfsMdir}
+use Rattle.format.specs.declared.Entry.{Entry}
+use Rattle.format.specs.declared.Refusal.{Refusal}
+use Rattle.format.specs.declared.Refusal.the-variants.{Invalid, BadEntry, Irregular, NoSpace, Unclean, Coincidence}
+use Rattle.format.specs.declared.Fetched.{Fetched}
+use Rattle.format.specs.declared.Fetched.the-variants as fetched
+use Rattle.format.specs.declared.Committed.{Committed}
+use Rattle.format.specs.declared.Committed.the-variants as committed
+use Rattle.format.specs.declared.Stored.{Stored}
+use Rattle.format.specs.declared.Stored.the-variants as stored
+
+-- ---- the check
+-- A check's tag and checksum take eight bytes.
+abbrev pub checkLength : ℕ
+checkLength = 8
+
+-- Where a commit ends whose check tag stands at `at`: "on a multiple of the program size", the next one behind tag and checksum.
+unfoldable pub roundedEnd : ℕ → ℕ → ℕ
+roundedEnd prog at = downTo (at + checkLength + (prog - 1)) prog
+
+-- "Its size, 4 or more, is the least that ends on a multiple of the program size": what is between the tag's four bytes and that end.
+unfoldable pub checkSize : ℕ → ℕ → ℕ
+checkSize prog at = roundedEnd prog at - (at + 4)
+
+-- where the check tag stands, of a commit of these entries behind the log es
+abbrev pub checkAt : List Event → List Item → ℕ
+checkAt es is = logEnd es + entriesLength is
+
+-- the stores of a commit: its entries' bytes, check tag and checksum; "padding isn't stored"
+abbrev pub allStores : List Item → ℕ
+allStores is = entriesLength is + checkLength
+
+-- ---- which commits are accepted
+-- "Lookup buffer and entry data at most 65,536 bytes each; at most 8,192 entries"
+abbrev pub mostData : ℕ
+mostData = 65_536
+
+abbrev pub mostEntries : ℕ
+mostEntries = 8_192
+
+unfoldable pub commitFits : Geometry → ℕ → ℕ → ℕ → ℕ → ℕ → ℕ → Bool
+commitFits g length0 length1 n0 n1 entries bytes = pairFits g length0 length1 n0 n1 && leb bytes mostData && leb entries mostEntries
+
+-- "Append needs bytes 0xff from the old end to the block's end, an old end that is a multiple of the program size, and an end tag with bit
+-- 31 clear."
+unfoldable pub roomClean : ℕ → List ℕ → ℕ → ℕ → Bool
+roomClean prog b end etag = allErased (drop end b) && eqb (end % prog) 0 && tagValid etag
+
+-- A call is refused, or accepted: whether the second block answers, and so is appended to, the entries, and their check's size.
+pub data Verdict : Type 0 where
+  refused : Refusal → Verdict
+  accepted : Bool → List Item → ℕ → Verdict
+
+-- the block that answers, of the first and the second
+abbrev pub blockAt : Bool → List ℕ → List ℕ → List ℕ
+blockAt false b0 b1 = b0
+blockAt true b0 b1 = b1
+
+-- The tests of good entries, in document 01's order: "-28, -203, -204". b is the block that answers, es its log.
+unfoldable pub placed : ℕ → Bool → List ℕ → List Event → List Item → Verdict
+placed prog second b es is =
+    cond (ltb (length b) (roundedEnd prog (checkAt es is))) (refused NoSpace)
+    (cond (not (roomClean prog b (logEnd es) (logEndTag es))) (refused Unclean)
+    (cond (coincides allOnes (logEndTag es) is (checkTag (checkSize prog (checkAt es is)))) (refused Coincidence)
+    (accepted second is (checkSize prog (checkAt es is)))))
+
+-- "-201 | an entry is bad"
+abbrev pub judgedBy : Judged → Verdict → Verdict
+judgedBy (bad i) v = refused (BadEntry i)
+judgedBy (good c) v = v
+
+-- "-202 | the committed log isn't regular", before -201
+unfoldable pub appended : ℕ → Bool → List ℕ → List Event → List Entry → List ℕ → Verdict
+appended prog second b es entries dat =
+    cond (not (Regular es)) (refused Irregular)
+    (judgedBy (judge dat 0 (countOf 0 es) entries) (placed prog second b es (itemsOf dat entries)))
+
+-- The record's pair has the answering block's number first.
+abbrev pub isSecond : ℕ → LfsMdir → Bool
+isSecond n0 m = not (eqb (m .pair .n0) n0)
+
+-- "fetch's own refusals"
+abbrev pub fetchedThen : Fetched → (LfsMdir → Verdict) → Verdict
+fetchedThen (fetched.Refused r) on = refused r
+fetchedThen (fetched.Found m s) on = on m
+
+-- "Commit: -22, fetch's own refusals, -202, -201, -28, -203, -204."
+unfoldable pub verdictOf : Geometry → List ℕ → List ℕ → ℕ → ℕ → ℕ → ℕ → List Entry → List ℕ → Verdict
+verdictOf g b0 b1 n0 n1 count seed entries dat =
+    cond (not (commitFits g (length b0) (length b1) n0 n1 (length entries) (length dat))) (refused Invalid)
+    (fetchedThen (fetchOf g b0 b1 n0 n1 count seed)
+    (λ m. appended (g .«prog_size») (isSecond n0 m) (blockAt (isSecond n0 m) b0 b1) (log (blockAt (isSecond n0 m) b0 b1)) entries dat))
+
+-- ---- what both calls leave and answer
+pub record Images : Type 0 where
+  pub b0 : List ℕ
+  pub b1 : List ℕ
+
+abbrev pub images : List ℕ → List ℕ → Images
+images x y = record { b0 = x; b1 = y }
+
+-- a block after the first n of a commit's stores, or after all, "if n is larger"
+abbrev pub storedTo : List ℕ → List Item → ℕ → ℕ → List ℕ
+storedTo b is size n = appending b (log b) is (checkTag size) (min n (allStores is))
+
+-- "No refusal .. changes an image"; an accepted call makes "exactly the first n" stores, in the block that answers.
+abbrev pub imagesAfter : ℕ → List ℕ → List ℕ → Verdict → Images
+imagesAfter n b0 b1 (refused r) = images b0 b1
+imagesAfter n b0 b1 (accepted false is size) = images (storedTo b0 is size n) b1
+imagesAfter n b0 b1 (accepted true is size) = images b0 (storedTo b1 is size n)
+
+-- all stores: no commit that is accepted has more than a block has bytes
+abbrev pub unlimited : ℕ
+unlimited = allOnes
+
+-- "An accepted call answers what fetch gives on the finished pair from the same seed."
+abbrev pub committedAs : Fetched → Committed
+committedAs (fetched.Found m s) = committed.Done m s
+committedAs (fetched.Refused r) = committed.Refused r
+
+abbrev pub answerOf : Fetched → Verdict → Committed
+answerOf f (refused r) = committed.Refused r
+answerOf f (accepted second is size) = committedAs f
+
+-- "exactly the first n of demand 3's list are made (all, if n is larger) and the number made is the answer"
+abbrev pub storesMade : ℕ → Verdict → Stored
+storesMade n (refused r) = stored.Refused r
+storesMade n (accepted second is size) = stored.Made (min n (allStores is))
+
+module _ (g : Geometry) (b0 b1 : List ℕ) (n0 n1 count seed : ℕ) (entries : List Entry) (dat : List ℕ) where
+  -- the images after n stores: of the call with a limit, and, all stores made, of `lfs_dir_commit`
+  unfoldable pub commitImages : ℕ → Images
+  commitImages n = imagesAfter n b0 b1 (verdictOf g b0 b1 n0 n1 count seed entries dat)
+
+  -- `lfs_dir_commit`
+  unfoldable pub commitOf : Committed
+  commitOf =
+      answerOf (fetchOf g (commitImages unlimited .b0) (commitImages unlimited .b1) n0 n1 count seed)
+      (verdictOf g b0 b1 n0 n1 count seed entries dat)
+
+  -- `lfs_dir_commit_stores`
+  unfoldable pub commitStoresOf : ℕ → Stored
+  commitStoresOf n = storesMade n (verdictOf g b0 b1 n0 n1 count seed entries dat)
