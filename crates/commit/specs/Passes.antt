@@ -1,0 +1,36 @@
+-- A pass over a list of entries, by the number of entries done, and the whole of a commit's steps. Assumes nothing.
+use mathlib.Core.List.{List}
+use Prim.Native.Nat.{ℕ, zero, suc}
+use lib.ListN.{length, getD}
+use Rattle.format.specs.declared.Geometry.{Geometry}
+use Rattle.format.specs.declared.Entry.{Entry}
+use Rattle.writer.specs.State.{Trio, trio, stepOf, begunOf, decidedOf, sealedOf}
+use Rattle.writer.specs.declared.State.{State}
+
+abbrev pub noEntry : Entry
+noEntry = record { kind = 0; id = 0; off = 0; len = 0 }
+
+abbrev pub entryAt : List Entry → ℕ → Entry
+entryAt es i = getD es i noEntry
+
+abbrev pub stepE : Trio → List ℕ → Entry → Trio
+stepE t dat e = stepOf (t .st) dat (t .b0) (t .b1) (e .kind) (e .id) (e .off) (e .len)
+
+-- the first n entries, one after the other
+unfoldable pub eachOf : ℕ → List Entry → List ℕ → List ℕ → List ℕ → State → Trio
+eachOf zero es dat b0 b1 s = trio s b0 b1
+eachOf (suc n) es dat b0 b1 s = stepE (eachOf n es dat b0 b1 s) dat (entryAt es n)
+
+abbrev pub passOf : List Entry → List ℕ → Trio → Trio
+passOf es dat t = eachOf (length es) es dat (t .b0) (t .b1) (t .st)
+
+abbrev pub decideT : Geometry → ℕ → Trio → Trio
+decideT g stores t = trio (decidedOf (t .st) g (t .b0) (t .b1) stores) (t .b0) (t .b1)
+
+abbrev pub sealT : Trio → Trio
+sealT t = sealedOf (t .st) (t .b0) (t .b1)
+
+-- begin, judge every entry, decide, lay every entry, seal
+unfoldable pub ranOf : Geometry → List ℕ → List ℕ → ℕ → ℕ → ℕ → ℕ → List Entry → List ℕ → ℕ → Trio
+ranOf g b0 b1 n0 n1 count seed es dat stores =
+    sealT (passOf es dat (decideT g stores (passOf es dat (trio (begunOf g b0 b1 n0 n1 count seed (length es) dat) b0 b1))))

@@ -1,0 +1,2 @@
+-- From the code's steps to format's `Regular`.
+pub mod Settled

@@ -1,0 +1,3 @@
+-- Laws of the room's tests.
+pub mod Ends
+pub mod Cleared

@@ -1,0 +1,2 @@
+-- Laws of the rules.
+pub mod Passed

@@ -1,0 +1,2 @@
+-- The code's enums for format's rules.
+pub mod Rules

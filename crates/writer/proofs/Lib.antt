@@ -1,0 +1,5 @@
+-- One law for each way out of a step.
+pub mod Begins
+pub mod Entered
+pub mod Placed
+pub mod Ended
