@@ -1,0 +1,163 @@
+-- Both calls, by what fetch answered and which block answers: the verdict is one block's, with the place of the block. Assumes nothing.
+use mathlib.Core.Path.{_≡_, refl, sym, ap, _∙_}
+use mathlib.Core.Bool.{Bool, true, false, not, cond}
+use mathlib.Core.List.{List}
+use Prim.Native.Nat.{ℕ}
+use native.Mathlib.Omega.{arith}
+use lib.ListN.{length}
+use lib.Dec.{ltb}
+use borrow.Author.Tests.{eq-eqb, ne-eqb}
+use Rattle.format.specs.Word.{le32, toLe32, plus32, allOnes}
+use Rattle.format.specs.Crc.{crc}
+use Rattle.format.specs.Log.{log}
+use Rattle.format.specs.Fetch.{fetchOf}
+use Rattle.format.specs.Regular.{Regular}
+use Rattle.format.specs.Commit.{checkTag}
+use Rattle.format.specs.Stores.{coincides}
+use Rattle.format.specs.Writer.{roundedEnd, checkSize, blockAt, isSecond, committedAs}
+use Rattle.format.specs.Compaction.{compactionItems, compactCheckAt, CompactVerdict, compactRefused, compactAccepted, placedAnew, compactable, compactVerdict, compactImagesAfter, compactAnswer, compactMade, compactImages, compactOf, compactStoresOf}
+use Rattle.format.specs.declared.Geometry.{Geometry}
+use Rattle.format.specs.declared.LfsMdir.{LfsMdir}
+use Rattle.format.specs.declared.Refusal.{Refusal}
+use Rattle.format.specs.declared.Refusal.the-variants.{Irregular, NoSpace, Coincidence}
+use Rattle.format.specs.declared.Fetched.{Fetched}
+use Rattle.format.specs.declared.Fetched.the-variants as fetched
+use Rattle.format.specs.declared.Committed.{Committed}
+use Rattle.format.specs.declared.Committed.the-variants as committed
+use Rattle.format.specs.declared.Stored.{Stored}
+use Rattle.format.specs.declared.Stored.the-variants as stored
+use Rattle.theory.specs.Reading.{Sized, found-sized, found-reads}
+use Rattle.renew.specs.Renewed.{Renewable, renewedTo}
+
+-- ---- a verdict with the place of the block that answers
+abbrev placedAt : Bool → CompactVerdict → CompactVerdict
+placedAt w (compactRefused r) = compactRefused r
+placedAt w (compactAccepted second rev is size) = compactAccepted w rev is size
+
+placed-at : (prog : ℕ) (w : Bool) (x : List ℕ) → compactable prog w x (log x) ≡ placedAt w (compactable prog false x (log x))
+unfolding compactable placedAnew
+placed-at prog w x =
+    go (not (Regular (log x))) (ltb (length x) (roundedEnd prog at)) (coincides (crc allOnes (toLe32 (plus32 (le32 x) 1))) allOnes (compactionItems (log x)) (checkTag (checkSize prog at)))
+  where
+    at : ℕ
+    at = compactCheckAt (compactionItems (log x))
+
+    v : Bool → CompactVerdict
+    v second = compactAccepted second (plus32 (le32 x) 1) (compactionItems (log x)) (checkSize prog at)
+
+    go : (a b c : Bool)
+        → cond a (compactRefused Irregular) (cond b (compactRefused NoSpace) (cond c (compactRefused Coincidence) (v w)))
+        ≡ placedAt w (cond a (compactRefused Irregular) (cond b (compactRefused NoSpace) (cond c (compactRefused Coincidence) (v false))))
+    go true b c = refl
+    go false true c = refl
+    go false false true = refl
+    go false false false = refl
+
+-- ---- what the call with a limit answers and leaves
+abbrev pub Leaves : ℕ → List ℕ → List ℕ → CompactVerdict → Stored → List ℕ → List ℕ → Type 0
+Leaves n b0 b1 v r c0 c1 = (r ≡ compactMade n v) × ((c0 ≡ compactImagesAfter n b0 b1 v .b0) × (c1 ≡ compactImagesAfter n b0 b1 v .b1))
+
+first-leaves : (n : ℕ) (b0 b1 : List ℕ) (v : CompactVerdict) (r : Stored) (c : List ℕ) → r ≡ compactMade n v → c ≡ renewedTo n b1 v → Leaves n b0 b1 (placedAt false v) r b0 c
+first-leaves n b0 b1 (compactRefused x) r c er ec = (er, (refl, ec))
+first-leaves n b0 b1 (compactAccepted w rev is size) r c er ec = (er, (refl, ec))
+
+second-leaves : (n : ℕ) (b0 b1 : List ℕ) (v : CompactVerdict) (r : Stored) (c : List ℕ) → r ≡ compactMade n v → c ≡ renewedTo n b0 v → Leaves n b0 b1 (placedAt true v) r c b1
+second-leaves n b0 b1 (compactRefused x) r c er ec = (er, (ec, refl))
+second-leaves n b0 b1 (compactAccepted w rev is size) r c er ec = (er, (ec, refl))
+
+module _ (g : Geometry) (b0 b1 : List ℕ) (n0 n1 count seed : ℕ) where
+  -- the contract of the call with a limit of n stores
+  abbrev pub Called : ℕ → Stored → List ℕ → List ℕ → Type 0
+  Called n r c0 c1 =
+      (r ≡ compactStoresOf g b0 b1 n0 n1 count seed n)
+      × ((c0 ≡ compactImages g b0 b1 n0 n1 count seed n .b0) × (c1 ≡ compactImages g b0 b1 n0 n1 count seed n .b1))
+
+  leaves : (n : ℕ) (v : CompactVerdict) → compactVerdict g b0 b1 n0 n1 count seed ≡ v → (r : Stored) (c0 c1 : List ℕ) → Leaves n b0 b1 v r c0 c1 → Called n r c0 c1
+  unfolding compactStoresOf compactImages
+  leaves n v e r c0 c1 h = rw e h
+
+  pub called-refused : (n : ℕ) (r : Refusal) → fetched.Refused r ≡ fetchOf g b0 b1 n0 n1 count seed → Called n (stored.Refused r) b0 b1
+  unfolding compactVerdict
+  called-refused n r f = leaves n (compactRefused r) (rw (← f)) (stored.Refused r) b0 b1 (refl, (refl, refl))
+
+  module _ (m : LfsMdir) (s : ℕ) (f : fetched.Found m s ≡ fetchOf g b0 b1 n0 n1 count seed) where
+    verdict-of : (w : Bool) → isSecond n0 m ≡ w → compactVerdict g b0 b1 n0 n1 count seed ≡ placedAt w (compactable (g .«prog_size») false (blockAt w b0 b1) (log (blockAt w b0 b1)))
+    unfolding compactVerdict
+    verdict-of w e = rw (← f, e) (placed-at (g .«prog_size») w (blockAt w b0 b1))
+
+    renewable : (w : Bool) → isSecond n0 m ≡ w → Renewable (g .«prog_size») (blockAt w b0 b1) (blockAt (not w) b0 b1) m
+    renewable w e =
+        let z = found-sized g b0 b1 n0 n1 count seed m s (sym f) in
+        let a = found-reads g b0 b1 n0 n1 count seed m s (sym f) in
+        let same : a .w ≡ w = sym (a .place) ∙ e in
+        rw (← same)
+        (record {
+          low = z .prog .0;
+          high = z .prog .1;
+          long = lengths (a .w) z .1 ∙ sym (lengths (a .w) z .0);
+          recorded = record {
+            word = omega (arith, lengths (a .w) z .0, z .block .0);
+            most = omega (arith, lengths (a .w) z .0, z .block .1);
+            some = a .some;
+            rev′ = a .rev′;
+            ends = a .ends;
+            endTag = a .endTag;
+            count′ = a .count′;
+            split′ = a .split′;
+            tail′ = a .tail′;
+          };
+        })
+      where
+        lengths : (v : Bool) → Sized g b0 b1 → (length (blockAt v b0 b1) ≡ g .«block_size») × (length (blockAt (not v) b0 b1) ≡ g .«block_size»)
+        lengths false z = (z .first, z .second)
+        lengths true z = (z .second, z .first)
+
+    -- the first block answers
+    module _ (h : m .pair .n0 ≡ n0) where
+      place-first : isSecond n0 m ≡ false
+      place-first = ap not (eq-eqb (m .pair .n0) n0 h)
+
+      pub renews-first : Renewable (g .«prog_size») b0 b1 m
+      renews-first = renewable false place-first
+
+      pub called-first : (n : ℕ) (r : Stored) (c : List ℕ) → r ≡ compactMade n (compactable (g .«prog_size») false b0 (log b0))
+          → c ≡ renewedTo n b1 (compactable (g .«prog_size») false b0 (log b0)) → Called n r b0 c
+      called-first n r c er ec = leaves n _ (verdict-of false place-first) r b0 c (first-leaves n b0 b1 (compactable (g .«prog_size») false b0 (log b0)) r c er ec)
+
+    -- the second block answers
+    module _ (h : m .pair .n0 ≡ n0 → ⊥) where
+      place-second : isSecond n0 m ≡ true
+      place-second = ap not (ne-eqb (m .pair .n0) n0 h)
+
+      pub renews-second : Renewable (g .«prog_size») b1 b0 m
+      renews-second = renewable true place-second
+
+      pub called-second : (n : ℕ) (r : Stored) (c : List ℕ) → r ≡ compactMade n (compactable (g .«prog_size») false b1 (log b1))
+          → c ≡ renewedTo n b0 (compactable (g .«prog_size») false b1 (log b1)) → Called n r c b1
+      called-second n r c er ec = leaves n _ (verdict-of true place-second) r c b1 (second-leaves n b0 b1 (compactable (g .«prog_size») false b1 (log b1)) r c er ec)
+
+  -- ---- the call with no limit: c0 and c1 are what the other leaves
+  abbrev pub Answered : Committed → List ℕ → List ℕ → Type 0
+  Answered r c0 c1 =
+      (r ≡ compactOf g b0 b1 n0 n1 count seed)
+      × ((c0 ≡ compactImages g b0 b1 n0 n1 count seed allOnes .b0) × (c1 ≡ compactImages g b0 b1 n0 n1 count seed allOnes .b1))
+
+  module _ (c0 c1 : List ℕ) (e0 : c0 ≡ compactImages g b0 b1 n0 n1 count seed allOnes .b0) (e1 : c1 ≡ compactImages g b0 b1 n0 n1 count seed allOnes .b1) where
+    pub answered-refused : (r : Refusal) → stored.Refused r ≡ compactStoresOf g b0 b1 n0 n1 count seed allOnes → Answered (committed.Refused r) c0 c1
+    unfolding compactOf compactStoresOf
+    answered-refused r h = (go (compactVerdict g b0 b1 n0 n1 count seed) h, (e0, e1))
+      where
+        go : (v : CompactVerdict) → stored.Refused r ≡ compactMade allOnes v
+            → committed.Refused r ≡ compactAnswer (fetchOf g (compactImages g b0 b1 n0 n1 count seed allOnes .b0) (compactImages g b0 b1 n0 n1 count seed allOnes .b1) n0 n1 count seed) v
+        go (compactRefused x) k = let q : r ≡ x = cc in ap committed.Refused q
+        go (compactAccepted w rev is size) k = cc
+
+    pub answered-made : (k : ℕ) → stored.Made k ≡ compactStoresOf g b0 b1 n0 n1 count seed allOnes → (f : Fetched) → f ≡ fetchOf g c0 c1 n0 n1 count seed
+        → Answered (committedAs f) c0 c1
+    unfolding compactOf compactStoresOf
+    answered-made k h f ef = (go (compactVerdict g b0 b1 n0 n1 count seed) h, (e0, e1))
+      where
+        go : (v : CompactVerdict) → stored.Made k ≡ compactMade allOnes v
+            → committedAs f ≡ compactAnswer (fetchOf g (compactImages g b0 b1 n0 n1 count seed allOnes .b0) (compactImages g b0 b1 n0 n1 count seed allOnes .b1) n0 n1 count seed) v
+        go (compactRefused x) k = cc
+        go (compactAccepted w rev is size) k = ap committedAs ef ∙ rw (e0, e1)

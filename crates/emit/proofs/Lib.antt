@@ -1,0 +1,4 @@
+-- How entries join, and what each function of the code adds.
+pub mod Joined
+pub mod Written
+pub mod Sourced
