@@ -1,7 +1,8 @@
 /* lanolin.h: the proved littlefs metadata calls, from C. Link with liblanolin.a (rt staticlib lanolin), x86-64.
  *
  * Every call takes any bytes, numbers and records, and ends. A result is 0 or document 01's refusal: -22 a size or number is broken, -84 nothing
- * valid is there or a read would pass the block, -2 no entry, or a count above 1,023. A refused call alters no byte of what it was lent.
+ * valid is there or a read would pass the block, -2 no entry, or a count above 1,023; writing also -202 the log isn't regular, -201 an entry is
+ * bad, -28 no space, -203 the room behind the end is not clean, -204 the checksum coincidence. A refused call alters no byte of what it was lent.
  *
  * The caller's duties, all of them: a pointer is valid for its count (null with count 0 is allowed), lent buffers do not overlap each other, and
  * a bool is 0 or 1. */
@@ -36,11 +37,17 @@ typedef struct {
 /* The global state: three words that XOR. */
 typedef struct { uint32_t tag; uint32_t pair[2]; } lanolin_gstate;
 
+/* An entry of a commit: `len` bytes of the data buffer from `off` on; a length of 1,023 removes a user attribute, and has no data. */
+typedef struct { uint16_t type; uint16_t id; uint32_t off; uint32_t len; } lanolin_entry;
+
 typedef struct { int32_t result; uint32_t value; } lanolin_value;                       /* value 0 on a refusal */
 typedef struct { uint32_t pair[2]; } lanolin_pair;
 typedef struct { int32_t result; lanolin_mdir dir; uint32_t seed; } lanolin_fetched;    /* -2: dir and seed as read; else a refusal has dir zero, seed as given */
 typedef struct { int32_t result; uint32_t tag; } lanolin_got;                           /* tag 0 on a refusal */
 typedef struct { int32_t result; uint8_t type; uint32_t size; uint8_t name[256]; } lanolin_info; /* all zero but the result on a refusal */
+
+typedef struct { int32_t result; uint32_t index; lanolin_mdir dir; uint32_t seed; } lanolin_committed; /* index: that of -201's entry, else 0 */
+typedef struct { int32_t result; uint32_t index; uint32_t stores; } lanolin_stored;     /* stores: those made, 0 on a refusal */
 
 /* ---- reading a pair: b0 and b1 are the images of the blocks n0 and n1, each block_size bytes */
 
@@ -67,6 +74,27 @@ lanolin_info lanolin_getinfo(lanolin_geometry g, const uint8_t *b0, size_t b0_le
 /* The move state of the pair, XORed into *gstate where it stands; none found leaves it as it is. */
 int32_t lanolin_getgstate(lanolin_geometry g, const uint8_t *b0, size_t b0_len, const uint8_t *b1, size_t b1_len,
                           uint32_t n0, uint32_t n1, lanolin_mdir dir, lanolin_gstate gdisk, lanolin_gstate *gstate);
+
+/* ---- writing; a refused call alters no byte */
+
+/* One commit of all the entries, appended to the block that answers; answers what a fetch of the finished pair from the same seed gives. */
+lanolin_committed lanolin_commit(lanolin_geometry g, uint8_t *b0, size_t b0_len, uint8_t *b1, size_t b1_len,
+                                 uint32_t n0, uint32_t n1, uint32_t block_count, uint32_t seed,
+                                 const lanolin_entry *entries, size_t entries_len, const uint8_t *data, size_t data_len);
+
+/* The same, stopped after so many single-byte stores. */
+lanolin_stored lanolin_commit_stores(lanolin_geometry g, uint8_t *b0, size_t b0_len, uint8_t *b1, size_t b1_len,
+                                     uint32_t n0, uint32_t n1, uint32_t block_count, uint32_t seed,
+                                     const lanolin_entry *entries, size_t entries_len, const uint8_t *data, size_t data_len,
+                                     uint32_t stores);
+
+/* All that the pair holds as one commit in the other block, which is erased first, under the next revision. */
+lanolin_committed lanolin_compact(lanolin_geometry g, uint8_t *b0, size_t b0_len, uint8_t *b1, size_t b1_len,
+                                  uint32_t n0, uint32_t n1, uint32_t block_count, uint32_t seed);
+
+/* The same, stopped after so many stores; the erase is the first. */
+lanolin_stored lanolin_compact_stores(lanolin_geometry g, uint8_t *b0, size_t b0_len, uint8_t *b1, size_t b1_len,
+                                      uint32_t n0, uint32_t n1, uint32_t block_count, uint32_t seed, uint32_t stores);
 
 /* ---- the leaves; a test answers exactly 0 or 1 */
 

@@ -121,6 +121,51 @@ static void test_pairs_and_states(void) {
     EXPECT(lanolin_gstate_iszero(&STILL) == 1 && lanolin_gstate_hasmove(&STILL) == 0);
 }
 
+/* A commit behind the listing's log: the deadline 3,600 in place of 90,000. Tag chained to the check tag before, data, check tag of size 4,
+ * checksum; the end is 64, a multiple of 16, so there is no padding. */
+static const uint8_t MORE[16] = {0x67, 0x4f, 0xfc, 0x09, 0x10, 0x0e, 0x00, 0x00, 0x67, 0x4f, 0xfc, 0x00, 0xf2, 0x6a, 0x39, 0x72};
+
+static void test_commit(void) {
+    uint8_t c0[128], c1[128];
+    memcpy(c0, b0, sizeof c0);
+    memcpy(c1, b1, sizeof c1);
+    const uint8_t data[4] = {0x10, 0x0e, 0x00, 0x00};
+    lanolin_entry deadline = {0x374, 0, 0, 4}, bad[2] = {{0x401, 1, 0, 0}, {0x001, 1, 1, 4}};
+    lanolin_committed refused = lanolin_commit(G, c0, 128, c1, 128, 0, 1, 0, 7, bad, 2, data, 4);
+    EXPECT(refused.result == -201 && refused.index == 1 && refused.seed == 7 && is_zero(&refused.dir, sizeof refused.dir));
+    EXPECT(lanolin_commit(G, c0, 128, c1, 128, 3, 3, 0, 7, &deadline, 1, data, 4).result == -22);
+    EXPECT(!memcmp(c0, b0, 128) && !memcmp(c1, b1, 128));
+    lanolin_stored stored = lanolin_commit_stores(G, c0, 128, c1, 128, 0, 1, 0, 0, &deadline, 1, data, 4, 5);
+    EXPECT(stored.result == 0 && stored.index == 0 && stored.stores == 5 && !memcmp(c0 + 48, MORE, 5) && c0[53] == 0xff);
+    EXPECT(lanolin_fetch(G, c0, 128, c1, 128, 0, 1, 0, 0).dir.off == 48);
+    memcpy(c0, b0, sizeof c0);
+    lanolin_committed done = lanolin_commit(G, c0, 128, c1, 128, 0, 1, 0, 0, &deadline, 1, data, 4);
+    EXPECT(done.result == 0 && done.index == 0 && done.dir.off == 64 && done.dir.etag == 0x500ffc04 && done.dir.count == 1);
+    EXPECT(!memcmp(c0, b0, 48) && !memcmp(c0 + 48, MORE, 16) && !memcmp(c0 + 64, b1, 64) && !memcmp(c1, b1, 128));
+    uint8_t read[4];
+    lanolin_got got = lanolin_getslice(G, c0, 128, c1, 128, 0, 1, done.dir, STILL, 0x7ffffc00, 0x37400000, 0, read, 4);
+    EXPECT(got.result == 0 && !memcmp(read, data, 4));
+}
+
+/* The listing compacted: the same entries in the same order under revision 2, so all but revision and checksum is as it was. */
+static void test_compact(void) {
+    uint8_t c0[128], c1[128], expected[39];
+    memcpy(c0, b0, sizeof c0);
+    memset(c1, 0x55, sizeof c1);
+    memcpy(expected, LISTED, sizeof expected);
+    expected[0] = 2;
+    EXPECT(lanolin_put_le32(expected, 39, 35, lanolin_crc(0xffffffff, expected, 35)) == 0);
+    lanolin_stored stored = lanolin_compact_stores(G, c0, 128, c1, 128, 0, 1, 0, 0, 1);
+    EXPECT(stored.result == 0 && stored.stores == 1 && !memcmp(c1, b1, 128) && !memcmp(c0, b0, 128));
+    stored = lanolin_compact_stores(G, c0, 128, c1, 128, 0, 1, 0, 0, 1000);
+    EXPECT(stored.result == 0 && stored.stores == 40 && !memcmp(c1, expected, 39) && !memcmp(c1 + 39, b1, 89));
+    memset(c1, 0x55, sizeof c1);
+    lanolin_committed done = lanolin_compact(G, c0, 128, c1, 128, 0, 1, 0, 0);
+    EXPECT(done.result == 0 && done.dir.pair[0] == 1 && done.dir.rev == 2 && done.dir.off == 48 && done.dir.count == 1);
+    EXPECT(!memcmp(c1, expected, 39) && !memcmp(c1 + 39, b1, 89) && !memcmp(c0, b0, 128));
+    EXPECT(lanolin_compact(G, b1, 128, c1, 64, 0, 1, 0, 7).result == -22);
+}
+
 int main(void) {
     memset(b0, 0xff, sizeof b0);
     memset(b1, 0xff, sizeof b1);
@@ -131,6 +176,8 @@ int main(void) {
     test_tags();
     test_numbers();
     test_pairs_and_states();
+    test_commit();
+    test_compact();
     printf("C: %d checks, %d failed\n", checks, failures);
     return failures != 0;
 }

@@ -8,11 +8,11 @@ ghost use Rattle.format.specs.Count.{scmp};
 ghost use Rattle.format.specs.Crc.{crc};
 ghost use Rattle.format.specs.Pair.{pairSwapped, pairNull, pairCmp, pairSync};
 ghost use Rattle.format.specs.Tag.{tagValid, tagType1, tagType2, tagType3, tagChunk, tagSplice, tagId, tagSize, tagDelete, tagLength, mkTag, mkTagIf};
-ghost use Rattle.lanolin.specs.Values.{wordOut};
-use crate::Value;
-use crate::answers::altered_out;
-use crate::answers::flag;
-use crate::answers::word_out;
+ghost use Rattle.answers.specs.Values.{wordOut};
+use answers::Value;
+use answers::altered_out;
+use answers::flag;
+use answers::word_out;
 use format::LfsPair;
 
 // ---- the checksum

@@ -1,8 +1,12 @@
 // The C-callable layer: each public call on numbers, slices and one plain struct by value, under a flat name that begins `lanolin_`
 // (docs/DECISIONS.md has the shapes). It is thin: no logic of its own, no `requires`. Results are document 01's numbers: 0, or the refusal.
-use format::LfsMdir;
-
-mod answers;
+ghost use mathlib.Core.Path.{_≡_};
+ghost use Rattle.answers.specs.Values.{committedOut, storedOut};
+ghost use Rattle.format.specs.Writer.{unlimited, commitImages, commitOf, commitStoresOf};
+use answers::CommittedOut;
+use answers::StoredOut;
+use format::Entry;
+use format::Geometry;
 
 // Tags, the checksum, small arithmetic, words and pairs: on numbers and slices.
 pub mod leaves;
@@ -10,29 +14,57 @@ pub mod leaves;
 // Fetch and lookups.
 pub mod reading;
 
+// Commit and compaction; the exports that hold the list of entries are below.
+pub mod writing;
+
 // The global state, which stands with the caller.
 pub mod global;
 
-// A result and the value that comes with it, 0 on a refusal.
-#[repr(C)]
-pub struct Value {
-    pub result: i32,
-    pub value: u32,
+// Commit, and the same with a limit of stores. Both hold the list of entries and only pass it on: walks that tools/genwalk.py writes.
+#[no_mangle]
+pub extern "C" fn lanolin_commit(
+    g: Geometry,
+    b0: &mut [u8],
+    b1: &mut [u8],
+    n0: u32,
+    n1: u32,
+    block_count: u32,
+    seed: u32,
+    entries: &[Entry],
+    dat: &[u8],
+) -> CommittedOut
+    ensures { λ r. ⌜ (r ≡ committedOut seed (commitOf g (now (b0 .entry)) (now (b1 .entry)) n0 n1 «block_count» seed (now (entries .entry)) (now (dat .entry)))) × (now (b0 .exit) ≡ commitImages g (now (b0 .entry)) (now (b1 .entry)) n0 n1 «block_count» seed (now (entries .entry)) (now (dat .entry)) unlimited .b0) × (now (b1 .exit) ≡ commitImages g (now (b0 .entry)) (now (b1 .entry)) n0 n1 «block_count» seed (now (entries .entry)) (now (dat .entry)) unlimited .b1) ⌝ }
+{
+    let c = commit::lfs_dir_commit(g, b0, b1, n0, n1, block_count, seed, entries, dat);
+    answers::committed_out(seed, c)
 }
 
-// What lanolin_fetch answers.
-#[repr(C)]
-pub struct FetchedOut {
-    pub result: i32,
-    pub dir: LfsMdir,
-    pub seed: u32,
-}
-
-// What lanolin_getinfo answers.
-#[repr(C)]
-pub struct InfoOut {
-    pub result: i32,
-    pub kind: u8,
-    pub size: u32,
-    pub name: [u8; 256],
+#[no_mangle]
+pub extern "C" fn lanolin_commit_stores(
+    g: Geometry,
+    b0: &mut [u8],
+    b1: &mut [u8],
+    n0: u32,
+    n1: u32,
+    block_count: u32,
+    seed: u32,
+    entries: &[Entry],
+    dat: &[u8],
+    stores: u32,
+) -> StoredOut
+    ensures { λ r. ⌜ (r ≡ storedOut (commitStoresOf g (now (b0 .entry)) (now (b1 .entry)) n0 n1 «block_count» seed (now (entries .entry)) (now (dat .entry)) stores)) × (now (b0 .exit) ≡ commitImages g (now (b0 .entry)) (now (b1 .entry)) n0 n1 «block_count» seed (now (entries .entry)) (now (dat .entry)) stores .b0) × (now (b1 .exit) ≡ commitImages g (now (b0 .entry)) (now (b1 .entry)) n0 n1 «block_count» seed (now (entries .entry)) (now (dat .entry)) stores .b1) ⌝ }
+{
+    let s = commit::lfs_dir_commit_stores(
+        g,
+        b0,
+        b1,
+        n0,
+        n1,
+        block_count,
+        seed,
+        entries,
+        dat,
+        stores,
+    );
+    answers::stored_out(s)
 }

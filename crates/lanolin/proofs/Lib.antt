@@ -1,0 +1,2 @@
+-- The laws that the walks cite.
+pub mod Rules

@@ -1,0 +1,14 @@
+-- `lanolin::writing::lanolin_compact` meets its contract: what the call below ensures, handed out. Assumes nothing.
+use mathlib.Core.Path.{ap, _∙_}
+use borrow.Author.Needs.{needs}
+use Rattle.answers.specs.Values.{committedOut}
+use Rattle.lanolin.proofs.writing.lanolin_compact.Statement.{statement}
+use Rattle.lanolin.proofs.writing.lanolin_compact.Tie as tie
+
+returns : tie.Need-returns
+returns c =
+    let made = c .before .before .before .before .before .lfs-dir-compact .ensures in
+    (c .committed-out .ensures ∙ ap (committedOut (c .before .before .before .before .before .before .before .before .before .before .args .seed)) (made .0), made .1)
+
+pub lanolin-compact-spec : {M : Type 1} → statement M
+lanolin-compact-spec = tie.close (tie.spec (λ c κs. search needs) (λ c κs. search needs) (λ c. search needs) (λ c. search needs) returns)

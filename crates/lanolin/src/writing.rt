@@ -1,0 +1,48 @@
+// Compaction for C callers, and the same with a limit of stores. Each export hands its numbers and slices to the call of the same name.
+ghost use mathlib.Core.Path.{_≡_};
+ghost use Rattle.format.specs.Word.{allOnes};
+ghost use Rattle.format.specs.Compaction.{compactImages, compactOf, compactStoresOf};
+ghost use Rattle.answers.specs.Values.{committedOut, storedOut};
+use answers::CommittedOut;
+use answers::StoredOut;
+use answers::committed_out;
+use answers::stored_out;
+use format::Geometry;
+
+#[no_mangle]
+pub extern "C" fn lanolin_compact(
+    g: Geometry,
+    b0: &mut [u8],
+    b1: &mut [u8],
+    n0: u32,
+    n1: u32,
+    block_count: u32,
+    seed: u32,
+) -> CommittedOut
+    ensures { λ r. ⌜ r ≡ committedOut seed (compactOf g (now (b0 .entry)) (now (b1 .entry)) n0 n1 «block_count» seed) ⌝ }
+    ensures { λ _. ⌜ now (b0 .exit) ≡ compactImages g (now (b0 .entry)) (now (b1 .entry)) n0 n1 «block_count» seed allOnes .b0 ⌝ }
+    ensures { λ _. ⌜ now (b1 .exit) ≡ compactImages g (now (b0 .entry)) (now (b1 .entry)) n0 n1 «block_count» seed allOnes .b1 ⌝ }
+{
+    committed_out(
+        seed,
+        compact::lfs_dir_compact(g, b0, b1, n0, n1, block_count, seed),
+    )
+}
+
+#[no_mangle]
+pub extern "C" fn lanolin_compact_stores(
+    g: Geometry,
+    b0: &mut [u8],
+    b1: &mut [u8],
+    n0: u32,
+    n1: u32,
+    block_count: u32,
+    seed: u32,
+    stores: u32,
+) -> StoredOut
+    ensures { λ r. ⌜ r ≡ storedOut (compactStoresOf g (now (b0 .entry)) (now (b1 .entry)) n0 n1 «block_count» seed stores) ⌝ }
+    ensures { λ _. ⌜ now (b0 .exit) ≡ compactImages g (now (b0 .entry)) (now (b1 .entry)) n0 n1 «block_count» seed stores .b0 ⌝ }
+    ensures { λ _. ⌜ now (b1 .exit) ≡ compactImages g (now (b0 .entry)) (now (b1 .entry)) n0 n1 «block_count» seed stores .b1 ⌝ }
+{
+    stored_out(compact::lfs_dir_compact_stores(g, b0, b1, n0, n1, block_count, seed, stores))
+}

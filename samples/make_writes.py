@@ -1,0 +1,241 @@
+#!/usr/bin/env python3
+"""Writes samples/writes/cases and samples/writes/expected: commits and compactions at the edges of document 01, and what each must answer and leave.
+
+What is expected is worked out here from document 01 alone, by a writer of its own; nothing is taken from the port. A case is one line,
+    NAME OP BLOCK PROG N0 N1 COUNT SEED LIMIT IMAGE0 IMAGE1 ENTRIES DATA
+with OP commit or compact, LIMIT a number of stores or -, images and data as runs of hex (aa*9 is aa nine times), ENTRIES as
+type:id:off:len*times, all joined by commas, - for none. Run by hand when the set changes.
+"""
+import os
+import zlib
+
+HERE = os.path.join(os.path.dirname(os.path.abspath(__file__)), "writes")
+CREATE, FILE, INLINE, CTZ, ATTR, DELETE, SOFT, HARD, MOVE = 0x401, 0x001, 0x201, 0x202, 0x374, 0x4FF, 0x600, 0x601, 0x7FF
+
+
+def checksum(data):
+    """The register over the bytes from 0xffffffff, with no final inversion."""
+    return zlib.crc32(data) ^ 0xFFFFFFFF
+
+
+def tag(kind, id, size):
+    return kind << 20 | id << 10 | size
+
+
+def check_size(prog, at):
+    """The least size of 4 or more for which a check tag at `at` ends its commit on a multiple of the program size."""
+    size = 4
+    while (at + 4 + size) % prog:
+        size += 1
+    return size
+
+
+def commit_bytes(prog, at, start, previous, entries):
+    """The stored bytes of a commit whose first byte stands at `at`; `start` is checksummed before it (the revision)."""
+    data = b""
+    for this, body in entries:
+        data += (this ^ previous).to_bytes(4, "big") + body
+        previous = this
+    this = tag(0x500, 1023, check_size(prog, at + len(data)))
+    data += (this ^ previous).to_bytes(4, "big")
+    return data + checksum(start + data).to_bytes(4, "little"), this
+
+
+def block(size, prog, entries, revision=1):
+    """A block with one commit, and its end tag."""
+    start = revision.to_bytes(4, "little")
+    data, last = commit_bytes(prog, 4, start, 0xFFFFFFFF, entries)
+    return (start + data).ljust(size, b"\xff"), end_of(prog, 4 + len(data)), last
+
+
+def end_of(prog, stored):
+    return -(-stored // prog) * prog
+
+
+def entry_tags(entries, data):
+    return [(tag(k, i, n), b"" if n == 1023 else data[o:o + n]) for k, i, o, n in entries]
+
+
+def appended(image, prog, end, last, entries, data, limit):
+    """The image after a commit of `limit` stores (all: None), how many there are, and the end and end tag of the whole."""
+    stored, this = commit_bytes(prog, end, b"", last, entry_tags(entries, data))
+    made = len(stored) if limit is None else min(limit, len(stored))
+    return image[:end] + stored[:made] + image[end + made:], made, end_of(prog, end + len(stored)), this
+
+
+def compacted(size, prog, revision, entries, limit, old):
+    whole, end, this = block(size, prog, entries, revision)
+    stores = 1 + len((revision.to_bytes(4, "little") + commit_bytes(prog, 4, revision.to_bytes(4, "little"), 0xFFFFFFFF, entries)[0]))
+    made = stores if limit is None else min(limit, stores)
+    return (old if made == 0 else whole[:made - 1].ljust(size, b"\xff")), made, end, this
+
+
+def runs(data):
+    """Bytes as text: hex, with runs of eight and more as aa*n."""
+    parts, i = [], 0
+    while i < len(data):
+        j = i
+        while j < len(data) and data[j] == data[i]:
+            j += 1
+        if j - i >= 8:
+            parts.append(f"{data[i]:02x}*{j - i}")
+        else:
+            text = data[i:j].hex()
+            if parts and "*" not in parts[-1]:
+                parts[-1] += text
+            else:
+                parts.append(text)
+        i = j
+    return ",".join(parts) or "-"
+
+
+def entry_text(entries):
+    parts = []
+    for e in entries:
+        if parts and parts[-1][0] == e:
+            parts[-1][1] += 1
+        else:
+            parts.append([e, 1])
+    return ",".join(f"{k:x}:{i}:{o}:{n}*{times}" for (k, i, o, n), times in parts) or "-"
+
+
+CASES, EXPECTED = [], []
+
+
+def case(name, op, size, prog, images, entries, data, answer, after, numbers=(0, 1), count=0, seed=7, limit=None):
+    """`answer` is what is printed behind the name; `after` the two images."""
+    CASES.append(" ".join(map(str, (name, op, size, prog, *numbers, count, seed, "-" if limit is None else limit,
+                                    runs(images[0]), runs(images[1]), entry_text(entries), runs(data)))))
+    EXPECTED.append(f"{name}: {answer} images {zlib.crc32(after[0]):08x} {zlib.crc32(after[1]):08x}")
+
+
+def refused(name, op, size, prog, images, entries, data, number, index=0, **more):
+    case(name, op, size, prog, images, entries, data, f"refused {number} index {index}", images, **more)
+
+
+def accepted_commit(name, size, prog, base, entries, data, count, limit=None):
+    first, end, last = block(size, prog, base)
+    erased = b"\xff" * size
+    after, made, stop, this = appended(first, prog, end, last, entries, data, limit)
+    answer = f"made {made}" if limit is not None else f"end {stop} tag {this:08x} count {count} rev 1"
+    case(name, "commit", size, prog, (first, erased), entries, data, answer, (after, erased), limit=limit)
+
+
+def accepted_compaction(name, size, prog, base, held, count, limit=None, revision=1, extra=()):
+    """`base` and then `extra` are in the log; `held` is what document 01 lays down of them."""
+    first, end, last = block(size, prog, base, revision)
+    if extra:
+        first, _, end, last = appended(first, prog, end, last, list(extra), b"", None)
+    old = b"\x55" * size
+    new, made, stop, this = compacted(size, prog, (revision + 1) % 2 ** 32, held, limit, old)
+    answer = f"made {made}" if limit is not None else f"end {stop} tag {this:08x} count {count} rev {(revision + 1) % 2 ** 32}"
+    case(name, "compact", size, prog, (first, old), [], b"", answer, (first, new), limit=limit)
+
+
+def coincidence(prog, end, start, last, entries):
+    """An attribute of slot 0 whose four bytes make the checksum behind the check tag's first byte, filled with 0xff, 0xffffffff. The checksum
+    is linear in the four bytes, so one solves 32 equations in 32 unknowns."""
+    def after(value):
+        body = value.to_bytes(4, "little")
+        word = b""
+        previous = last
+        for this, data in entries + [(tag(ATTR, 0, 4), body)]:
+            word += (this ^ previous).to_bytes(4, "big") + data
+            previous = this
+        check = tag(0x500, 1023, check_size(prog, end + len(word))) ^ previous
+        return checksum(start + word + check.to_bytes(4, "big")[:1] + b"\xff" * 3)
+
+    zero, rows = after(0), []
+    for bit in range(32):
+        rows.append((after(1 << bit) ^ zero, 1 << bit))
+    wanted, solution = 0xFFFFFFFF ^ zero, 0
+    basis = {}
+    for effect, bits in rows:
+        while effect:
+            top = effect.bit_length()
+            if top not in basis:
+                basis[top] = (effect, bits)
+                break
+            effect, bits = effect ^ basis[top][0], bits ^ basis[top][1]
+    while wanted:
+        effect, bits = basis[wanted.bit_length()]
+        wanted, solution = wanted ^ effect, solution ^ bits
+    assert after(solution) == 0xFFFFFFFF
+    return solution.to_bytes(4, "little")
+
+
+SLOT = [(tag(CREATE, 0, 0), b""), (tag(FILE, 0, 4), b"q212"), (tag(INLINE, 0, 3), b"abc"), (tag(ATTR, 0, 4), b"\x90\x5f\x01\x00")]
+DEADLINE = [(ATTR, 0, 0, 4)]
+SECONDS = b"\x10\x0e\x00\x00"
+
+# ---- commits, at program sizes 4, 16, 255 and 512
+for size, prog in ((128, 4), (128, 16), (765, 255), (1024, 512)):
+    accepted_commit(f"commit-prog-{prog}", size, prog, SLOT, DEADLINE, SECONDS, 1)
+    accepted_commit(f"commit-prog-{prog}-nothing", size, prog, SLOT, [], b"", 1)
+    for limit in (0, 1, 5, 1000):
+        accepted_commit(f"commit-prog-{prog}-stores-{limit}", size, prog, SLOT, DEADLINE, SECONDS, 1, limit)
+# a slot with its payload and its deadline in one commit, and slot 0 deleted
+both = [(CREATE, 1, 0, 0), (FILE, 1, 0, 2), (INLINE, 1, 2, 3), (ATTR, 1, 0, 1023), (ATTR, 1, 5, 4), (DELETE, 0, 9, 0)]
+accepted_commit("commit-a-slot", 256, 16, SLOT, both, b"xyabc\x01\x02\x03\x04", 1)
+# the log ends at 48 and the check takes 8: an inline struct of 68 ends at 128, of 69 at 144
+image, end, last = block(128, 16, SLOT)
+erased = b"\xff" * 128
+accepted_commit("commit-ends-at-the-block", 128, 16, SLOT, [(INLINE, 0, 0, 68)], b"p" * 69, 1)
+refused("commit-a-unit-past", "commit", 128, 16, (image, erased), [(INLINE, 0, 0, 69)], b"p" * 69, -28)
+# 16 + 4 * 8,186 + 8 = 32,768
+many = block(32768, 4, [(tag(CREATE, 0, 0), b"")])
+accepted_commit("commit-8186-entries", 32768, 4, SLOT[:1], [(ATTR, 0, 0, 0)] * 8186, b"", 1)
+refused("commit-8187-entries", "commit", 32768, 4, (many[0], b"\xff" * 32768), [(ATTR, 0, 0, 0)] * 8187, b"", -28)
+refused("commit-8192-entries", "commit", 32768, 4, (many[0], b"\xff" * 32768), [(ATTR, 0, 0, 0)] * 8192, b"", -28)
+refused("commit-8193-entries", "commit", 32768, 4, (many[0], b"\xff" * 32768), [(ATTR, 0, 0, 0)] * 8193, b"", -22)
+refused("commit-65536-bytes-bad-entry", "commit", 128, 16, (image, erased), [(0x400, 0, 0, 0)], b"\0" * 65536, -201)
+refused("commit-65537-bytes", "commit", 128, 16, (image, erased), [(0x400, 0, 0, 0)], b"\0" * 65537, -22)
+# each refusal
+refused("commit-equal-numbers", "commit", 128, 16, (image, erased), DEADLINE, SECONDS, -22, numbers=(3, 3))
+refused("commit-of-nothing-valid", "commit", 128, 16, (erased, erased), DEADLINE, SECONDS, -84)
+crowded = block(128, 16, [(tag(FILE, 1023, 1), b"a")])[0]
+refused("commit-count-1024", "commit", 128, 16, (crowded, erased), DEADLINE, SECONDS, -2)
+irregular = block(128, 16, [(tag(FILE, 5, 1), b"a")])[0]
+refused("commit-irregular-and-bad", "commit", 128, 16, (irregular, erased), [(0x400, 0, 0, 0)], b"", -202)
+refused("commit-second-bad", "commit", 128, 16, (image, erased), [(CREATE, 1, 0, 0), (FILE, 1, 1, 4)], SECONDS, -201, 1)
+refused("commit-empty-data-past-the-buffer", "commit", 128, 16, (image, erased), [(CREATE, 1, 5, 0)], SECONDS, -201, 0)
+refused("commit-bad-before-no-space", "commit", 128, 16, (image, erased), [(INLINE, 0, 0, 100), (FILE, 7, 0, 1)], b"p" * 100, -201, 1)
+unclean = image[:127] + b"\x00"
+refused("commit-unclean", "commit", 128, 16, (unclean, erased), DEADLINE, SECONDS, -203)
+refused("commit-no-space-before-unclean", "commit", 128, 16, (unclean, erased), [(INLINE, 0, 0, 69)], b"p" * 69, -28)
+# the old end is 48, no multiple of 32
+refused("commit-end-unaligned", "commit", 128, 32, (image, erased), DEADLINE, SECONDS, -203)
+refused("commit-coincidence", "commit", 128, 16, (image, erased), DEADLINE, coincidence(16, end, b"", last, []), -204)
+refused("commit-coincidence-limited", "commit", 128, 16, (image, erased), DEADLINE, coincidence(16, end, b"", last, []), -204, limit=3)
+
+# ---- compactions
+for size, prog in ((128, 4), (128, 16), (765, 255), (1024, 512)):
+    accepted_compaction(f"compact-prog-{prog}", size, prog, SLOT, SLOT, 1)
+    for limit in (0, 1, 5, 1000):
+        accepted_compaction(f"compact-prog-{prog}-stores-{limit}", size, prog, SLOT, SLOT, 1, limit)
+accepted_compaction("compact-nothing", 128, 16, [], [], 0)
+accepted_compaction("compact-revision-wraps", 128, 16, SLOT, SLOT, 1, revision=0xFFFFFFFF)
+# attributes by rising type, the newest of each, removals and deleted slots gone; then tail and move state
+tail, move = (tag(HARD, 1023, 8), bytes(range(8))), (tag(MOVE, 1023, 12), bytes(range(12)))
+mixed = [move, (tag(CREATE, 0, 0), b""), (tag(CREATE, 1, 0), b""), (tag(0x301, 1, 1), b"b"), (tag(0x300, 1, 1), b"a"), (tag(0x301, 1, 2), b"cc"),
+         (tag(0x302, 1, 1), b"d"), (tag(0x302, 1, 1023), b""), (tag(FILE, 1, 1), b"n"), (tag(FILE, 0, 1), b"m"), (tag(DELETE, 0, 0), b""), tail]
+held = [(tag(CREATE, 0, 0), b""), (tag(FILE, 0, 1), b"n"), (tag(0x300, 0, 1), b"a"), (tag(0x301, 0, 2), b"cc"), tail, move]
+accepted_compaction("compact-mixed", 256, 16, mixed, held, 1)
+# a soft tail of two 0xffffffff is none
+accepted_compaction("compact-no-tail", 128, 16, SLOT + [(tag(SOFT, 1023, 8), b"\xff" * 8)], SLOT, 1)
+refused("compact-equal-numbers", "compact", 128, 16, (image, erased), [], b"", -22, numbers=(3, 3))
+refused("compact-of-nothing-valid", "compact", 128, 16, (erased, erased), [], b"", -84)
+refused("compact-irregular", "compact", 128, 16, (irregular, erased), [], b"", -202)
+refused("compact-count-1024", "compact", 128, 16, (crowded, erased), [], b"", -2)
+deadline = coincidence(16, 4, (2).to_bytes(4, "little"), 0xFFFFFFFF, SLOT[:3])
+fatal = block(128, 16, SLOT[:3] + [(tag(ATTR, 0, 4), deadline)])[0]
+refused("compact-coincidence", "compact", 128, 16, (fatal, erased), [], b"", -204)
+# an old end that is no multiple of the program size, and room that is not clean, are no matter here
+new, _, stop, this = compacted(128, 32, 2, SLOT, None, erased)
+case("compact-unaligned-unclean", "compact", 128, 32, (unclean, erased), [], b"", f"end {stop} tag {this:08x} count 1 rev 2", (unclean, new))
+
+os.makedirs(HERE, exist_ok=True)
+for name, lines in (("cases", CASES), ("expected", EXPECTED)):
+    with open(os.path.join(HERE, name), "w") as f:
+        f.write("\n".join(lines) + "\n")
+print(f"{len(CASES)} cases")

@@ -1,0 +1,94 @@
+/* Makes the commits and compactions of samples/writes/cases and prints what each answers and leaves, one line a case, as samples/writes/expected
+ * has it (samples/make_writes.py says how a case is written). Usage: write_test FILE. */
+#include "lanolin.h"
+
+#include <stdio.h>
+#include <stdlib.h>
+#include <string.h>
+
+enum { MOST_BYTES = 65537, MOST_ENTRIES = 8193, MOST_LINE = 200000 };
+static uint8_t b0[MOST_BYTES], b1[MOST_BYTES], data[MOST_BYTES];
+static lanolin_entry entries[MOST_ENTRIES];
+
+static void broken(const char *what) {
+    fprintf(stderr, "write_test: not a case: %s\n", what);
+    exit(2);
+}
+
+/* Runs of hex, aa*9 for aa nine times, joined by commas. */
+static size_t bytes_of(char *text, uint8_t *out) {
+    size_t n = 0;
+    if (!strcmp(text, "-")) return 0;
+    for (char *part = strtok(text, ","); part; part = strtok(NULL, ",")) {
+        char *times = strchr(part, '*');
+        unsigned value;
+        if (times && sscanf(part, "%2x", &value) == 1) {
+            size_t count = strtoul(times + 1, NULL, 10);
+            if (count > MOST_BYTES - n) broken("too many bytes");
+            memset(out + n, (int)value, count);
+            n += count;
+            continue;
+        }
+        for (; *part; part += 2) {
+            if (n == MOST_BYTES || sscanf(part, "%2x", &value) != 1 || !part[1]) broken("bytes");
+            out[n++] = (uint8_t)value;
+        }
+    }
+    return n;
+}
+
+static size_t entries_of(char *text) {
+    size_t n = 0;
+    if (!strcmp(text, "-")) return 0;
+    for (char *part = strtok(text, ","); part; part = strtok(NULL, ",")) {
+        unsigned type, id, off, len, times;
+        if (sscanf(part, "%x:%u:%u:%u*%u", &type, &id, &off, &len, &times) != 5 || times > MOST_ENTRIES - n) broken("entries");
+        while (times--) entries[n++] = (lanolin_entry){(uint16_t)type, (uint16_t)id, off, len};
+    }
+    return n;
+}
+
+/* The published CRC-32 of an image: the register of lanolin_crc from 0xffffffff, inverted. */
+static uint32_t sum(const uint8_t *image, size_t n) {
+    return ~lanolin_crc(0xffffffff, image, n);
+}
+
+static void run(char *line) {
+    char *field[13];
+    for (int i = 0; i < 13; i++) {
+        field[i] = line;
+        line = strchr(line, i < 12 ? ' ' : '\n');
+        if (!line) broken("too few fields");
+        *line++ = 0;
+    }
+    lanolin_geometry g = {(uint32_t)atol(field[2]), (uint32_t)atol(field[3])};
+    uint32_t n0 = (uint32_t)atol(field[4]), n1 = (uint32_t)atol(field[5]), count = (uint32_t)atol(field[6]), seed = (uint32_t)atol(field[7]);
+    size_t l0 = bytes_of(field[9], b0), l1 = bytes_of(field[10], b1), e = entries_of(field[11]), d = bytes_of(field[12], data);
+    int commit = !strcmp(field[1], "commit"), limited = strcmp(field[8], "-");
+    printf("%s: ", field[0]);
+    if (limited) {
+        uint32_t limit = (uint32_t)atol(field[8]);
+        lanolin_stored s = commit ? lanolin_commit_stores(g, b0, l0, b1, l1, n0, n1, count, seed, entries, e, data, d, limit)
+                                  : lanolin_compact_stores(g, b0, l0, b1, l1, n0, n1, count, seed, limit);
+        if (s.result == 0) printf("made %u", s.stores);
+        else printf("refused %d index %u", s.result, s.index);
+    } else {
+        lanolin_committed c = commit ? lanolin_commit(g, b0, l0, b1, l1, n0, n1, count, seed, entries, e, data, d)
+                                     : lanolin_compact(g, b0, l0, b1, l1, n0, n1, count, seed);
+        if (c.result == 0) printf("end %u tag %08x count %u rev %u", c.dir.off, c.dir.etag, c.dir.count, c.dir.rev);
+        else printf("refused %d index %u", c.result, c.index);
+    }
+    printf(" images %08x %08x\n", sum(b0, l0), sum(b1, l1));
+}
+
+int main(int argc, char **argv) {
+    static char line[MOST_LINE];
+    FILE *file = argc == 2 ? fopen(argv[1], "r") : NULL;
+    if (!file) {
+        fprintf(stderr, "usage: write_test FILE\nFILE has the cases, as samples/writes/cases\n");
+        return 2;
+    }
+    while (fgets(line, sizeof line, file)) run(line);
+    fclose(file);
+    return 0;
+}
