@@ -112,6 +112,21 @@ fn find_port(root: &Path) {
     println!("cargo::rerun-if-changed={}", archive.display());
     println!("cargo::rustc-link-search=native={}", given.display());
     println!("cargo::rustc-link-lib=static=lanolin");
+    find_writing(&archive);
+}
+
+/// Sets a cfg for each of the two calls that write, if the archive has it with
+/// and without a limit. An archive keeps the names of its calls as text.
+fn find_writing(archive: &Path) {
+    let bytes = fs::read(archive).expect("the archive is read");
+    for call in ["lanolin_commit", "lanolin_compact"] {
+        println!("cargo::rustc-check-cfg=cfg({call})");
+        let limited = format!("{call}_stores");
+        let there = |name: &[u8]| bytes.windows(name.len()).any(|part| part == name);
+        if there(limited.as_bytes()) {
+            println!("cargo::rustc-cfg={call}");
+        }
+    }
 }
 
 /// The directory that an environment variable names, else the default. It is

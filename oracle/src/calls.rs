@@ -1,11 +1,13 @@
-//! The five calls on a pair of blocks, as values: what goes in, what comes out,
-//! and who can be asked.
+//! The five calls that read a pair of blocks, as values: what goes in, what comes
+//! out, and who can be asked. Those that write are in `write`.
 //!
 //! The structs with `repr(C)` are those of `include/lanolin.h`. The two marks of
 //! a record are bytes here, not `bool`: any byte that the archive hands back is
 //! then a value that can be compared, and one that is neither 0 nor 1 is seen.
 //!
 //! Assumes nothing.
+
+pub mod write;
 
 use std::fmt::{self, Debug, Formatter};
 

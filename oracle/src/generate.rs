@@ -17,9 +17,11 @@ mod pairs;
 mod shapes;
 mod sizes;
 
-pub use edges::{broken, Edge};
+pub use edges::{broken, broken_blocks, Edge};
 pub use log::Log;
 pub use lookups::{tags_in, Asked};
+pub use pairs::finish;
+pub use sizes::geometry;
 
 use crate::calls::{Blocks, Fetch, Geometry};
 use crate::random::Random;

@@ -39,6 +39,8 @@ pub mod device;
 #[cfg(lfs_rust)]
 pub mod dirs;
 pub mod generate;
+#[cfg(lfs_rust)]
+pub mod histories;
 pub mod inputs;
 #[cfg(lfs_rust)]
 pub mod leaves;

@@ -8,11 +8,11 @@
 
 use std::process::ExitCode;
 
-const USAGE: &str = "usage: oracle | oracle teeth | oracle record FILE N
-Compares the port with the unchanged Rust. `teeth` instead runs every fault of
-the second implementation through the comparison, and `record` writes N inputs
-with the Rust's answers to a file. What is compared is fixed when the program is
-built, by LFS_RUST_SRC and LANOLIN_LIB.";
+const USAGE: &str = "usage: oracle | oracle histories [stand-in] | oracle teeth | oracle record FILE N
+Compares the port with the unchanged Rust. `histories` compares writing alone, of
+the port or, with `stand-in`, of the second implementation; `teeth` instead runs every fault of the second implementation through the
+comparison, and `record` writes N inputs with the Rust's answers to a file. What
+is compared is fixed when the program is built, by LFS_RUST_SRC and LANOLIN_LIB.";
 
 fn main() -> ExitCode {
     let arguments: Vec<String> = std::env::args_os()
@@ -22,6 +22,8 @@ fn main() -> ExitCode {
     let words: Vec<&str> = arguments.iter().map(String::as_str).collect();
     match words[..] {
         [] => compare(),
+        ["histories"] => histories(false),
+        ["histories", "stand-in"] => histories(true),
         ["teeth"] => teeth(),
         ["record", file, number] => match number.parse() {
             Ok(number) => record(file, number),
@@ -39,6 +41,11 @@ fn wrong(why: &str) -> ExitCode {
 
 #[cfg(not(lfs_rust))]
 fn compare() -> ExitCode {
+    skip()
+}
+
+#[cfg(not(lfs_rust))]
+fn histories(_stand_in: bool) -> ExitCode {
     skip()
 }
 
@@ -74,8 +81,52 @@ fn compare() -> ExitCode {
         subject.print();
         totals.add(subject.totals());
     }
+    for subject in writing() {
+        subject.print();
+        totals.add(subject.totals());
+    }
     println!("time: {:.2} s", start.elapsed().as_secs_f64());
     conclude(totals)
+}
+
+/// Writing alone; with `stand-in`, that of the second implementation, to try it
+/// against what the Rust reads.
+#[cfg(lfs_rust)]
+fn histories(stand_in: bool) -> ExitCode {
+    use oracle::tally::Totals;
+
+    println!("Writing, and what the unchanged Rust reads of it.");
+    let start = std::time::Instant::now();
+    let mut totals = Totals::default();
+    let subjects = match stand_in {
+        true => {
+            println!("NOT THE PORT: the second implementation stands in for it.");
+            oracle::histories::compare(&oracle::model::FAULTLESS_WRITER)
+        }
+        false => writing(),
+    };
+    for subject in subjects {
+        subject.print();
+        totals.add(subject.totals());
+    }
+    println!("time: {:.2} s", start.elapsed().as_secs_f64());
+    conclude(totals)
+}
+
+/// The histories. What the archive lacks is said, and nothing counts for it.
+#[cfg(lfs_rust)]
+fn writing() -> Vec<oracle::tally::Subject> {
+    let calls = [
+        ("lanolin_commit", cfg!(lanolin_commit)),
+        ("lanolin_compact", cfg!(lanolin_compact)),
+    ];
+    for (call, _) in calls.iter().filter(|(_, there)| !there) {
+        println!("SKIPPED: the archive has no {call}, and nothing was compared with it.");
+    }
+    match calls.iter().any(|(_, there)| *there) {
+        true => oracle::histories::compare(&oracle::port::Port),
+        false => Vec::new(),
+    }
 }
 
 /// The last lines. In the very last the count has plain digits, for scripts.

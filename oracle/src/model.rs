@@ -1,26 +1,41 @@
-//! A second implementation of fetch and lookups, written from document 01 and
-//! not from the Rust: a third voice beside the port and the Rust, and the one
-//! that decides where document 01 leaves the Rust (what it marks Ours).
+//! A second implementation of fetch, lookups and the added writer, written from
+//! document 01 and not from the Rust: a third voice beside the port and the Rust,
+//! and the one that decides where document 01 leaves the Rust (what it marks
+//! Ours) and where there is no Rust (the writer).
 //!
-//! It can be given a `Fault`, a change in one place. `oracle teeth` runs each
-//! one through the comparison, to show that the comparison sees it.
+//! It can be given a `Fault` or a `WriteFault`, a change in one place. `oracle
+//! teeth` runs each one through the comparison, to show that it is seen.
 //!
 //! Assumes nothing, and never panics, also with a fault: a slice is read by
 //! `get`, never by an index.
 
 mod bytes;
+mod committed;
+mod compact;
+mod directory;
 mod erased;
 mod fault;
 mod fetch;
 mod info;
+mod lay;
 mod lookup;
+mod rules;
 mod sizes;
+mod stores;
 mod tag;
 mod walk;
+mod write_fault;
+mod writer;
 
 pub use bytes::{be32, crc, le32, ONES};
+pub use committed::{log_of, regular};
+pub use directory::{Directory, Slot, Typed};
+pub use lay::Laid;
+pub use rules::{Rules, Whose};
 pub use fault::{Fault, Seen, FAULTS};
 pub use tag::*;
+pub use write_fault::{WriteFault, WRITE_FAULTS};
+pub use writer::{bytes_of, Plan, Writer, FAULTLESS_WRITER};
 
 use crate::calls::{Fetch, Fetched, Got, Gstate, Info, Lookup, Query, Voice};
 

@@ -1,5 +1,6 @@
 //! The port: every call of `liblanolin.a`, each with a safe wrapper. The leaves
-//! are here, the calls on a pair of blocks in `dir`.
+//! are here, the calls that read a pair of blocks in `dir`, those that
+//! write one in `write`.
 //!
 //! The shapes are those of `include/lanolin.h`. A wrapper adds nothing: it
 //! passes a slice as a pointer and a count, and hands back what the call
@@ -9,6 +10,7 @@
 //! Assumes that the archive keeps to those shapes: the linker sees names only.
 
 mod dir;
+mod write;
 
 pub use crate::calls::Gstate;
 pub use dir::Port;

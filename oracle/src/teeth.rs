@@ -2,9 +2,12 @@
 //! through it, on the same inputs in the same order, until it is seen.
 //!
 //! A fault that the Rust decides must be seen against the Rust; one that is
-//! Ours, against the second implementation without a fault.
+//! Ours, against the second implementation without a fault. The writer's faults
+//! are in `writing`.
 //!
 //! Assumes nothing.
+
+mod writing;
 
 use crate::calls::Voice;
 use crate::device::Rust;
@@ -52,8 +55,10 @@ pub fn bite() -> bool {
         println!("  {:<58}{}", tried.text, said(tried));
     }
     let caught = tried.iter().filter(|tried| tried.caught.is_some()).count();
-    println!("teeth: {caught} of {} faults caught", tried.len());
-    caught == tried.len()
+    let (caught_writing, writing) = writing::bite();
+    let (caught, all) = (caught + caught_writing, tried.len() + writing);
+    println!("teeth: {caught} of {all} faults caught");
+    caught == all
 }
 
 fn said(tried: &Tried) -> String {

@@ -84,6 +84,29 @@ pub fn broken(random: &mut Random, case: &Case, edge: &Edge) -> (Case, Edge) {
     (case, edge)
 }
 
+/// Breaks sizes, lengths or numbers of the blocks alone, or puts them just
+/// inside their bounds.
+pub fn broken_blocks(random: &mut Random, case: &Case) -> Case {
+    let mut case = case.clone();
+    let mut edge = Edge {
+        dir: Mdir::default(),
+        query: Query {
+            mask: 0,
+            key: 0,
+            offset: 0,
+        },
+        buffer: 0,
+        name_max: 1,
+        id: 0,
+    };
+    match random.below(3) {
+        0 => sizes(random, &mut case),
+        1 => lengths(random, &mut case),
+        _ => numbers(random, &mut case, &mut edge),
+    }
+    case
+}
+
 fn sizes(random: &mut Random, case: &mut Case) {
     let (block_size, prog_size) = SIZES[random.below(SIZES.len())];
     case.geometry.block_size = block_size;

@@ -1,4 +1,4 @@
-//! The port's five calls on a pair of blocks.
+//! The port's five calls that read a pair of blocks.
 //!
 //! An image or a buffer passes as a pointer and a count. An empty one passes as
 //! a null pointer, which the layer allows with count 0.
@@ -82,14 +82,14 @@ extern "C" {
 /// The port, to be asked as the second implementation is.
 pub struct Port;
 
-fn start_of(bytes: &[u8]) -> *const u8 {
+pub(super) fn start_of(bytes: &[u8]) -> *const u8 {
     match bytes {
         [] => ptr::null(),
         _ => bytes.as_ptr(),
     }
 }
 
-fn start_of_mut(bytes: &mut [u8]) -> *mut u8 {
+pub(super) fn start_of_mut(bytes: &mut [u8]) -> *mut u8 {
     match bytes {
         [] => ptr::null_mut(),
         _ => bytes.as_mut_ptr(),

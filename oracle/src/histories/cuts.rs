@@ -1,0 +1,86 @@
+//! Calls with a limit of stores: a cut at any place, and every cut of a call.
+//!
+//! Assumes nothing.
+
+use super::ask::{fetched, task, After, Outcome, Step};
+use super::history::{read, History};
+use crate::calls::write::Work;
+use crate::model::FAULTLESS_WRITER;
+
+impl History<'_> {
+    /// One call with a limit; the images afterwards, and the stores made.
+    pub(super) fn limited(&mut self, kind: &'static str, work: Work, limit: u32) -> [Vec<u8>; 2] {
+        let task = task(&self.case, work, Some(limit));
+        let truth = Outcome::of(&FAULTLESS_WRITER, &task, &self.case.images);
+        let images = truth.images();
+        let after = match truth.answer.result() {
+            0 => {
+                let whole = super::ask::task(&self.case, work, None);
+                let whole = Outcome::of(&FAULTLESS_WRITER, &whole, &self.case.images).images();
+                After::Cut {
+                    old: self.fetched(),
+                    new: fetched(&self.case, &whole),
+                    finished: images == whole,
+                }
+            }
+            _ => After::Refused,
+        };
+        (self.tell)(&Step {
+            kind,
+            task,
+            case: &self.case,
+            truth: &truth,
+            after,
+            types: &self.habits.types,
+        });
+        images
+    }
+
+    /// A call cut short; the history goes on from what is left.
+    pub(super) fn cut(&mut self) {
+        let list = self.list();
+        let work = match self.random.below(3) {
+            0 => Work::Compact,
+            _ => Work::Commit {
+                entries: &list.entries,
+                data: &list.data,
+            },
+        };
+        let length = self.stores(work);
+        let limit = match self.random.below(5) {
+            0 => self.random.below(4),
+            1 => length.saturating_sub(self.random.below(9)),
+            2 => length + self.random.below(3),
+            _ => self.random.below(length + 1),
+        };
+        let images = self.limited("cut, and gone on from", work, limit as u32);
+        self.case.images = images;
+        self.directory = read(&self.case);
+    }
+
+    /// How many stores a call makes, or 0 if it is refused.
+    pub(super) fn stores(&self, work: Work) -> usize {
+        let task = task(&self.case, work, None);
+        let images = [&self.case.images[0][..], &self.case.images[1][..]];
+        match FAULTLESS_WRITER.plan(&task, images) {
+            Ok(plan) => plan.laid.bytes.len() + usize::from(plan.erase),
+            Err(_) => 0,
+        }
+    }
+
+    /// Every cut of one call, each from the same images.
+    pub(super) fn every_cut(&mut self) {
+        let list = self.list();
+        let work = match self.random.below(3) {
+            0 => Work::Compact,
+            _ => Work::Commit {
+                entries: &list.entries,
+                data: &list.data,
+            },
+        };
+        let length = self.stores(work).min(120);
+        for limit in (0..=length as u32 + 1).chain([u32::MAX]) {
+            self.limited("every cut of a call", work, limit);
+        }
+    }
+}

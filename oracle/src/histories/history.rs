@@ -1,0 +1,248 @@
+//! One history: a pair, and calls on it one after the other.
+//!
+//! The second implementation's answers drive it, so that every voice is asked
+//! the same; a simple directory machine goes along, fed from the lists alone.
+//!
+//! Assumes that the second implementation is right: what differs from it, or
+//! what the Rust reads otherwise, is a difference.
+
+use super::ask::{fetched, task, After, Outcome, Step};
+use super::lists::{self, Habits, List};
+use super::start;
+use crate::calls::write::{Entry, Work, NO_SPACE, UNCLEAN};
+use crate::calls::{Fetched, Mdir};
+use crate::generate::{self, Case, Sizes};
+use crate::model::*;
+use crate::random::Random;
+
+/// Who is told of each step.
+pub type Tell<'a> = &'a mut dyn FnMut(&Step);
+
+pub struct History<'a> {
+    pub(super) random: Random,
+    pub(super) case: Case,
+    pub(super) habits: Habits,
+    pub(super) directory: Directory,
+    /// The last answer asked for a compaction.
+    stuck: bool,
+    pub(super) tell: Tell<'a>,
+}
+
+/// Every history by its number.
+pub fn run(number: u64, steps: usize, tell: Tell) {
+    let mut random = Random::new(number.wrapping_mul(0x2545_f491_4f6c_dd1d) ^ 0x3c1);
+    let geometry = start::geometry(&mut random);
+    let habits = habits(&mut random, geometry.block_size);
+    let case = start::case(&mut random, geometry, &habits);
+    let steps = match (case.kind, geometry.block_size) {
+        ("irregular", _) => steps.min(6),
+        (_, 0..=2048) => steps,
+        _ => steps.min(12),
+    };
+    let mut history = History {
+        directory: read(&case),
+        random,
+        case,
+        habits,
+        stuck: false,
+        tell,
+    };
+    history.starts();
+    for _ in 0..steps {
+        history.step();
+    }
+}
+
+fn habits(random: &mut Random, block_size: u32) -> Habits {
+    const TYPES: [u32; 6] = [0x374, 0x300, 0x3ff, 0x301, 0x380, 0x37f];
+    let first = random.below(TYPES.len());
+    let number = 1 + random.below(3);
+    Habits {
+        types: (first..first + number).map(|i| TYPES[i % 6]).collect(),
+        crowd: 1 + block_size / 80,
+        longest: [4, 6, 12, 40][random.below(4)],
+    }
+}
+
+/// The directory that stands in a pair; an empty one where nothing is fetched.
+pub(super) fn read(case: &Case) -> Directory {
+    let fetched = fetched(case, &case.images);
+    let which = usize::from(fetched.dir.pair[0] == case.numbers[1]);
+    Directory::of(&log_of(&case.images[which], fetched.dir.off as usize))
+}
+
+impl History<'_> {
+    fn record(&self) -> Mdir {
+        self.fetched().dir
+    }
+
+    pub(super) fn fetched(&self) -> Fetched {
+        fetched(&self.case, &self.case.images)
+    }
+
+    fn step(&mut self) {
+        if self.stuck && self.random.below(4) > 0 {
+            self.stuck = false;
+            return self.compact("compaction of a full or unclean block");
+        }
+        match self.random.below(100) {
+            0..43 => self.good(),
+            43..54 => self.doubtful(),
+            54..64 => self.filled(),
+            64..74 => self.compact("compaction"),
+            74..82 => self.cut(),
+            82..84 => self.every_cut(),
+            84..90 => self.coincidence(),
+            90..92 => self.coincident_compaction(),
+            92..95 => self.early(),
+            95..98 => self.dirt(),
+            _ => self.elsewhere(),
+        }
+    }
+
+    /// One whole commit; if accepted, the history goes on from there.
+    pub(super) fn commit(&mut self, kind: &'static str, list: &List) -> i32 {
+        let work = Work::Commit {
+            entries: &list.entries,
+            data: &list.data,
+        };
+        // The call with a limit has the same refusals.
+        if self.random.below(8) == 0 {
+            let limit = self.random.below(80) as u32;
+            self.limited(kind, work, limit);
+        }
+        let mut directory = self.directory.clone();
+        for entry in &list.entries {
+            take(&mut directory, entry, &list.data);
+        }
+        let result = self.whole(kind, work, directory);
+        self.stuck = matches!(result, NO_SPACE | UNCLEAN);
+        result
+    }
+
+    pub(super) fn compact(&mut self, kind: &'static str) {
+        self.whole(kind, Work::Compact, self.directory.clone());
+    }
+
+    fn whole(&mut self, kind: &'static str, work: Work, directory: Directory) -> i32 {
+        let task = task(&self.case, work, None);
+        let truth = Outcome::of(&FAULTLESS_WRITER, &task, &self.case.images);
+        let result = truth.answer.result();
+        (self.tell)(&Step {
+            kind,
+            task,
+            case: &self.case,
+            truth: &truth,
+            after: match result {
+                0 => After::Finished(&directory),
+                _ => After::Refused,
+            },
+            types: &self.habits.types,
+        });
+        if result == 0 {
+            self.directory = directory;
+            self.case.images = truth.images();
+        }
+        result
+    }
+
+    pub(super) fn list(&mut self) -> List {
+        self.list_and_count().0
+    }
+
+    /// A good list, and the count behind it.
+    fn list_and_count(&mut self) -> (List, u32) {
+        let count = self.record().count.into();
+        lists::good(&mut self.random, &self.habits, count)
+    }
+
+    fn good(&mut self) {
+        let list = self.list();
+        self.commit("good entries", &list);
+    }
+
+    /// Good entries around one that is bad, or just not.
+    fn doubtful(&mut self) {
+        let (mut list, count) = self.list_and_count();
+        match self.random.below(3) {
+            0 => lists::misplaced(&mut self.random, &mut list),
+            _ => lists::doubtful(&mut self.random, &mut list, count),
+        }
+        if self.random.below(3) == 0 {
+            lists::doubtful(&mut self.random, &mut list, count);
+        }
+        self.commit("doubtful entries", &list);
+    }
+
+    /// Entries that end at the block's end, or a few bytes before or past it.
+    fn filled(&mut self) {
+        let (mut list, count) = self.list_and_count();
+        let room = self.case.geometry.block_size as isize - self.record().off as isize;
+        let short = self.random.below(6) as isize - 2;
+        let size = room - list.length() as isize - 12 - short;
+        let slot = match count {
+            0 => None,
+            _ => Some(self.random.below(count as usize) as u32),
+        };
+        lists::fill(&mut self.random, &self.habits, &mut list, slot, size);
+        self.commit("entries that fill the block", &list);
+    }
+
+    /// A byte behind the end that is not clean: near, far or the last.
+    fn dirt(&mut self) {
+        let record = self.record();
+        let which = usize::from(record.pair[0] == self.case.numbers[1]);
+        let image = &mut self.case.images[which];
+        let room = image.len().saturating_sub(record.off as usize);
+        if room == 0 {
+            return;
+        }
+        let place = [0, room - 1, self.random.below(room)][self.random.below(3)];
+        image[record.off as usize + place] &= !(1 << self.random.below(8));
+        self.directory = read(&self.case);
+        self.good();
+    }
+
+    /// A call on other inputs: any generated pair, or sizes at their bounds. The
+    /// history stays where it is.
+    fn elsewhere(&mut self) {
+        let kept = (self.case.clone(), self.directory.clone());
+        self.case = match self.random.below(5) {
+            0 => start::irregular_and_coincident(&mut self.random).unwrap_or(kept.0.clone()),
+            1..3 => generate::case(self.random.word().into(), Sizes::Small).0,
+            _ => generate::broken_blocks(&mut self.random, &self.case),
+        };
+        self.directory = read(&self.case);
+        let mut list = self.list();
+        if self.random.below(8) == 0 {
+            list.data.resize(65_537, 0);
+        }
+        match self.random.below(3) {
+            0 => self.compact("elsewhere"),
+            1 => {
+                self.commit("elsewhere", &list);
+            }
+            _ => {
+                let limit = self.random.below(40) as u32;
+                self.limited("elsewhere", Work::Compact, limit);
+            }
+        }
+        (self.case, self.directory) = kept;
+    }
+
+    /// What some histories begin with: very many entries, long data.
+    fn starts(&mut self) {
+        match self.random.below(200) {
+            0 => self.long_list(),
+            1 => self.long_data(),
+            2 => self.many_slots(),
+            _ => {}
+        }
+    }
+}
+
+fn take(directory: &mut Directory, entry: &Entry, data: &[u8]) {
+    let removal = entry.len == REMOVAL;
+    let bytes = bytes_of(entry, data).filter(|_| !removal);
+    directory.take(entry.type_.into(), entry.id.into(), bytes);
+}

@@ -1,0 +1,213 @@
+//! The pairs that histories start from.
+//!
+//! Assumes nothing.
+
+use super::ask;
+use super::lists::{self, Habits, List};
+use super::solve::{solve, Goal};
+use crate::calls::write::Work;
+use crate::calls::Geometry;
+use crate::generate::{self, Case, Log, Sizes};
+use crate::model::*;
+use crate::random::Random;
+
+/// Small blocks, with each program size that a rule could trip over.
+const SMALL: [(u32, u32); 16] = [
+    (128, 4),
+    (128, 4),
+    (128, 16),
+    (130, 5),
+    (132, 12),
+    (200, 8),
+    (256, 4),
+    (256, 16),
+    (256, 64),
+    (384, 128),
+    (510, 255),
+    (512, 16),
+    (765, 255),
+    (765, 255),
+    (1024, 16),
+    (1536, 512),
+];
+
+pub fn geometry(random: &mut Random) -> Geometry {
+    if random.below(12) == 0 {
+        return generate::geometry(random, Sizes::Any);
+    }
+    let (block_size, prog_size) = SMALL[random.below(SMALL.len())];
+    Geometry {
+        block_size,
+        prog_size,
+    }
+}
+
+/// A pair whose log is mostly regular.
+pub fn case(random: &mut Random, geometry: Geometry, habits: &Habits) -> Case {
+    let revision = match random.below(4) {
+        0 => [0, 1, u32::MAX, u32::MAX - 1, 0x7fff_ffff][random.below(5)],
+        _ => random.word(),
+    };
+    let (kind, log) = match random.below(20) {
+        0..10 => ("fresh", fresh(geometry, revision)),
+        10..18 => (
+            "regular",
+            regular(random, geometry, habits, revision, false),
+        ),
+        _ => (
+            "irregular",
+            regular(random, geometry, habits, revision, true),
+        ),
+    };
+    let other = other(random, geometry, habits, revision);
+    let mut case = generate::finish(random, kind, geometry, [log.bytes, other]);
+    let high = case.numbers[0].max(case.numbers[1]);
+    case.block_count = [0, 0, high + 1][random.below(3)];
+    case
+}
+
+/// A fresh pair with room for all slots.
+pub fn large(random: &mut Random) -> Case {
+    let geometry = Geometry {
+        block_size: 8192,
+        prog_size: 16,
+    };
+    let images = [fresh(geometry, 1).bytes, vec![0xff; 8192]];
+    let mut case = generate::finish(random, "fresh", geometry, images);
+    case.block_count = 0;
+    case
+}
+
+/// A compacted empty directory.
+fn fresh(geometry: Geometry, revision: u32) -> Log {
+    let mut log = Log::new(geometry.block_size as usize, revision);
+    let size = log.check_size(0, geometry.prog_size as usize);
+    log.check(tag_of(CHECK, NO_SLOT, size));
+    log
+}
+
+/// The block that does not answer: erased, any bytes, or an older log.
+fn other(random: &mut Random, geometry: Geometry, habits: &Habits, revision: u32) -> Vec<u8> {
+    let older = revision.wrapping_sub(1 + random.below(3) as u32);
+    match random.below(4) {
+        0 => vec![0xff; geometry.block_size as usize],
+        1 => random.bytes(geometry.block_size as usize),
+        2 => fresh(geometry, older).bytes,
+        _ => regular(random, geometry, habits, older, false).bytes,
+    }
+}
+
+/// Some commits: with superblock names, forward checks and checks of any type
+/// and size; if asked for, with an entry that is not regular.
+fn regular(
+    random: &mut Random,
+    geometry: Geometry,
+    habits: &Habits,
+    revision: u32,
+    spoil: bool,
+) -> Log {
+    let mut log = Log::new(geometry.block_size as usize, revision);
+    let (mut count, commits) = (0, 1 + random.below(4));
+    let spoiled = random.below(commits);
+    let plain = random.below(2) == 0;
+    for commit in 0..commits {
+        let (list, behind) = lists::good(random, habits, count);
+        if list.length() + 64 > log.room() {
+            break;
+        }
+        count = behind;
+        put(&mut log, &list);
+        if count > 0 && random.below(3) == 0 {
+            log.put(tag_of(SUPERBLOCK, 0, 8), b"littlefs");
+        }
+        if random.below(3) == 0 {
+            forward(random, &mut log, geometry);
+        }
+        if spoil && spoiled == commit {
+            spoilt(random, &mut log, count);
+        }
+        check(random, &mut log, geometry, plain, spoil);
+    }
+    if log.ends.is_empty() {
+        check(random, &mut log, geometry, true, false);
+    }
+    log
+}
+
+fn put(log: &mut Log, list: &List) {
+    for entry in &list.entries {
+        let data = bytes_of(entry, &list.data).unwrap_or_default();
+        log.put(tag_of(entry.type_.into(), entry.id.into(), entry.len), data);
+    }
+}
+
+/// A pair whose log isn't regular, and whose compaction would coincide.
+pub fn irregular_and_coincident(random: &mut Random) -> Option<Case> {
+    let geometry = Geometry {
+        block_size: 128,
+        prog_size: 4,
+    };
+    let images = |four: [u8; 4]| {
+        let mut log = Log::new(128, 1);
+        log.put(tag_of(FORWARD, NO_SLOT, 12), &[0; 12]);
+        log.put(
+            tag_of(MOVE_STATE, NO_SLOT, 12),
+            &[[0; 4], [0; 4], four].concat(),
+        );
+        log.check(tag_of(CHECK, NO_SLOT, 4));
+        [log.bytes, vec![0xff; 128]]
+    };
+    let mut case = generate::finish(random, "irregular", geometry, images([0; 4]));
+    case.block_count = 0;
+    let compact = ask::task(&case, Work::Compact, None);
+    let laid = FAULTLESS_WRITER.laid(&compact, [&case.images[0], &case.images[1]])?;
+    let four = solve(&laid.bytes, Goal::Coincide(1 + random.below(3)))?;
+    let second = case.images[1].first() != Some(&0xff);
+    case.images = images(four);
+    if second {
+        case.images.swap(0, 1);
+    }
+    Some(case)
+}
+
+/// A forward check over bytes that are still erased, or over none.
+fn forward(random: &mut Random, log: &mut Log, geometry: Geometry) {
+    let prog = geometry.prog_size as usize;
+    let end = log.at() + 16 + log.check_size(12, prog) as usize;
+    let left = log.bytes.len().saturating_sub(end);
+    let length = [prog.min(left), left, 0][random.below(3)];
+    let mut data = (length as u32).to_le_bytes().to_vec();
+    data.extend(crc(ONES, &vec![0xff; length]).to_le_bytes());
+    log.put(tag_of(FORWARD, NO_SLOT, 8), &data);
+}
+
+/// One entry that breaks a rule, or a type that a log may not have.
+fn spoilt(random: &mut Random, log: &mut Log, count: u32) {
+    let tag = match random.below(8) {
+        0 => tag_of(FILE, count, 3),
+        1 => tag_of(SUPERBLOCK, count, 8),
+        2 => tag_of(CREATE, count + 1, 0),
+        3 => tag_of(DELETE, count, 0),
+        4 => tag_of(FORWARD, NO_SLOT, 12),
+        5 => tag_of(FORWARD, 0, 8),
+        6 => tag_of(0x580, NO_SLOT, 0),
+        _ => tag_of(SOFT_TAIL, 0, 8),
+    };
+    log.put(tag, &random.bytes(12)[..(length_of(tag) - 4).min(12)]);
+}
+
+fn check(random: &mut Random, log: &mut Log, geometry: Geometry, plain: bool, spoil: bool) {
+    let size = log.check_size(0, geometry.prog_size as usize);
+    let tag = match random.below(12) {
+        _ if plain => tag_of(CHECK, NO_SLOT, size),
+        0 => tag_of(CHECK + 1, NO_SLOT, size),
+        1 => tag_of(CHECK + random.below(128) as u32, NO_SLOT, size),
+        2 => tag_of(CHECK, random.below(1024) as u32, size),
+        3 => tag_of(CHECK, NO_SLOT, 4 + random.below(9) as u32),
+        4 if spoil => tag_of(CHECK, NO_SLOT, REMOVAL),
+        _ => tag_of(CHECK, NO_SLOT, size),
+    };
+    if length_of(tag) <= log.room() {
+        log.check(tag);
+    }
+}

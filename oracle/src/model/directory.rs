@@ -1,0 +1,68 @@
+//! The simple directory machine: "slots inserted, removed, attributes set".
+//!
+//! Assumes entries that pass the rules; others change nothing.
+
+use super::committed::Logged;
+use super::tag::*;
+use std::collections::BTreeMap;
+
+/// A type and its data.
+pub type Typed = (u32, Vec<u8>);
+
+#[derive(Clone, Debug, Default, PartialEq, Eq)]
+pub struct Slot {
+    pub name: Option<Typed>,
+    pub structure: Option<Typed>,
+    /// By rising type.
+    pub attributes: BTreeMap<u32, Vec<u8>>,
+}
+
+#[derive(Clone, Debug, Default, PartialEq, Eq)]
+pub struct Directory {
+    pub slots: Vec<Slot>,
+    pub move_state: Option<Vec<u8>>,
+}
+
+impl Directory {
+    pub fn of(log: &[Logged]) -> Directory {
+        let mut directory = Directory::default();
+        for logged in log.iter().filter(|logged| type2_of(logged.tag) != CHECK) {
+            let data = match is_removal(logged.tag) {
+                true => None,
+                false => Some(logged.data),
+            };
+            directory.take(type_of(logged.tag), id_of(logged.tag) as usize, data);
+        }
+        directory
+    }
+
+    /// One entry. A removal has no data.
+    pub fn take(&mut self, type_: u32, id: usize, data: Option<&[u8]>) {
+        match type_ {
+            CREATE if id <= self.slots.len() => self.slots.insert(id, Slot::default()),
+            DELETE if id < self.slots.len() => {
+                self.slots.remove(id);
+            }
+            MOVE_STATE => self.move_state = data.map(<[u8]>::to_vec),
+            _ => self.set(type_, id, data),
+        }
+    }
+
+    fn set(&mut self, type_: u32, id: usize, data: Option<&[u8]>) {
+        let Some(slot) = self.slots.get_mut(id) else {
+            return;
+        };
+        let typed = data.map(|data| (type_, data.to_vec()));
+        match (type_ & 0x700, typed) {
+            (NAME, typed) => slot.name = typed,
+            (STRUCT, typed) => slot.structure = typed,
+            (ATTRIBUTE, Some((type_, data))) => {
+                slot.attributes.insert(type_, data);
+            }
+            (ATTRIBUTE, None) => {
+                slot.attributes.remove(&type_);
+            }
+            _ => {}
+        }
+    }
+}

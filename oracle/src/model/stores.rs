@@ -1,0 +1,105 @@
+//! The stores of an accepted call, and the answers.
+//!
+//! Assumes nothing.
+
+use super::writer::{fetch, Plan, Refusal, Writer};
+use super::WriteFault;
+use crate::calls::write::*;
+use crate::calls::{Fetched, Mdir, NOENT};
+
+impl Writer {
+    pub(super) fn refuse(&self, task: &Task, refusal: &Refusal) -> Answer {
+        let Fetched { result, dir, seed } = refusal.fetched;
+        let index = refusal.index;
+        if task.stores.is_some() {
+            let stores = 0;
+            return Answer::Stored(Stored {
+                result,
+                index,
+                stores,
+            });
+        }
+        let zero = result == NOENT && self.has(WriteFault::NoentHasNoRecord);
+        Answer::Committed(Committed {
+            result,
+            index,
+            dir: if zero { Mdir::default() } else { dir },
+            seed: if zero { task.seed } else { seed },
+        })
+    }
+
+    /// "exactly the first n of demand 3's list are made (all, if n is larger)
+    /// and the number made is the answer"
+    pub(super) fn make(&self, task: &Task, plan: &Plan, images: [&mut [u8]; 2]) -> Answer {
+        let [b0, b1] = images;
+        let before = fetch(task, [&*b0, &*b1]);
+        let all = self.stores_of(plan);
+        let made = task.stores.map_or(all, |limit| all.min(limit as usize));
+        let made = match task.stores {
+            Some(0) if plan.erase && self.has(WriteFault::ErasedByNoStore) => 1,
+            _ => made,
+        };
+        let block = if plan.which == 0 { &mut *b0 } else { &mut *b1 };
+        self.store(plan, made, block);
+        let Some(limit) = task.stores else {
+            let after = match self.fault {
+                WriteFault::OldRecord => before,
+                _ => fetch(task, [&*b0, &*b1]),
+            };
+            return self.accepted(task, after);
+        };
+        Answer::Stored(Stored {
+            result: 0,
+            index: 0,
+            stores: match self.fault {
+                WriteFault::LimitAnswered => limit,
+                WriteFault::AllAnswered => all as u32,
+                _ => made as u32,
+            },
+        })
+    }
+
+    fn accepted(&self, task: &Task, after: Fetched) -> Answer {
+        Answer::Committed(Committed {
+            result: after.result,
+            index: 0,
+            dir: after.dir,
+            seed: match self.fault {
+                WriteFault::SeedAsGiven => task.seed,
+                _ => after.seed,
+            },
+        })
+    }
+
+    fn stores_of(&self, plan: &Plan) -> usize {
+        let erase = plan.erase && !self.has(WriteFault::EraseUncounted);
+        plan.laid.bytes.len() + usize::from(erase)
+    }
+
+    /// The first `made` stores of a plan.
+    fn store(&self, plan: &Plan, made: usize, block: &mut [u8]) {
+        let mut bytes = made;
+        if plan.erase && (made > 0 || self.has(WriteFault::EraseUncounted)) {
+            if !self.has(WriteFault::Unerased) {
+                block.fill(0xff);
+            }
+            if !self.has(WriteFault::EraseUncounted) {
+                bytes -= 1;
+            }
+        }
+        let length = plan.laid.bytes.len();
+        if bytes > 0 && self.has(WriteFault::AllAtOnce) {
+            bytes = length;
+        }
+        for i in 0..bytes.min(length) {
+            let place = match self.fault {
+                WriteFault::Falling => length - 1 - i,
+                _ => i,
+            };
+            let to = block.get_mut(plan.laid.start + place);
+            if let (Some(to), Some(&byte)) = (to, plan.laid.bytes.get(place)) {
+                *to = byte;
+            }
+        }
+    }
+}

@@ -1,0 +1,135 @@
+//! The writer's faults: each a change of the second implementation in one place.
+//!
+//! Assumes that each one, where it matters, gives another answer or other bytes
+//! on some step of the histories: `oracle teeth` looks for that step.
+
+macro_rules! write_faults {
+    ($($name:ident $text:literal;)*) => {
+        #[derive(Clone, Copy, Debug, PartialEq, Eq)]
+        pub enum WriteFault {
+            None,
+            $($name,)*
+        }
+
+        /// Every fault but none, with its text.
+        pub const WRITE_FAULTS: &[(WriteFault, &str)] = &[
+            $((WriteFault::$name, $text),)*
+        ];
+    };
+}
+
+write_faults! {
+    LengthsAfterFetch "order: -22 of the lengths behind fetch's refusals";
+    BadBeforeIrregular "order: -201 before -202";
+    SpaceBeforeBad "order: -28 before -201";
+    UncleanBeforeSpace "order: -203 before -28";
+    CoincidenceBeforeUnclean "order: -204 before -203";
+    CoincidenceBeforeSpace "order: -204 before -28";
+    CoincidenceBeforeIrregular "order: compaction's -204 before -202";
+    Entries8193 "sizes: 8,193 entries accepted";
+    Entries8191 "sizes: 8,192 entries refused";
+    Data65537 "sizes: 65,537 bytes of data accepted";
+    Data65535 "sizes: 65,536 bytes of data refused";
+
+    CountFromZero "entries: c from 0, not from the record";
+    CreateBelowCount "entries: create at c refused";
+    CreateAnywhere "entries: create above c accepted";
+    CreateWhenFull "entries: create at c = 1,023 accepted";
+    LastCreateRefused "entries: create at c = 1,022 refused";
+    CreateRaisesNothing "entries: c not raised by create";
+    CreateHasData "entries: create with data accepted";
+    DeleteAtCount "entries: delete at c accepted";
+    DeleteLowersNothing "entries: c not lowered by delete";
+    DeleteHasData "entries: delete with data accepted";
+    EmptyName "entries: empty name accepted";
+    RemovedName "entries: removed name accepted";
+    Name1021 "entries: name of 1,022 bytes refused";
+    NameRaises "entries: name at c raises c";
+    IdAtCount "entries: id at c accepted";
+    ShortStruct "entries: directory or CTZ struct below 8 bytes accepted";
+    EmptyInlineRefused "entries: empty inline struct refused";
+    RemovedStruct "entries: removed inline struct accepted";
+    RemovalRefused "entries: removed attribute refused";
+    RemovalReadsOffset "entries: removal's offset read";
+    EmptyOffsetUnread "entries: offset of length 0 not read";
+    OffsetWraps "entries: offset plus length wraps";
+    EndOfDataRefused "entries: data at the buffer's end refused";
+    TypeMasked "entries: type cut to 11 bits";
+    TailOfAnyId "entries: tail or move state of any id accepted";
+    LongTail "entries: tail of 12 bytes accepted";
+    EmptyMoveState "entries: empty move state accepted";
+    SuperblockInList "entries: superblock name accepted";
+    ForwardInList "entries: forward check accepted";
+    IndexFromOne "entries: index from 1";
+    NoIndex "entries: no index";
+
+    SuperblockIrregular "regular: superblock name refused";
+    ForwardIrregular "regular: forward check refused";
+    ForwardOfAnyLength "regular: forward check of any length accepted";
+    CheckOfAnySize "regular: check of any size accepted";
+    CheckNeedsNoSlot "regular: check of another id refused";
+    CheckIs500 "regular: only 0x500 is a check";
+
+    EndAtBlockRefused "space: end at the block size refused";
+    CleanOnlyWhereLaid "room: clean only where bytes are stored";
+    CleanToNewEnd "room: clean only up to the new end";
+    CleanOneTag "room: only four bytes looked at";
+    UnalignedEnd "room: old end that is no multiple accepted";
+    EndTagWithBit31 "room: end tag with bit 31 accepted";
+    NeedsErased "room: the erased mark asked for";
+    CoincidenceUntested "coincidence: not tested";
+    CoincidenceWithout1 "coincidence: 2 and 3 bytes only";
+    CoincidenceWithout2 "coincidence: 1 and 3 bytes only";
+    CoincidenceWithout3 "coincidence: 1 and 2 bytes only";
+    CoincidenceWith0 "coincidence: no bytes tested too";
+    CoincidenceWith4 "coincidence: all four bytes tested too";
+
+    ChainedFromOnes "bytes: first tag not chained to the end tag";
+    TagsUnchained "bytes: tags not chained";
+    TagsLittleEndian "bytes: tags little-endian";
+    CheckOneUnitLong "bytes: check one program unit too long";
+    CheckUnpadded "bytes: check not rounded";
+    AlignedByMask "bytes: check rounded by a mask";
+    AlignedFromStart "bytes: check rounded from the commit's start";
+    CheckIs501 "bytes: check is 0x501";
+    CheckHasId0 "bytes: check of id 0";
+    CheckTagUnsummed "bytes: check tag left out of the checksum";
+    ChecksumBigEndian "bytes: checksum big-endian";
+    ChecksumInverted "bytes: checksum inverted";
+    PaddingStored "stores: padding stored";
+    EraseUncounted "stores: erase not counted";
+    ErasedByNoStore "stores: limit 0 erases";
+    Unerased "stores: block not erased";
+    AllAtOnce "stores: everything placed with the first byte";
+    Falling "stores: bytes falling";
+    LimitAnswered "stores: the limit answered";
+    AllAnswered "stores: all stores answered";
+
+    OldRecord "answer: the record before the call";
+    SeedAsGiven "answer: the seed as given";
+    NoentHasNoRecord "answer: -2 with a zero record";
+
+    AnsweringBlock "compaction: writes the answering block";
+    SecondBlock "compaction: always writes the second block";
+    RevisionStays "compaction: revision not raised";
+    RevisionByTwo "compaction: revision raised by two";
+    RevisionSaturates "compaction: revision does not wrap";
+    RevisionBigEndian "compaction: revision big-endian";
+    RevisionUnsummed "compaction: revision left out of the checksum";
+    Uncreated "compaction: no create tags";
+    NamelessDropped "compaction: slots without a name dropped";
+    StructFirst "compaction: struct before name";
+    SuperblockBecomesFile "compaction: superblock name becomes a file";
+    AttributesFall "compaction: attributes by falling type";
+    AttributesSigned "compaction: attributes by signed type";
+    EmptyAttributesDropped "compaction: empty attributes dropped";
+    LastAttributeDropped "compaction: attribute 0x3ff dropped";
+    TailDropped "compaction: tail left out";
+    TailAlways "compaction: soft tail of none kept";
+    HardNullDropped "compaction: hard tail of none dropped";
+    SoftDropped "compaction: soft tail dropped";
+    TailBecomesSoft "compaction: hard tail becomes soft";
+    MoveStateDropped "compaction: move state left out";
+    ZeroMoveStateDropped "compaction: move state of zeros dropped";
+    MoveStateBeforeTail "compaction: move state before tail";
+}
