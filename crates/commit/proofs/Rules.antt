@@ -5,10 +5,12 @@ use Prim.Native.Nat.{ℕ, suc}
 use lib.ListN.{length}
 use Rattle.format.specs.Fetch.{fetchOf}
 use Rattle.format.specs.Writer.{answerOf, verdictOf, unlimited, commitImages, commitOf, commitStoresOf}
+use Rattle.format.specs.Stopped.{CommitStopped}
 use Rattle.format.specs.declared.Geometry.{Geometry}
 use Rattle.format.specs.declared.Entry.{Entry}
 use Rattle.format.specs.declared.Committed.{Committed}
 use Rattle.format.specs.declared.Stored.{Stored}
+use Rattle.theory.specs.StoppedCommit.{stopped-commit}
 use Rattle.writer.specs.State.{Trio, trio, begunOf, decidedOf, sealedOf, answeredOf, madeOf}
 use Rattle.writer.specs.declared.State.{State}
 use Rattle.commit.proofs.Whole.{ran}
@@ -24,6 +26,12 @@ module _ (es : List Entry) (dat b0 b1 : List ℕ) (st : State) where
       → trio r y0 y1 ≡ stepE (trio s z0 z1) dat (entryAt es i) → trio r y0 y1 ≡ eachOf (suc i) es dat b0 b1 st
   unfolding eachOf
   each-step i s z0 z1 r y0 y1 e said = said ∙ ap (λ (t : Trio). stepE t dat (entryAt es i)) e
+
+-- ---- demand 3, of what a call left
+stopped : (g : Geometry) (b0 b1 : List ℕ) (n0 n1 count seed : ℕ) (es : List Entry) (dat : List ℕ) (n : ℕ) (x0 y0 : List ℕ)
+    → x0 ≡ commitImages g b0 b1 n0 n1 count seed es dat n .b0 → y0 ≡ commitImages g b0 b1 n0 n1 count seed es dat n .b1
+    → CommitStopped g n0 n1 count seed b0 b1 es dat x0 y0
+stopped g b0 b1 n0 n1 count seed es dat n x0 y0 ex ey = rw (ex, ey) (stopped-commit g b0 b1 n0 n1 count seed es dat n)
 
 -- ---- the steps, one after the other
 module _ (b0 b1 : List ℕ) (es : List Entry) (dat : List ℕ) (g : Geometry) (n0 n1 count seed : ℕ) where
@@ -57,7 +65,10 @@ module _ (b0 b1 : List ℕ) (es : List Entry) (dat : List ℕ) (g : Geometry) (n
       → trio r0 x0 y0 ≡ ranOf g b0 b1 n0 n1 count seed es dat stores
       → r1 ≡ madeOf r0 stores
       → (r1 ≡ commitStoresOf g b0 b1 n0 n1 count seed es dat stores) × (x0 ≡ commitImages g b0 b1 n0 n1 count seed es dat stores .b0) × (y0 ≡ commitImages g b0 b1 n0 n1 count seed es dat stores .b1)
+      × CommitStopped g n0 n1 count seed b0 b1 es dat x0 y0
   unfolding commitStoresOf commitImages
   stores-glue stores r0 x0 y0 r1 e0 e1 =
       let t = ran g b0 b1 n0 n1 count seed es dat stores in
-      (e1 ∙ ap (λ (u : Trio). madeOf (u .st) stores) e0 ∙ t .made, ap (λ (u : Trio). u .b0) e0 ∙ t .first, ap (λ (u : Trio). u .b1) e0 ∙ t .second)
+      let ex : x0 ≡ commitImages g b0 b1 n0 n1 count seed es dat stores .b0 = ap (λ (u : Trio). u .b0) e0 ∙ t .first in
+      let ey : y0 ≡ commitImages g b0 b1 n0 n1 count seed es dat stores .b1 = ap (λ (u : Trio). u .b1) e0 ∙ t .second in
+      (e1 ∙ ap (λ (u : Trio). madeOf (u .st) stores) e0 ∙ t .made, ex, ey, stopped g b0 b1 n0 n1 count seed es dat stores x0 y0 ex ey)

@@ -4,6 +4,7 @@
 ghost use mathlib.Core.Path.{_≡_};
 ghost use lib.ListN.{length};
 ghost use Rattle.format.specs.Writer.{unlimited, commitImages, commitOf, commitStoresOf};
+ghost use Rattle.format.specs.Stopped.{CommitStopped};
 ghost use Rattle.writer.specs.State.{trio};
 ghost use Rattle.commit.specs.Passes.{eachOf, ranOf};
 use format::Committed;
@@ -68,6 +69,7 @@ pub fn lfs_dir_commit(
 }
 
 // The same "with a limit of n stores: exactly the first n of demand 3's list are made (all, if n is larger) and the number made is the answer".
+// The last part of its contract is demand 3: whatever the limit, what stands in the images reads as the finished pair or as the old one.
 pub fn lfs_dir_commit_stores(
     g: Geometry,
     b0: &mut [u8],
@@ -80,7 +82,7 @@ pub fn lfs_dir_commit_stores(
     dat: &[u8],
     stores: u32,
 ) -> Stored
-    ensures { λ r. ⌜ (r ≡ commitStoresOf g (now (b0 .entry)) (now (b1 .entry)) n0 n1 «block_count» seed (now (entries .entry)) (now (dat .entry)) stores) × (now (b0 .exit) ≡ commitImages g (now (b0 .entry)) (now (b1 .entry)) n0 n1 «block_count» seed (now (entries .entry)) (now (dat .entry)) stores .b0) × (now (b1 .exit) ≡ commitImages g (now (b0 .entry)) (now (b1 .entry)) n0 n1 «block_count» seed (now (entries .entry)) (now (dat .entry)) stores .b1) ⌝ }
+    ensures { λ r. ⌜ (r ≡ commitStoresOf g (now (b0 .entry)) (now (b1 .entry)) n0 n1 «block_count» seed (now (entries .entry)) (now (dat .entry)) stores) × (now (b0 .exit) ≡ commitImages g (now (b0 .entry)) (now (b1 .entry)) n0 n1 «block_count» seed (now (entries .entry)) (now (dat .entry)) stores .b0) × (now (b1 .exit) ≡ commitImages g (now (b0 .entry)) (now (b1 .entry)) n0 n1 «block_count» seed (now (entries .entry)) (now (dat .entry)) stores .b1) × CommitStopped g n0 n1 «block_count» seed (now (b0 .entry)) (now (b1 .entry)) (now (entries .entry)) (now (dat .entry)) (now (b0 .exit)) (now (b1 .exit)) ⌝ }
 {
     let s = run(g, b0, b1, n0, n1, block_count, seed, entries, dat, stores);
     writer::made(s, stores)

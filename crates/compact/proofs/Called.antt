@@ -16,6 +16,7 @@ use Rattle.format.specs.Commit.{checkTag}
 use Rattle.format.specs.Stores.{coincides}
 use Rattle.format.specs.Writer.{roundedEnd, checkSize, blockAt, isSecond, committedAs}
 use Rattle.format.specs.Compaction.{compactionItems, compactCheckAt, CompactVerdict, compactRefused, compactAccepted, placedAnew, compactable, compactVerdict, compactImagesAfter, compactAnswer, compactMade, compactImages, compactOf, compactStoresOf}
+use Rattle.format.specs.Stopped.{Bytes, CompactStopped}
 use Rattle.format.specs.declared.Geometry.{Geometry}
 use Rattle.format.specs.declared.LfsMdir.{LfsMdir}
 use Rattle.format.specs.declared.Refusal.{Refusal}
@@ -27,6 +28,7 @@ use Rattle.format.specs.declared.Committed.the-variants as committed
 use Rattle.format.specs.declared.Stored.{Stored}
 use Rattle.format.specs.declared.Stored.the-variants as stored
 use Rattle.theory.specs.Reading.{Sized, found-sized, found-reads}
+use Rattle.theory.specs.StoppedCompaction.{stopped-compaction}
 use Rattle.renew.specs.Renewed.{Renewable, renewedTo}
 
 -- ---- a verdict with the place of the block that answers
@@ -71,6 +73,12 @@ module _ (g : Geometry) (b0 b1 : List ℕ) (n0 n1 count seed : ℕ) where
   Called n r c0 c1 =
       (r ≡ compactStoresOf g b0 b1 n0 n1 count seed n)
       × ((c0 ≡ compactImages g b0 b1 n0 n1 count seed n .b0) × (c1 ≡ compactImages g b0 b1 n0 n1 count seed n .b1))
+
+  -- with demand 3, which a call keeps whatever it leaves
+  pub kept : (n : ℕ) (r : Stored) (c0 c1 : List ℕ) → Bytes b0 → Bytes b1 → Called n r c0 c1
+      → (r ≡ compactStoresOf g b0 b1 n0 n1 count seed n)
+      × ((c0 ≡ compactImages g b0 b1 n0 n1 count seed n .b0) × ((c1 ≡ compactImages g b0 b1 n0 n1 count seed n .b1) × CompactStopped g n0 n1 count seed b0 b1 c0 c1))
+  kept n r c0 c1 y0 y1 h = (h .0, (h .1 .0, (h .1 .1, rw (h .1 .0, h .1 .1) (stopped-compaction g b0 b1 n0 n1 count seed n y0 y1))))
 
   leaves : (n : ℕ) (v : CompactVerdict) → compactVerdict g b0 b1 n0 n1 count seed ≡ v → (r : Stored) (c0 c1 : List ℕ) → Leaves n b0 b1 v r c0 c1 → Called n r c0 c1
   unfolding compactStoresOf compactImages

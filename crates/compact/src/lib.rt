@@ -3,13 +3,14 @@
 ghost use mathlib.Core.Path.{_≡_};
 ghost use Rattle.format.specs.Word.{allOnes};
 ghost use Rattle.format.specs.Compaction.{compactImages, compactOf, compactStoresOf};
+ghost use Rattle.format.specs.Stopped.{CompactStopped};
 use format::Committed;
 use format::Fetched;
 use format::Geometry;
 use format::Stored;
 
 // "exactly the first n of demand 3's list are made (all, if n is larger) and the number made is the answer": the erase is the first, then single
-// bytes rise.
+// bytes rise. The last clause is demand 3: whatever the limit, what stands in the images reads as the finished pair or as the old one.
 pub fn lfs_dir_compact_stores(
     g: Geometry,
     b0: &mut [u8],
@@ -23,6 +24,7 @@ pub fn lfs_dir_compact_stores(
     ensures { λ r. ⌜ r ≡ compactStoresOf g (now (b0 .entry)) (now (b1 .entry)) n0 n1 «block_count» seed stores ⌝ }
     ensures { λ _. ⌜ now (b0 .exit) ≡ compactImages g (now (b0 .entry)) (now (b1 .entry)) n0 n1 «block_count» seed stores .b0 ⌝ }
     ensures { λ _. ⌜ now (b1 .exit) ≡ compactImages g (now (b0 .entry)) (now (b1 .entry)) n0 n1 «block_count» seed stores .b1 ⌝ }
+    ensures { λ _. ⌜ CompactStopped g n0 n1 «block_count» seed (now (b0 .entry)) (now (b1 .entry)) (now (b0 .exit)) (now (b1 .exit)) ⌝ }
 {
     match fetch::lfs_dir_fetch(g, b0, b1, n0, n1, block_count, seed) {
         Fetched::Refused(r) => Stored::Refused(r),

@@ -48,6 +48,11 @@ unfoldable pub dir : List Act → List Slot
 dir [] = []
 dir (a ∷ l) = apply (dir l) a
 
+-- acts oldest first, applied to a directory
+unfoldable pub applyAll : List Slot → List Act → List Slot
+applyAll D [] = D
+applyAll D (a ∷ l) = applyAll (apply D a) l
+
 -- structs and user attributes go by type1, as names do
 abbrev pub isStruct : ℕ → Bool
 isStruct t = eqb (tagType1 t) typeDirStruct

@@ -31,3 +31,6 @@ pub mod Stores
 pub mod Entries
 pub mod Writer
 pub mod Compaction
+-- Demand 3: what a pair holds, as a machine, and what both calls leave when they are stopped.
+pub mod Machine
+pub mod Stopped

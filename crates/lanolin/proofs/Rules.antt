@@ -3,6 +3,7 @@ use mathlib.Core.Path.{_≡_, ap, _∙_}
 use mathlib.Core.List.{List}
 use Prim.Native.Nat.{ℕ}
 use Rattle.format.specs.Writer.{unlimited, commitImages, commitOf, commitStoresOf}
+use Rattle.format.specs.Stopped.{CommitStopped}
 use Rattle.format.specs.declared.Geometry.{Geometry}
 use Rattle.format.specs.declared.Entry.{Entry}
 use Rattle.format.specs.declared.Committed.{Committed}
@@ -20,6 +21,8 @@ module _ (b0 b1 : List ℕ) (es : List Entry) (dat : List ℕ) (g : Geometry) (n
 
   pub stores-glue : (stores : ℕ) (r0 : Stored) (x0 y0 : List ℕ) (r1 : StoredOut)
       → (r0 ≡ commitStoresOf g b0 b1 n0 n1 count seed es dat stores) × (x0 ≡ commitImages g b0 b1 n0 n1 count seed es dat stores .b0) × (y0 ≡ commitImages g b0 b1 n0 n1 count seed es dat stores .b1)
+      × CommitStopped g n0 n1 count seed b0 b1 es dat x0 y0
       → r1 ≡ storedOut r0
       → (r1 ≡ storedOut (commitStoresOf g b0 b1 n0 n1 count seed es dat stores)) × (x0 ≡ commitImages g b0 b1 n0 n1 count seed es dat stores .b0) × (y0 ≡ commitImages g b0 b1 n0 n1 count seed es dat stores .b1)
-  stores-glue stores r0 x0 y0 r1 said out = (out ∙ ap storedOut (said .0), said .1, said .2)
+      × CommitStopped g n0 n1 count seed b0 b1 es dat x0 y0
+  stores-glue stores r0 x0 y0 r1 said out = (out ∙ ap storedOut (said .0), said .1, said .2, said .3)

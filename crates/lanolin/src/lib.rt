@@ -3,6 +3,7 @@
 ghost use mathlib.Core.Path.{_≡_};
 ghost use Rattle.answers.specs.Values.{committedOut, storedOut};
 ghost use Rattle.format.specs.Writer.{unlimited, commitImages, commitOf, commitStoresOf};
+ghost use Rattle.format.specs.Stopped.{CommitStopped};
 use answers::CommittedOut;
 use answers::StoredOut;
 use format::Entry;
@@ -52,7 +53,7 @@ pub extern "C" fn lanolin_commit_stores(
     dat: &[u8],
     stores: u32,
 ) -> StoredOut
-    ensures { λ r. ⌜ (r ≡ storedOut (commitStoresOf g (now (b0 .entry)) (now (b1 .entry)) n0 n1 «block_count» seed (now (entries .entry)) (now (dat .entry)) stores)) × (now (b0 .exit) ≡ commitImages g (now (b0 .entry)) (now (b1 .entry)) n0 n1 «block_count» seed (now (entries .entry)) (now (dat .entry)) stores .b0) × (now (b1 .exit) ≡ commitImages g (now (b0 .entry)) (now (b1 .entry)) n0 n1 «block_count» seed (now (entries .entry)) (now (dat .entry)) stores .b1) ⌝ }
+    ensures { λ r. ⌜ (r ≡ storedOut (commitStoresOf g (now (b0 .entry)) (now (b1 .entry)) n0 n1 «block_count» seed (now (entries .entry)) (now (dat .entry)) stores)) × (now (b0 .exit) ≡ commitImages g (now (b0 .entry)) (now (b1 .entry)) n0 n1 «block_count» seed (now (entries .entry)) (now (dat .entry)) stores .b0) × (now (b1 .exit) ≡ commitImages g (now (b0 .entry)) (now (b1 .entry)) n0 n1 «block_count» seed (now (entries .entry)) (now (dat .entry)) stores .b1) × CommitStopped g n0 n1 «block_count» seed (now (b0 .entry)) (now (b1 .entry)) (now (entries .entry)) (now (dat .entry)) (now (b0 .exit)) (now (b1 .exit)) ⌝ }
 {
     let s = commit::lfs_dir_commit_stores(
         g,

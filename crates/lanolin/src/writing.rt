@@ -2,6 +2,7 @@
 ghost use mathlib.Core.Path.{_≡_};
 ghost use Rattle.format.specs.Word.{allOnes};
 ghost use Rattle.format.specs.Compaction.{compactImages, compactOf, compactStoresOf};
+ghost use Rattle.format.specs.Stopped.{CompactStopped};
 ghost use Rattle.answers.specs.Values.{committedOut, storedOut};
 use answers::CommittedOut;
 use answers::StoredOut;
@@ -43,6 +44,7 @@ pub extern "C" fn lanolin_compact_stores(
     ensures { λ r. ⌜ r ≡ storedOut (compactStoresOf g (now (b0 .entry)) (now (b1 .entry)) n0 n1 «block_count» seed stores) ⌝ }
     ensures { λ _. ⌜ now (b0 .exit) ≡ compactImages g (now (b0 .entry)) (now (b1 .entry)) n0 n1 «block_count» seed stores .b0 ⌝ }
     ensures { λ _. ⌜ now (b1 .exit) ≡ compactImages g (now (b0 .entry)) (now (b1 .entry)) n0 n1 «block_count» seed stores .b1 ⌝ }
+    ensures { λ _. ⌜ CompactStopped g n0 n1 «block_count» seed (now (b0 .entry)) (now (b1 .entry)) (now (b0 .exit)) (now (b1 .exit)) ⌝ }
 {
     stored_out(compact::lfs_dir_compact_stores(g, b0, b1, n0, n1, block_count, seed, stores))
 }

@@ -13,7 +13,7 @@ use Rattle.format.specs.Walk.{Event, ent, chk, inv}
 use Rattle.format.specs.Log.{log}
 use Rattle.format.specs.Regular.{Rule, ruleOf, between, ruleHolds, countAfter, regularFrom, Regular}
 use Rattle.format.specs.Commit.{Item, commitSum, written, itemsHold}
-use Rattle.format.specs.Directory.{acts}
+use Rattle.format.specs.Directory.{acts, Act, act}
 use Rattle.format.proofs.Tags.{length-size}
 use Rattle.theory.specs.Steps.{both-true}
 use Rattle.theory.specs.Local.{AllContained}
@@ -25,9 +25,28 @@ use Rattle.theory.specs.Append.{itemActs}
 use Rattle.theory.specs.Slots.{PutsOk}
 use Rattle.theory.specs.Allowed.{AllowedFrom, slotsAfter, slotsAfterAll}
 use Rattle.theory.specs.Searchable.{EventShapes, FewFrom, RegularLog}
-use Rattle.theory.specs.Appended.{few-end, ItemsOk}
 use Rattle.theory.specs.Ruled.{ruled, rule-says}
 use Rattle.theory.specs.Made.{AllMade}
+use Rattle.theory.specs.Decode.{AllGood}
+use Rattle.theory.specs.Lookup.{Shape}
+
+-- shapes of the written items
+abbrev pub ItemShapes : List Item → Type 0
+ItemShapes [] = Unit {0}
+ItemShapes (i ∷ is) = Shape (i .tag) (i .body) (act (i .tag) (i .body)) × ItemShapes is
+
+-- the count stays low to the end
+pub few-end : (l : List Act) (n : ℕ) → n ≤ mostSlots → FewFrom n l → slotsAfterAll n l ≤ mostSlots
+unfolding slotsAfterAll
+few-end [] n h f = h
+few-end (a ∷ l) n h f = few-end l (slotsAfter n a) (f .0) (f .1)
+
+-- entries that pass document 01's rules from the count c
+pub record ItemsOk (c : ℕ) (is : List Item) : Type 0 where
+  pub good : AllGood is
+  pub shapes : ItemShapes is
+  pub rules : AllowedFrom c (itemActs is)
+  pub few : FewFrom c (itemActs is)
 
 -- ---- a log that passes the rules from a count on
 pub record RegularFrom (c : ℕ) (es : List Event) : Type 0 where

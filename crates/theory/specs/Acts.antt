@@ -2,12 +2,7 @@
 use mathlib.Core.Path.{_≡_, refl, ap}
 use mathlib.Core.List.{List, [], _∷_, _++_, reverseAux}
 use Rattle.format.specs.Walk.{Event, ent, chk, inv}
-use Rattle.format.specs.Directory.{Act, skip, dir, Slot, apply, act, acts, dirOf}
-
--- entries applied
-unfoldable pub applyAll : List Slot → List Act → List Slot
-applyAll D [] = D
-applyAll D (a ∷ l) = applyAll (apply D a) l
+use Rattle.format.specs.Directory.{Act, skip, dir, Slot, apply, applyAll, act, acts, dirOf}
 
 pub dir-rev : (l r : List Act) → dir (reverseAux l r) ≡ applyAll (dir r) l
 unfolding applyAll dir

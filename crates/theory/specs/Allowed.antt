@@ -1,21 +1,15 @@
 -- The rules forwards, over the number of slots: what is allowed, that the count is the number of slots, and that a commit keeps it so.
 -- Assumes nothing.
 use mathlib.Core.Path.{_≡_, refl, ap, _∙_}
-use mathlib.Core.List.{List, [], _∷_, _++_, reverse, reverseAux}
-use Prim.Native.Nat.{ℕ, suc, _-_, _≤_}
-use native.Mathlib.Omega.{arith}
+use mathlib.Core.List.{List, [], _∷_, reverse, reverseAux}
+use Prim.Native.Nat.{ℕ, suc, _-_}
 use lib.ListN.{length, length-set, getD}
-use Rattle.format.specs.Tag.{tagLength}
-use Rattle.format.specs.Walk.{Event, ent, chk, inv}
-use Rattle.format.specs.Commit.{Item, commitSum, written}
-use Rattle.format.specs.Directory.{Act, mk, rm, put, skip, apply, Slot, empty, upd, dir, dirOf, acts}
+use Rattle.format.specs.Walk.{Event}
+use Rattle.format.specs.Directory.{Act, mk, rm, put, skip, apply, Slot, empty, upd, dir, dirOf, acts, applyAll}
 use Rattle.theory.specs.Local.{AllContained}
-use Rattle.theory.specs.Decode.{AllGood, GoodCheck}
-use Rattle.theory.specs.Stores.{commitEvents}
 use Rattle.theory.specs.Directory.{Allowed, length-ins, length-del, AllAllowed}
-use Rattle.theory.specs.Acts.{applyAll, dir-rev, acts-app}
+use Rattle.theory.specs.Acts.{dir-rev}
 use Rattle.theory.specs.Seen.{Eights}
-use Rattle.theory.specs.Append.{itemActs, acts-written}
 
 -- the rules forwards, over the count
 unfoldable pub slotsAfter : ℕ → Act → ℕ
@@ -60,50 +54,8 @@ pub length-dirOf : (es : List Event) → AllowedFrom 0 (acts es) → length (dir
 unfolding dirOf dir
 length-dirOf es f = rw (dir-rev (acts es) []) (slots-all (acts es) [] f)
 
-allowed-app : (n : ℕ) (k l : List Act) → AllowedFrom n k → AllowedFrom (slotsAfterAll n k) l → AllowedFrom n (k ++ l)
-unfolding slotsAfterAll
-allowed-app n [] l f g = g
-allowed-app n (a ∷ k) l f g = (f .0, allowed-app (slotsAfter n a) k l (f .1) g)
-
-allowed-skip : (n : ℕ) (l : List Act) → AllowedFrom n l → AllowedFrom n (l ++ (skip ∷ []))
-allowed-skip n [] f = (tt, tt)
-allowed-skip n (a ∷ l) f = (f .0, allowed-skip (slotsAfter n a) l (f .1))
-
 -- ---- a log that is regular, as far as the lookups and the walk ask
 pub record Sound (es : List Event) : Type 0 where
   pub reg : AllContained es
   pub eight : Eights es
   pub rules : AllowedFrom 0 (acts es)
-
-contained-app : (es more : List Event) → AllContained es → AllContained more → AllContained (es ++ more)
-contained-app [] more h k = k
-contained-app (e ∷ es) more h k = (h .0, contained-app es more (h .1) k)
-
-eights-app : (es more : List Event) → Eights es → Eights more → Eights (es ++ more)
-eights-app [] more h k = k
-eights-app (ent t d ∷ es) more h k = (h .0, eights-app es more (h .1) k)
-eights-app (chk t c ∷ es) more h k = eights-app es more h k
-eights-app (inv ∷ es) more h k = eights-app es more h k
-
-pub written-contained : (is : List Item) (t c : ℕ) → AllGood is → 8 ≤ tagLength t → AllContained (written is (chk t c ∷ []))
-unfolding written
-written-contained [] t c g h = (h, tt)
-written-contained (i ∷ is) t c g h = ((λ w. omega (arith, g .0 .long, g .0 .eight w)), written-contained is t c (g .1) h)
-
-pub written-eights : (is : List Item) (t c : ℕ) → AllGood is → Eights (written is (chk t c ∷ []))
-unfolding written
-written-eights [] t c g = tt
-written-eights (i ∷ is) t c g = ((λ w. omega (arith, g .0 .long, g .0 .eight w)), written-eights is t c (g .1))
-
--- a commit whose entries pass the rules from the count keeps the log regular
-pub sound-commit : (es : List Event) (sum p : ℕ) (is : List Item) (ct : ℕ) → Sound es → AllGood is → GoodCheck ct → AllowedFrom (slotsAfterAll 0 (acts es)) (itemActs is)
-    → Sound (es ++ commitEvents sum p is ct)
-unfolding commitEvents
-sound-commit es sum p is ct r g gc f =
-    let c : ℕ = commitSum sum p is ct in
-    record {
-      reg = contained-app es (written is (chk ct c ∷ [])) (r .reg) (written-contained is ct c g (gc .long));
-      eight = eights-app es (written is (chk ct c ∷ [])) (r .eight) (written-eights is ct c g);
-      rules = rw (acts-app es (written is (chk ct c ∷ [])), acts-written is ct c)
-          (allowed-app 0 (acts es) (itemActs is ++ (skip ∷ [])) (r .rules) (allowed-skip (slotsAfterAll 0 (acts es)) (itemActs is) f));
-    }

@@ -15,7 +15,7 @@ use Rattle.format.specs.Log.{log, logEnd, logEndTag}
 use Rattle.format.specs.View.{at}
 use Rattle.format.specs.Commit.{Item, commitBytes, commitSum, written}
 use Rattle.format.specs.Stores.{erased, fill, entriesLength, appending}
-use Rattle.format.specs.Directory.{Act, skip, apply, Slot, act, acts, dirOf}
+use Rattle.format.specs.Directory.{Act, skip, apply, Slot, act, acts, dirOf, applyAll}
 use Rattle.format.proofs.Words.{length-toBe32, length-toLe32}
 use Rattle.theory.specs.Local.{AllContained}
 use Rattle.theory.specs.Decode.{AllGood, GoodCheck}
@@ -23,7 +23,7 @@ use Rattle.theory.specs.Erased.{erased-append}
 use Rattle.theory.specs.Cut.{NoCoincidence}
 use Rattle.theory.specs.Stores.{Appends, room, filled, commitEvents}
 use Rattle.theory.specs.Pair.{viewAt, crash-append, done-append}
-use Rattle.theory.specs.Acts.{applyAll, dirOf-app}
+use Rattle.theory.specs.Acts.{dirOf-app}
 
 -- k bytes stored over erased ones
 pub fill-take : (k : ℕ) (N : List ℕ) (m n : ℕ) → k ≤ length N → n ≡ length N - k + m → fill k N ++ erased m ≡ take k N ++ erased n
@@ -32,7 +32,7 @@ fill-take zero N m n h e = let q : length N + m ≡ n = omega arith in rw (erase
 fill-take (suc k) [] m n h e = absurd (omega arith)
 fill-take (suc k) (x ∷ N) m n h e = ap (λ z. x ∷ z) (fill-take k N m n (omega arith) (omega arith))
 
-fill-all : (k : ℕ) (N : List ℕ) → length N ≤ k → fill k N ≡ N
+pub fill-all : (k : ℕ) (N : List ℕ) → length N ≤ k → fill k N ≡ N
 unfolding fill
 fill-all zero [] h = refl
 fill-all zero (x ∷ N) h = absurd (omega arith)

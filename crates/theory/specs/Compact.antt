@@ -14,14 +14,14 @@ use Rattle.format.specs.Walk.{Event}
 use Rattle.format.specs.View.{at}
 use Rattle.format.specs.Commit.{Item, commitBytes}
 use Rattle.format.specs.Stores.{erased, entriesLength, compactBytes, compacted, compacting}
-use Rattle.format.specs.Directory.{skip, Slot, apply, Act, dir, act, acts, dirOf}
+use Rattle.format.specs.Directory.{skip, Slot, apply, Act, dir, act, acts, dirOf, applyAll}
 use Rattle.format.proofs.Words.{length-toLe32}
 use Rattle.theory.specs.Decode.{AllGood}
 use Rattle.theory.specs.Stores.{commitEvents, CommitFits}
 use Rattle.theory.specs.Pair.{viewAt, crash-compact, done-compact}
 use Rattle.theory.specs.Directory.{mostSlots}
 use Rattle.theory.specs.Rebuild.{rebuild, rebuilt}
-use Rattle.theory.specs.Acts.{applyAll, applyAll-app, dir-rev}
+use Rattle.theory.specs.Acts.{applyAll-app, dir-rev}
 use Rattle.theory.specs.Append.{itemActs, commit-dir, length-commit, fill-take, drop-erased-is}
 use Rattle.theory.specs.Items.{toItem, items-good, ok-rev, AllOk, items-acts}
 use Rattle.theory.specs.Slots.{OkSlots, rebuild-ok, all-held, PutsOk, ok-dirOf}

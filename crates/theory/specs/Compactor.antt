@@ -1,11 +1,11 @@
 -- Document 01's acceptance of a compaction as one record of Booleans, and what follows of it: demand 3, and that the lookups stay. Assumes nothing.
-use mathlib.Core.Path.{_≡_, refl, sym, ap, _∙_}
-use mathlib.Core.Logic.{_≢_, inr}
-use mathlib.Core.Bool.{Bool, true, false, not}
-use mathlib.Core.List.{List, []}
+use mathlib.Core.Path.{_≡_, refl}
+use mathlib.Core.Logic.{inr}
+use mathlib.Core.Bool.{Bool, true, false}
+use mathlib.Core.List.{List}
 use Prim.Native.Nat.{ℕ, _+_, _^_, _≤_, _<_}
 use native.Mathlib.Omega.{arith}
-use lib.ListN.{length, getD}
+use lib.ListN.{length}
 use lib.Dec.{leb}
 use borrow.Author.Tests.{leb-true}
 use Rattle.format.specs.Word.{toLe32, allOnes, plus32}
@@ -18,18 +18,17 @@ use Rattle.format.specs.View.{at}
 use Rattle.format.specs.Regular.{between, Regular}
 use Rattle.format.specs.Commit.{checkTag, Item, itemsHold}
 use Rattle.format.specs.Stores.{compacted, compacting, coincides}
-use Rattle.format.specs.Directory.{empty, dirOf}
+use Rattle.format.specs.Directory.{dirOf}
 use Rattle.format.proofs.Tags.{of-size}
 use Rattle.theory.specs.Steps.{both-true}
 use Rattle.theory.specs.Stores.{CommitFits, commitEvents}
-use Rattle.theory.specs.Pair.{viewAt, view-log}
+use Rattle.theory.specs.Pair.{viewAt}
 use Rattle.theory.specs.Directory.{mostSlots}
 use Rattle.theory.specs.Slots.{OkSlots, ok-dirOf}
 use Rattle.theory.specs.Compact.{Still, compactItems, compact-good, AfterCompact, demand3-compact}
 use Rattle.theory.specs.Entries.{good-check, plain-check}
 use Rattle.theory.specs.Allowed.{length-dirOf}
-use Rattle.theory.specs.Queries.{Query}
-use Rattle.theory.specs.Searchable.{RegularLog, looked, directory-lookup}
+use Rattle.theory.specs.Searchable.{RegularLog}
 use Rattle.theory.specs.Made.{AllMade}
 use Rattle.theory.specs.Accepted.{regular-log, regular-loads, regular-count, items-ok}
 use Rattle.theory.specs.Writer.{no-coincidence}
@@ -87,23 +86,3 @@ module _ (x : List ℕ) (v : ℕ) (es : List Event) (ts : List Item) (size m : �
     pub compact-stopped : (n : ℕ) → AfterCompact w x v es (compactItems (dirOf es) ts) (checkTag size)
         (compacting o (plus32 v 1) (compactItems (dirOf es) ts) (checkTag size) m n) (compacted (plus32 v 1) (compactItems (dirOf es) ts) (checkTag size) m)
     compact-stopped n = demand3-compact w x o v es ts (checkTag size) m n answers word (regular-loads x es (a .old) (a .regular)) few (a .still) compact-fits
-
-    -- the directory lookups on the bytes of the compacted block are those of the old one
-    pub compact-lookups : (mask T c s i : ℕ) → Query mask T c → s < 2 ^ 10 → i < length (dirOf es)
-        → (let b : List ℕ = compacted (plus32 v 1) (compactItems (dirOf es) ts) (checkTag size) m in
-        let n : List Event = commitEvents (crc allOnes (toLe32 (plus32 v 1))) allOnes (compactItems (dirOf es) ts) (checkTag size) in
-        looked b n mask T i s
-        ≡ looked x es mask T i s)
-    compact-lookups mask T c s i q hs hi =
-        let b : List ℕ = compacted (plus32 v 1) (compactItems (dirOf es) ts) (checkTag size) m in
-        let n : List Event = commitEvents (crc allOnes (toLe32 (plus32 v 1))) allOnes (compactItems (dirOf es) ts) (checkTag size) in
-        let f = compact-stopped 0 in
-        let p = view-swap w x b (plus32 v 1) n (f .finished) in
-        let l = view-log w x o v es answers in
-        directory-lookup b n mask T c s i (p .0) (p .1) (regular-log b n (p .0) compacted-regular) q hs (rw (f .same) hi)
-        ∙ ap (λ D. getD D i empty c) (f .same)
-        ∙ sym (directory-lookup x es mask T c s i (l .0) (l .1) was q hs hi)
-      where
-        view-swap : (w : Bool) (x b : List ℕ) (r : ℕ) (n : List Event) → viewAt w x b ≡ at (not w) r n → (log b ≡ n) × (n ≢ [])
-        view-swap false x b r n h = view-log true b x r n h
-        view-swap true x b r n h = view-log false b x r n h

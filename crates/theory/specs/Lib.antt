@@ -24,13 +24,12 @@ pub mod Items
 pub mod Slots
 pub mod Compact
 pub mod Entries
--- The lookups: what is allowed; masks; the key and the difference; on the bytes of a block; the move state; through an append.
+-- The lookups: what is allowed; masks; the key and the difference; on the bytes of a block; the move state.
 pub mod Allowed
 pub mod Queries
 pub mod Lookup
 pub mod Searchable
 pub mod Move
-pub mod Appended
 -- What a writer tests, document 01's Booleans, and all of the above from them: the pages to cite are Accepted, Writer and Compactor.
 pub mod Ruled
 pub mod Made
@@ -49,4 +48,14 @@ pub mod Gathered
 pub mod Listed
 pub mod Behind
 pub mod Compaction
+-- Demand 3, of the calls: a lookup at offset 0; a pair shows the machine of its log; images that read as before; what entries make of the machine;
+-- both calls. The pages to cite are Shown, StoppedCommit and StoppedCompaction.
+pub mod Places
+pub mod Slice
+pub mod Moved
+pub mod Shown
+pub mod Kept
+pub mod Runs
+pub mod StoppedCommit
+pub mod StoppedCompaction
 pub mod Instance

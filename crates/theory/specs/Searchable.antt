@@ -131,12 +131,3 @@ block-lookup b es mask T c s i h nonempty r q hs hi =
     let key : minus32 (tagOf T i s) 0 ≡ tagOf T i s = omega arith in
     let f = wlook-find b mask T c s i q hs (omega arith) (back b (logEnd es) (logEndTag es)) 0 i (omega arith) sh (rw ms (r .rules)) (rw ms (r .low)) (rw ms few) (rw ms hi) key in
     (f .0 ∙ rw ms (find-dir (reverse (acts es)) c i (r .rules) hi), f .1)
-
-pub directory-lookup : (b : List ℕ) (es : List Event) (mask T c s i : ℕ) → log b ≡ es → es ≢ [] → RegularLog es → Query mask T c → s < 2 ^ 10 → i < length (dirOf es)
-    → looked b es mask T i s ≡ getD (dirOf es) i empty c
-directory-lookup b es mask T c s i h nonempty r q hs hi = block-lookup b es mask T c s i h nonempty (regular-searchable es r) q hs hi .0
-
--- and what it answers is that entry's tag with the id i, "the tag plus the difference"
-pub directory-answer : (b : List ℕ) (es : List Event) (mask T c s i : ℕ) → log b ≡ es → es ≢ [] → RegularLog es → Query mask T c → s < 2 ^ 10 → i < length (dirOf es)
-    → Answers i (wlook true mask (tagOf T i s) 0 (back b (logEnd es) (logEndTag es)))
-directory-answer b es mask T c s i h nonempty r q hs hi = block-lookup b es mask T c s i h nonempty (regular-searchable es r) q hs hi .1

@@ -1,11 +1,11 @@
 -- Document 01's acceptance of a commit as one record of Booleans, and what follows of it: demand 3, the directory, regularity. Assumes nothing.
 use mathlib.Core.Path.{_≡_, refl, ap, ap₂, _∙_}
-use mathlib.Core.Logic.{_≢_, _⊎_}
+use mathlib.Core.Logic.{_≢_}
 use mathlib.Core.Bool.{Bool, true, false, _||_}
 use mathlib.Core.List.{List, [], _∷_, _++_}
 use Prim.Native.Nat.{ℕ, zero, suc, _+_, _-_, _^_, _≤_, _<_}
 use native.Mathlib.Omega.{arith}
-use lib.ListN.{length, drop, length-drop, getD}
+use lib.ListN.{length, drop, length-drop}
 use lib.Dec.{eqb, leb}
 use borrow.Author.Tests.{eqb-true, eqb-false, leb-true, ltb-true}
 use Rattle.format.specs.Word.{toBe32, xor, allOnes}
@@ -18,21 +18,17 @@ use Rattle.format.specs.View.{at}
 use Rattle.format.specs.Regular.{between, Regular}
 use Rattle.format.specs.Commit.{checkTag, Item, itemsHold}
 use Rattle.format.specs.Stores.{erasedByte, erased, allErased, fill, entriesLength, appending, coincides}
-use Rattle.format.specs.Directory.{empty, acts, dirOf}
+use Rattle.format.specs.Directory.{acts}
 use Rattle.format.proofs.Tags.{of-size}
 use Rattle.theory.specs.Steps.{both-true}
 use Rattle.theory.specs.Cut.{NoCoincidence}
 use Rattle.theory.specs.Stores.{commitEvents}
 use Rattle.theory.specs.Pair.{viewAt}
-use Rattle.theory.specs.Acts.{applyAll}
-use Rattle.theory.specs.Append.{AppendOk, AfterAppend, demand3-append, itemActs}
+use Rattle.theory.specs.Append.{AppendOk, AfterAppend, demand3-append}
 use Rattle.theory.specs.Entries.{good-check, plain-check}
 use Rattle.theory.specs.Allowed.{slotsAfterAll}
-use Rattle.theory.specs.Queries.{Query}
-use Rattle.theory.specs.Searchable.{looked}
-use Rattle.theory.specs.Appended.{ItemsOk, append-lookups, append-finished}
 use Rattle.theory.specs.Made.{AllMade}
-use Rattle.theory.specs.Accepted.{items-ok, regular-count, regular-log, regular-again}
+use Rattle.theory.specs.Accepted.{ItemsOk, items-ok, regular-count, regular-log, regular-again}
 
 -- ---- the Booleans, read
 pub erased-is : (l : List ℕ) → allErased l ≡ true → l ≡ erased (length l)
@@ -120,20 +116,3 @@ module _ (b : List ℕ) (es : List Event) (is : List Item) (size : ℕ) (a : Acc
     pub accepted-stopped : (k : ℕ) → k ≤ entriesLength is + 8
         → AfterAppend w o v es is (checkTag size) (appending b es is (checkTag size) k) (appending b es is (checkTag size) (entriesLength is + 8))
     accepted-stopped k h = demand3-append w b o v es is (checkTag size) k answers accepted h
-
-    -- the directory lookups, on the bytes of the block stopped after k stores
-    pub accepted-lookups : (k : ℕ) → k ≤ entriesLength is + 8
-        → (appending b es is (checkTag size) k ≡ appending b es is (checkTag size) (entriesLength is + 8))
-        ⊎ ((viewAt w (appending b es is (checkTag size) k) o ≡ viewAt w b o)
-        × ((mask T c s i : ℕ) → Query mask T c → s < 2 ^ 10 → i < length (dirOf es)
-        → looked (appending b es is (checkTag size) k) es mask T i s
-        ≡ looked b es mask T i s))
-    accepted-lookups k h = append-lookups w b o v es is (checkTag size) k answers accepted h (regular-log b es (a .old) (a .regular))
-
-    -- and on those of the finished block
-    pub accepted-finished : (mask T c s i : ℕ) → Query mask T c → s < 2 ^ 10 → i < length (applyAll (dirOf es) (itemActs is))
-        → (let x : List ℕ = appending b es is (checkTag size) (entriesLength is + 8) in
-        let n : List Event = es ++ commitEvents allOnes (logEndTag es) is (checkTag size) in
-        looked x n mask T i s ≡ getD (applyAll (dirOf es) (itemActs is)) i empty c)
-    accepted-finished mask T c s i q hs hi =
-        append-finished w b o v es is (checkTag size) mask T c s i answers accepted (regular-log b es (a .old) (a .regular)) (regular-count b es (a .old) (a .regular)) accepted-items q hs hi
