@@ -124,10 +124,12 @@ view-next : (w : Bool) (x o o′ : List ℕ) (v : ℕ) (es : List Event) → vie
 unfolding view
 view-next false x o o′ v es h small r n =
     let i = rank-left-is (secondFirst (le32 x) (le32 o)) (le32 x) (le32 o) (log x) (log o) v es h in
-    rw (i .0, r, next-first v small) (rank-second v (plus32 v 1) (log x) (log o′) n)
+    let next : secondFirst v (le32 o′) ≡ true = ap (secondFirst v) r ∙ next-first v small in
+    rw (i .0, next, r) (rank-second v (plus32 v 1) (log x) (log o′) n)
 view-next true x o o′ v es h small r n =
     let i = rank-right-is (secondFirst (le32 o) (le32 x)) (le32 o) (le32 x) (log o) (log x) v es h in
-    rw (i .0, r, next-stays v small) (rank-first (plus32 v 1) v (log o′) (log x) n)
+    let next : secondFirst (le32 o′) v ≡ false = ap (λ (u : ℕ). secondFirst u v) r ∙ next-stays v small in
+    rw (i .0, next, r) (rank-first (plus32 v 1) v (log o′) (log x) n)
 
 -- ---- which block's log a view names
 pub view-log : (w : Bool) (x o : List ℕ) (v : ℕ) (es : List Event) → viewAt w x o ≡ at w v es → (log x ≡ es) × (es ≢ [])
