@@ -65,7 +65,8 @@ image es dat n = commitImages geometry first second 0 1 0 0 es dat n
 abbrev answer : List ℕ → List Entry → List ℕ → Committed
 answer b es dat = commitOf geometry b second 0 1 0 0 es dat
 
--- five stores; all of them; the answers; "an entry is bad", the space, a set byte far behind the end, equal block numbers
+-- five stores; all of them; the answers; "an entry is bad", the space, both ("-201, -28": the entry), a set byte far behind the end, equal block
+-- numbers
 listing : (image (deadline ∷ []) seconds 5 ≡ images (laid ++ erased 9 ++ take 5 more ++ erased 75) second)
     × (commitStoresOf geometry first second 0 1 0 0 (deadline ∷ []) seconds 5 ≡ stored.Made 5)
     × (image (deadline ∷ []) seconds unlimited ≡ images (laid ++ erased 9 ++ more ++ erased 64) second)
@@ -77,7 +78,8 @@ listing : (image (deadline ∷ []) seconds 5 ≡ images (laid ++ erased 9 ++ tak
     × (image (create ∷ past ∷ []) seconds 5 ≡ images first second)
     × (commitStoresOf geometry first second 0 1 0 0 (struct 68 ∷ []) (erased 69) 100 ≡ stored.Made 80)
     × (answer first (struct 69 ∷ []) (erased 69) ≡ committed.Refused NoSpace)
+    × (answer first (struct 69 ∷ past ∷ []) (erased 69) ≡ committed.Refused (BadEntry 1))
     × (answer (laid ++ erased 88 ++ (0xfe ∷ [])) (deadline ∷ []) seconds ≡ committed.Refused Unclean)
     × (commitOf geometry first second 7 7 0 0 [] [] ≡ committed.Refused Invalid)
 unfolding commitImages commitOf commitStoresOf verdictOf commitFits pairFits geometryFits fetchOf tooHigh view rank log committed walk walkFrom walkIn classOf readBehind bodyLength tagLength tagFlipped be32 le32 toBe32 toLe32 xor crc crcByte crcBits crcBit mdirOf erasedOf stoppedStraight span eventLength tagAfter countOf counted splitOf tailOf forwardOf seedOf appended Regular regularFrom ruleOf ruleHolds countAfter judge entryBody placed roundedEnd checkSize roomClean allErased coincides fill entriesLength tagOf appending commitBytes
-listing = (refl, refl, refl, refl, refl, refl, refl, refl, refl, refl, refl)
+listing = (refl, refl, refl, refl, refl, refl, refl, refl, refl, refl, refl, refl)
