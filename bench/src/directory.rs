@@ -14,14 +14,14 @@ use oracle::model::{tag_of, CHECK, CREATE, FILE, ID_BITS, INLINE, NAME, NO_SLOT,
 use oracle::port::Port;
 use std::hint::black_box;
 
-const ATTRIBUTE: u32 = 0x374;
+pub const ATTRIBUTE: u32 = 0x374;
 const NO_ATTRIBUTE: u32 = 0x3aa;
 const PROG_SIZE: u32 = 16;
 const BUFFER: usize = 16;
 
 pub struct Directory {
-    images: [Vec<u8>; 2],
-    geometry: Geometry,
+    pub images: [Vec<u8>; 2],
+    pub geometry: Geometry,
     pub dir: Mdir,
     slots: u32,
     /// The slot that was created first: its create is the log's first tag.
@@ -66,17 +66,22 @@ impl Directory {
         directory
     }
 
-    fn blocks(&self) -> Blocks<'_> {
+    fn blocks<'a>(&self, images: &'a [Vec<u8>; 2]) -> Blocks<'a> {
         Blocks {
             geometry: self.geometry,
-            images: [&self.images[0], &self.images[1]],
+            images: [&images[0], &images[1]],
             numbers: [0, 1],
         }
     }
 
     fn fetch(&self, seed: u32) -> Fetch<'_> {
+        self.fetch_of(&self.images, seed)
+    }
+
+    /// A fetch of a copy of the images.
+    pub fn fetch_of<'a>(&self, images: &'a [Vec<u8>; 2], seed: u32) -> Fetch<'a> {
         Fetch {
-            blocks: self.blocks(),
+            blocks: self.blocks(images),
             block_count: 0,
             seed,
         }
@@ -84,7 +89,7 @@ impl Directory {
 
     fn lookup(&self) -> Lookup<'_> {
         Lookup {
-            blocks: self.blocks(),
+            blocks: self.blocks(&self.images),
             dir: self.dir,
             gdisk: Gstate::default(),
         }

@@ -1,6 +1,7 @@
 //! The speed of the port beside the unchanged Rust, both measured in one run.
 //!
-//! Exit: 0; with `--goal` 1 if the port misses the goal; 2 on a wrong argument.
+//! Exit: 0; 1 if a compaction takes more fetches than it may, with `--goal` also
+//! if the port misses the goal; 2 on a wrong argument.
 //! Without the Rust it measures nothing and says so (`SKIPPED:`).
 //!
 //! Assumes that nothing else of weight runs meanwhile.
@@ -9,14 +10,18 @@
 mod directory;
 #[cfg(lfs_rust)]
 mod measure;
+#[cfg(lfs_rust)]
+mod writing;
 
 #[cfg(lfs_rust)]
 use std::hint::black_box;
 use std::process::ExitCode;
 
 const USAGE: &str = "usage: bench [--goal]
-Measures the port beside the unchanged Rust. With --goal it exits 1 if lfs_crc
-of 4,096 bytes takes more than 1.10 times the Rust's time.";
+Measures the port beside the unchanged Rust, and writing beside one fetch of the
+same pair. It exits 1 if a compaction of 1,000 slots takes more than 300 fetches;
+with --goal also if lfs_crc of 4,096 bytes takes more than 1.10 times the Rust's
+time.";
 
 fn main() -> ExitCode {
     let arguments: Vec<_> = std::env::args_os().skip(1).collect();
@@ -71,12 +76,49 @@ fn measure(goal: bool) -> ExitCode {
             );
         }
     }
+    let long = write_lines();
     if goal {
         let end = if missed { "missed" } else { "met" };
         println!("goal {end}: at most {:.2} at {} bytes", GOAL.0, GOAL.1);
     }
-    ExitCode::from(u8::from(goal && missed))
+    ExitCode::from(u8::from(long || (goal && missed)))
 }
+
+/// The lines of writing. True if the last compaction takes too long.
+#[cfg(lfs_rust)]
+fn write_lines() -> bool {
+    use directory::Directory;
+
+    println!(
+        "\n{:<26}{:>7}{:>12}{:>12}{:>12}",
+        "writing", "bytes", "port ns", "fetch ns", "port/fetch"
+    );
+    let mut fetches = 0.0;
+    for (block_size, slots, in_a_commit) in WRITTEN {
+        let directory = Directory::new(block_size, slots, in_a_commit);
+        println!("a block of {block_size} bytes, {slots} slots:");
+        let lines = [writing::commit(&directory), writing::compact(&directory)];
+        for writing::Line { name, beside } in &lines {
+            println!(
+                "{name:<26}{:>7}{:>12.1}{:>12.1}{:>12.2}",
+                directory.dir.off,
+                beside.write,
+                beside.fetch,
+                beside.fetches()
+            );
+        }
+        fetches = lines[1].beside.fetches();
+    }
+    let (most, long) = (writing::MOST_FETCHES, fetches > writing::MOST_FETCHES);
+    let holds = if long { "DOES NOT HOLD" } else { "holds" };
+    println!("a compaction of 1,000 slots takes {fetches:.1} fetches; at most {most}: {holds}");
+    long
+}
+
+/// Block size, slots, slots in each commit: a block that is half full, and the
+/// larger directory of above.
+#[cfg(lfs_rust)]
+const WRITTEN: [(u32, u32, u32); 2] = [(4096, 64, 4), (32_768, 1000, 8)];
 
 /// Block size, slots, slots in each commit, and slots that are looked up: all of
 /// the smaller directory, and some of the larger one, spread evenly, so that a

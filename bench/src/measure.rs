@@ -1,4 +1,4 @@
-//! Two functions timed side by side.
+//! Two functions timed side by side, or two calls in turn.
 //!
 //! Many short slices of both, in turn, and the least time of each: a pause of
 //! the machine or a change of its clock then falls on both sides, or on a slice
@@ -15,6 +15,8 @@ use std::time::{Duration, Instant};
 const ROUNDS: u128 = 400;
 const LONGEST: Duration = Duration::from_millis(1500);
 const FEWEST: u128 = 10;
+/// The most rounds of calls that are timed alone.
+const ALONE: u128 = 2_000;
 const SLICE: Duration = Duration::from_micros(200);
 
 /// The least time of one call, in nanoseconds, on each side.
@@ -35,6 +37,50 @@ impl Times {
             rust: self.rust / parts as f64,
         }
     }
+}
+
+/// The least time of a call that writes, and of a fetch of the same pair, in
+/// nanoseconds.
+pub struct Beside {
+    pub write: f64,
+    pub fetch: f64,
+}
+
+impl Beside {
+    pub fn fetches(&self) -> f64 {
+        self.write / self.fetch
+    }
+}
+
+/// A fetch and a call that writes, in turn, on the same copy of the images. Each
+/// call is timed alone; the copy is made outside the clock, into the same memory
+/// each time.
+pub fn in_turn<F, W>(images: &[Vec<u8>; 2], mut fetch: F, mut write: W) -> Beside
+where
+    F: FnMut(&[Vec<u8>; 2]) -> u32,
+    W: FnMut(&mut [Vec<u8>; 2]) -> u32,
+{
+    let mut lent = images.clone();
+    let mut least = [Duration::MAX; 2];
+    let begin = Instant::now();
+    for round in 0..ALONE {
+        if round >= FEWEST && begin.elapsed() > LONGEST {
+            break;
+        }
+        for (to, from) in lent.iter_mut().zip(images) {
+            to.copy_from_slice(from);
+        }
+        let start = Instant::now();
+        black_box(fetch(&lent));
+        let fetched = start.elapsed();
+        let start = Instant::now();
+        let seed = black_box(write(&mut lent));
+        let written = start.elapsed();
+        assert_eq!(seed, fetch(&lent), "fetch gives the seed that was answered");
+        least = [least[0].min(fetched), least[1].min(written)];
+    }
+    let [fetch, write] = least.map(|time| time.as_nanos() as f64);
+    Beside { write, fetch }
 }
 
 /// Measures two functions from a register to a register.
