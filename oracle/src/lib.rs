@@ -49,6 +49,8 @@ pub mod port;
 pub mod random;
 #[cfg(lfs_rust)]
 pub mod record;
+#[cfg(lfs_rust)]
+pub mod stopped;
 pub mod tally;
 #[cfg(lfs_rust)]
 pub mod teeth;

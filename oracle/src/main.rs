@@ -8,10 +8,12 @@
 
 use std::process::ExitCode;
 
-const USAGE: &str = "usage: oracle | oracle histories [stand-in] | oracle teeth | oracle record FILE N
-Compares the port with the unchanged Rust. `histories` compares writing alone, of
-the port or, with `stand-in`, of the second implementation; `teeth` instead runs every fault of the second implementation through the
-comparison, and `record` writes N inputs with the Rust's answers to a file. What
+const USAGE: &str = "usage: oracle | oracle histories [stand-in] | oracle stopped [stand-in] | oracle teeth
+       oracle record FILE N
+Compares the port with the unchanged Rust. `histories` compares writing alone, and
+`stopped` stops accepted calls after every number of stores: of the port or, with
+`stand-in`, of the second implementation. `teeth` instead runs every fault of the
+second implementation through the comparisons, and `record` writes N inputs with the Rust's answers to a file. What
 is compared is fixed when the program is built, by LFS_RUST_SRC and LANOLIN_LIB.";
 
 fn main() -> ExitCode {
@@ -24,6 +26,8 @@ fn main() -> ExitCode {
         [] => compare(),
         ["histories"] => histories(false),
         ["histories", "stand-in"] => histories(true),
+        ["stopped"] => stopped(false),
+        ["stopped", "stand-in"] => stopped(true),
         ["teeth"] => teeth(),
         ["record", file, number] => match number.parse() {
             Ok(number) => record(file, number),
@@ -46,6 +50,11 @@ fn compare() -> ExitCode {
 
 #[cfg(not(lfs_rust))]
 fn histories(_stand_in: bool) -> ExitCode {
+    skip()
+}
+
+#[cfg(not(lfs_rust))]
+fn stopped(_stand_in: bool) -> ExitCode {
     skip()
 }
 
@@ -111,6 +120,35 @@ fn histories(stand_in: bool) -> ExitCode {
     }
     println!("time: {:.2} s", start.elapsed().as_secs_f64());
     conclude(totals)
+}
+
+/// Every stop of accepted calls.
+#[cfg(lfs_rust)]
+fn stopped(stand_in: bool) -> ExitCode {
+    use oracle::model::{FAULTLESS, FAULTLESS_WRITER};
+    use oracle::port::Port;
+    use oracle::stopped::{compare, Asked};
+
+    println!("Accepted calls, stopped after every number of stores.");
+    let start = std::time::Instant::now();
+    let (subject, line) = match stand_in {
+        true => {
+            println!("NOT THE PORT: the second implementation stands in for it.");
+            let (writer, reader) = (&FAULTLESS_WRITER, &FAULTLESS);
+            compare(&Asked { writer, reader })
+        }
+        false => compare(&Asked {
+            writer: &Port,
+            reader: &Port,
+        }),
+    };
+    subject.print();
+    println!("time: {:.2} s", start.elapsed().as_secs_f64());
+    match subject.totals().differences {
+        0 => println!("{line}, no difference"),
+        differences => println!("{line}, {differences} DIFFERENCES"),
+    }
+    ExitCode::from(u8::from(subject.totals().differences > 0))
 }
 
 /// The histories. What the archive lacks is said, and nothing counts for it.

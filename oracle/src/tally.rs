@@ -108,6 +108,11 @@ impl Check {
         }
     }
 
+    /// Its name, if something differed.
+    pub fn differing(&self) -> Option<&'static str> {
+        (self.differences > 0).then_some(self.name)
+    }
+
     fn say(&self, inputs: &str, expected: &str, port: &str) {
         let whose = match self.expected {
             Expected::Rust => "the Rust",

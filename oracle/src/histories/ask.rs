@@ -39,6 +39,18 @@ impl Outcome {
         }
     }
 
+    /// What must come out: an answer, and the images with the margins as they
+    /// were.
+    pub fn expected(answer: Answer, images: &[Vec<u8>; 2]) -> Outcome {
+        let margin = [FILL; MARGIN];
+        let [b0, b1] = images;
+        Outcome {
+            answer,
+            memory: [&margin[..], b0, &margin, b1, &margin].concat(),
+            lengths: [b0.len(), b1.len()],
+        }
+    }
+
     pub fn images(&self) -> [Vec<u8>; 2] {
         let [len0, len1] = self.lengths;
         let second = 2 * MARGIN + len0;
@@ -57,11 +69,10 @@ impl Debug for Outcome {
 }
 
 /// What the pair is after a call.
-pub enum After<'a> {
+pub enum After {
     /// As before.
     Refused,
-    /// Finished: this directory.
-    Finished(&'a Directory),
+    Finished,
     /// Cut short, or not: fetched before and at the end, and whether the
     /// finished bytes are there already.
     Cut {
@@ -78,7 +89,10 @@ pub struct Step<'a> {
     pub case: &'a Case,
     /// What must come out.
     pub truth: &'a Outcome,
-    pub after: After<'a>,
+    pub after: After,
+    /// The directory before the call, and with its entries applied: kept by the
+    /// machine, from the lists alone.
+    pub directories: [&'a Directory; 2],
     /// The user attributes that the history uses.
     pub types: &'a [u32],
 }

@@ -3,24 +3,33 @@
 //! Assumes nothing.
 
 use super::ask::{fetched, task, After, Outcome, Step};
-use super::history::{read, History};
+use super::history::History;
 use crate::calls::write::Work;
 use crate::model::FAULTLESS_WRITER;
 
 impl History<'_> {
-    /// One call with a limit; the images afterwards, and the stores made.
-    pub(super) fn limited(&mut self, kind: &'static str, work: Work, limit: u32) -> [Vec<u8>; 2] {
+    /// One call with a limit; the images afterwards, and whether they are the
+    /// finished ones.
+    pub(super) fn limited(
+        &mut self,
+        kind: &'static str,
+        work: Work,
+        limit: u32,
+    ) -> ([Vec<u8>; 2], bool) {
+        let directory = self.applied(work);
         let task = task(&self.case, work, Some(limit));
         let truth = Outcome::of(&FAULTLESS_WRITER, &task, &self.case.images);
         let images = truth.images();
+        let mut finished = false;
         let after = match truth.answer.result() {
             0 => {
                 let whole = super::ask::task(&self.case, work, None);
                 let whole = Outcome::of(&FAULTLESS_WRITER, &whole, &self.case.images).images();
+                finished = images == whole;
                 After::Cut {
                     old: self.fetched(),
                     new: fetched(&self.case, &whole),
-                    finished: images == whole,
+                    finished,
                 }
             }
             _ => After::Refused,
@@ -31,12 +40,14 @@ impl History<'_> {
             case: &self.case,
             truth: &truth,
             after,
+            directories: [&self.directory, &directory],
             types: &self.habits.types,
         });
-        images
+        (images, finished)
     }
 
-    /// A call cut short; the history goes on from what is left.
+    /// A call cut short; the history goes on from what is left, and the machine
+    /// from the finished directory or the old one.
     pub(super) fn cut(&mut self) {
         let list = self.list();
         let work = match self.random.below(3) {
@@ -53,9 +64,11 @@ impl History<'_> {
             2 => length + self.random.below(3),
             _ => self.random.below(length + 1),
         };
-        let images = self.limited("cut, and gone on from", work, limit as u32);
+        let (images, finished) = self.limited("cut, and gone on from", work, limit as u32);
+        if finished {
+            self.directory = self.applied(work);
+        }
         self.case.images = images;
-        self.directory = read(&self.case);
     }
 
     /// How many stores a call makes, or 0 if it is refused.

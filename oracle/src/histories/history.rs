@@ -111,20 +111,28 @@ impl History<'_> {
             let limit = self.random.below(80) as u32;
             self.limited(kind, work, limit);
         }
-        let mut directory = self.directory.clone();
-        for entry in &list.entries {
-            take(&mut directory, entry, &list.data);
-        }
-        let result = self.whole(kind, work, directory);
+        let result = self.whole(kind, work);
         self.stuck = matches!(result, NO_SPACE | UNCLEAN);
         result
     }
 
     pub(super) fn compact(&mut self, kind: &'static str) {
-        self.whole(kind, Work::Compact, self.directory.clone());
+        self.whole(kind, Work::Compact);
     }
 
-    fn whole(&mut self, kind: &'static str, work: Work, directory: Directory) -> i32 {
+    /// The machine with the entries of a call applied; a compaction has none.
+    pub(super) fn applied(&self, work: Work) -> Directory {
+        let mut directory = self.directory.clone();
+        if let Work::Commit { entries, data } = work {
+            for entry in entries {
+                take(&mut directory, entry, data);
+            }
+        }
+        directory
+    }
+
+    fn whole(&mut self, kind: &'static str, work: Work) -> i32 {
+        let directory = self.applied(work);
         let task = task(&self.case, work, None);
         let truth = Outcome::of(&FAULTLESS_WRITER, &task, &self.case.images);
         let result = truth.answer.result();
@@ -134,9 +142,10 @@ impl History<'_> {
             case: &self.case,
             truth: &truth,
             after: match result {
-                0 => After::Finished(&directory),
+                0 => After::Finished,
                 _ => After::Refused,
             },
+            directories: [&self.directory, &directory],
             types: &self.habits.types,
         });
         if result == 0 {

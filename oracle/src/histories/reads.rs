@@ -51,11 +51,11 @@ impl Reads {
             seed: step.task.seed,
         };
         match (&step.after, step.truth.answer) {
-            (After::Finished(directory), Answer::Committed(answer)) => {
+            (After::Finished, Answer::Committed(answer)) => {
                 let Fetched { result, dir, seed } = self.rust.fetch(&fetch);
                 let said = (answer.result, answer.dir, answer.seed);
                 self.fetches.same((result, dir, seed), said, text);
-                self.directory(fetch.blocks, dir, directory, step.types, text);
+                self.directory(fetch.blocks, dir, step.directories[1], step.types, text);
             }
             (After::Cut { old, new, finished }, _) => {
                 let read = self.rust.fetch(&fetch);

@@ -1,9 +1,10 @@
-//! The simple directory machine: "slots inserted, removed, attributes set".
+//! The simple directory machine: "slots inserted, removed, attributes set". It
+//! keeps the tail and the move state too.
 //!
 //! Assumes entries that pass the rules; others change nothing.
 
 use super::committed::Logged;
-use super::tag::*;
+use super::{bytes::*, tag::*};
 use std::collections::BTreeMap;
 
 /// A type and its data.
@@ -17,10 +18,23 @@ pub struct Slot {
     pub attributes: BTreeMap<u32, Vec<u8>>,
 }
 
-#[derive(Clone, Debug, Default, PartialEq, Eq)]
+#[derive(Clone, Debug, PartialEq, Eq)]
 pub struct Directory {
     pub slots: Vec<Slot>,
+    /// Whether the tail is hard, and its two words.
+    pub tail: (bool, [u32; 2]),
     pub move_state: Option<Vec<u8>>,
+}
+
+impl Default for Directory {
+    /// "Tail begins as two 0xffffffff."
+    fn default() -> Directory {
+        Directory {
+            slots: Vec::new(),
+            tail: (false, [ONES; 2]),
+            move_state: None,
+        }
+    }
 }
 
 impl Directory {
@@ -44,7 +58,14 @@ impl Directory {
                 self.slots.remove(id);
             }
             MOVE_STATE => self.move_state = data.map(<[u8]>::to_vec),
+            SOFT_TAIL | HARD_TAIL => self.point(type_ == HARD_TAIL, data.unwrap_or_default()),
             _ => self.set(type_, id, data),
+        }
+    }
+
+    fn point(&mut self, hard: bool, data: &[u8]) {
+        if let (Some(first), Some(second)) = (le32(data, 0), le32(data, 4)) {
+            self.tail = (hard, [first, second]);
         }
     }
 

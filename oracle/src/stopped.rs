@@ -1,0 +1,265 @@
+//! Demand 3, tried by running: an accepted commit or compaction stopped after
+//! each number of its stores, from none to one more than there are, each time on
+//! a fresh copy of the images.
+//!
+//! "fetch gives the finished directory if the finished bytes are there, else the
+//! old one; only the old record's erased mark may differ". No second writer says
+//! what is expected: it follows from what the call answers without a limit, from
+//! what was read before the first store, and from the directory machine, which
+//! the histories keep from their lists alone.
+//!
+//! Assumes nothing of who is asked.
+
+mod call;
+mod machine;
+mod next;
+
+use crate::calls::write::{Answer, Committed, Stored, Task, Work, Writes};
+use crate::calls::{Fetched, Mdir, Voice};
+use crate::histories::ask::{text, Outcome, Step};
+use crate::histories::history;
+use crate::tally::{grouped, Check, Subject};
+use call::{Call, State};
+
+/// How many histories, and how many steps each has.
+const HISTORIES: u64 = 1_500;
+const STEPS: usize = 8;
+/// Calls on larger blocks are left out: they have thousands of stops each.
+const LARGEST: u32 = 2048;
+
+/// Who is asked to write, and who reads what is left. Of the port, both.
+pub struct Asked<'a, W, R> {
+    pub writer: &'a W,
+    pub reader: &'a R,
+}
+
+/// What is compared at the stops, and how often.
+pub struct Stopped {
+    calls: u64,
+    stops: u64,
+    stores: Check,
+    finished: Check,
+    finished_lookups: Check,
+    before_lookups: Check,
+    old: Check,
+    old_lookups: Check,
+    next: Check,
+}
+
+impl Default for Stopped {
+    fn default() -> Stopped {
+        Stopped {
+            calls: 0,
+            stops: 0,
+            stores: Check::ours("stores: single bytes, rising"),
+            finished: Check::ours("finished: record and seed"),
+            finished_lookups: Check::ours("finished: directory"),
+            before_lookups: Check::ours("before the call: directory"),
+            old: Check::ours("stopped: record and seed"),
+            old_lookups: Check::ours("stopped: directory"),
+            next: Check::ours("what a recovery does next"),
+        }
+    }
+}
+
+/// One pass over the histories: the subject, and the closing line without what
+/// it found.
+pub fn compare<W: Writes, R: Voice>(asked: &Asked<W, R>) -> (Subject, String) {
+    let (mut stopped, mut pairs) = (Stopped::default(), 0);
+    for number in 0..HISTORIES {
+        let calls = stopped.calls;
+        run(number, &mut |step| stopped.judge(asked, step));
+        pairs += u64::from(stopped.calls > calls);
+    }
+    let (calls, stops) = (stopped.calls, stopped.stops);
+    let mut subject = Subject::new("stopped: every stop of an accepted call");
+    for check in stopped.into_checks() {
+        subject.add(check);
+    }
+    let line = format!(
+        "stopped: {} pairs, {} accepted calls, {} stops, {} comparisons",
+        grouped(pairs),
+        grouped(calls),
+        grouped(stops),
+        grouped(subject.totals().ours)
+    );
+    (subject, line)
+}
+
+/// The history of this number.
+pub fn run(number: u64, tell: history::Tell) {
+    history::run(number, STEPS, tell);
+}
+
+impl Stopped {
+    fn into_checks(self) -> [Check; 7] {
+        [
+            self.stores,
+            self.finished,
+            self.finished_lookups,
+            self.before_lookups,
+            self.old,
+            self.old_lookups,
+            self.next,
+        ]
+    }
+
+    /// The checks that found a difference.
+    pub fn differing(&self) -> Vec<&'static str> {
+        [
+            &self.stores,
+            &self.finished,
+            &self.finished_lookups,
+            &self.before_lookups,
+            &self.old,
+            &self.old_lookups,
+            &self.next,
+        ]
+        .into_iter()
+        .filter_map(Check::differing)
+        .collect()
+    }
+
+    pub fn calls(&self) -> u64 {
+        self.calls
+    }
+
+    /// Every stop of one call, if it has no limit and is accepted by who is
+    /// asked.
+    pub fn judge<W: Writes, R: Voice>(&mut self, asked: &Asked<W, R>, step: &Step) {
+        let small = step.case.geometry.block_size <= LARGEST;
+        if step.task.stores.is_some() || !small || !asked.writer.can(&step.task.work) {
+            return;
+        }
+        let whole = Outcome::of(asked.writer, &step.task, &step.case.images);
+        let Answer::Committed(answer) = whole.answer else {
+            return;
+        };
+        if answer.result != 0 {
+            return;
+        }
+        let every_type = self.calls.is_multiple_of(32);
+        self.calls += 1;
+        let call = Call::of(asked, step, answer, whole.images(), every_type);
+        self.ends(asked, &call);
+        for limit in 0..=call.all + 1 {
+            self.stops += 1;
+            self.stop(asked, &call, limit);
+        }
+    }
+
+    /// What is compared once: the directory before the call, the record and the
+    /// images of the finished one.
+    fn ends<W: Writes, R: Voice>(&mut self, asked: &Asked<W, R>, call: &Call) {
+        let say = || text(call.step);
+        for (question, answer) in call.questions[0].iter().zip(&call.before.answers) {
+            let weight = || call.weight(0);
+            self.before_lookups
+                .same_by_weight(&question.expected, answer, weight, say);
+        }
+        let weight = || call.weight(call.all);
+        self.finished
+            .same_by_weight(&call.known(), &call.said(), weight, say);
+        let laid = call.laid(call.all);
+        self.stores.same_by_weight(&laid, &call.finished, weight, say);
+        let state = State::of(asked.reader, call, &call.finished, &call.questions[1]);
+        for (question, answer) in call.questions[1].iter().zip(&state.answers) {
+            self.finished_lookups
+                .same_by_weight(&question.expected, answer, weight, say);
+        }
+    }
+
+    /// One stop: "exactly the first n of demand 3's list are made (all, if n is
+    /// larger) and the number made is the answer".
+    fn stop<W: Writes, R: Voice>(&mut self, asked: &Asked<W, R>, call: &Call, limit: usize) {
+        let step = call.step;
+        let task = Task {
+            stores: Some(limit as u32),
+            ..step.task
+        };
+        let left = Outcome::of(asked.writer, &task, &step.case.images);
+        let made = limit.min(call.all);
+        let expected = Answer::Stored(Stored {
+            result: 0,
+            index: 0,
+            stores: made as u32,
+        });
+        let expected = Outcome::expected(expected, &call.laid(made));
+        let (weight, say) = (|| call.weight(limit), || call.text(limit));
+        self.stores.same_by_weight(&expected, &left, weight, say);
+        let images = left.images();
+        match images == call.finished {
+            true => self.there(asked, call, &images, limit),
+            false => self.not_there(asked, call, &images, limit),
+        }
+        if next::sampled(call, limit) {
+            next::recover(&mut self.next, asked, call, &images, limit);
+        }
+    }
+
+    /// The finished bytes are there: what the call answered, and the machine's
+    /// directory.
+    fn there<W: Writes, R: Voice>(
+        &mut self,
+        asked: &Asked<W, R>,
+        call: &Call,
+        images: &[Vec<u8>; 2],
+        limit: usize,
+    ) {
+        let (weight, say) = (|| call.weight(limit), || call.text(limit));
+        let state = State::of(asked.reader, call, images, &call.questions[1]);
+        let Committed {
+            result, dir, seed, ..
+        } = call.answer;
+        let answered = Fetched { result, dir, seed };
+        self.finished
+            .same_by_weight(&answered, &state.fetched, weight, say);
+        self.finished.outcome(match limit < call.all {
+            true => "before the last store",
+            false => "all stores made",
+        });
+        for (question, answer) in call.questions[1].iter().zip(&state.answers) {
+            self.finished_lookups
+                .same_by_weight(&question.expected, answer, weight, say);
+        }
+    }
+
+    /// They are not: the old record but for its erased mark, the old seed, and
+    /// every directory lookup as before the first store.
+    fn not_there<W: Writes, R: Voice>(
+        &mut self,
+        asked: &Asked<W, R>,
+        call: &Call,
+        images: &[Vec<u8>; 2],
+        limit: usize,
+    ) {
+        let (weight, say) = (|| call.weight(limit), || call.text(limit));
+        let state = State::of(asked.reader, call, images, &call.questions[0]);
+        let (old, now) = (call.before.fetched, state.fetched);
+        self.old
+            .same_by_weight(&unmarked(old), &unmarked(now), weight, say);
+        self.old.outcome(match (old.dir.erased, now.dir.erased) {
+            (1, 0) => "erased mark gone",
+            (0, 1) => "erased mark new",
+            _ => "same erased mark",
+        });
+        self.old.outcome_of("of", match call.step.task.work {
+            Work::Commit { .. } => "commits",
+            Work::Compact => "compactions",
+        });
+        for (before, now) in call.before.answers.iter().zip(&state.answers) {
+            self.old_lookups.same_by_weight(before, now, weight, say);
+        }
+    }
+}
+
+/// "only the old record's erased mark may differ"
+fn unmarked(fetched: Fetched) -> Fetched {
+    Fetched {
+        dir: Mdir {
+            erased: 0,
+            ..fetched.dir
+        },
+        ..fetched
+    }
+}
