@@ -22,7 +22,7 @@ use crate::tally::{grouped, Check, Subject};
 use call::{Call, State};
 
 /// How many histories, and how many steps each has.
-const HISTORIES: u64 = 1_500;
+const HISTORIES: u64 = 4_000;
 const STEPS: usize = 8;
 /// Calls on larger blocks are left out: they have thousands of stops each.
 const LARGEST: u32 = 2048;
@@ -71,16 +71,15 @@ pub fn compare<W: Writes, R: Voice>(asked: &Asked<W, R>) -> (Subject, String) {
         run(number, &mut |step| stopped.judge(asked, step));
         pairs += u64::from(stopped.calls > calls);
     }
-    let (calls, stops) = (stopped.calls, stopped.stops);
     let mut subject = Subject::new("stopped: every stop of an accepted call");
-    for check in stopped.into_checks() {
-        subject.add(check);
+    for check in stopped.checks() {
+        subject.add(check.clone());
     }
     let line = format!(
         "stopped: {} pairs, {} accepted calls, {} stops, {} comparisons",
         grouped(pairs),
-        grouped(calls),
-        grouped(stops),
+        grouped(stopped.calls),
+        grouped(stopped.stops),
         grouped(subject.totals().ours)
     );
     (subject, line)
@@ -92,20 +91,7 @@ pub fn run(number: u64, tell: history::Tell) {
 }
 
 impl Stopped {
-    fn into_checks(self) -> [Check; 7] {
-        [
-            self.stores,
-            self.finished,
-            self.finished_lookups,
-            self.before_lookups,
-            self.old,
-            self.old_lookups,
-            self.next,
-        ]
-    }
-
-    /// The checks that found a difference.
-    pub fn differing(&self) -> Vec<&'static str> {
+    fn checks(&self) -> [&Check; 7] {
         [
             &self.stores,
             &self.finished,
@@ -115,9 +101,12 @@ impl Stopped {
             &self.old_lookups,
             &self.next,
         ]
-        .into_iter()
-        .filter_map(Check::differing)
-        .collect()
+    }
+
+    /// The checks that found a difference.
+    pub fn differing(&self) -> Vec<&'static str> {
+        let checks = self.checks().into_iter();
+        checks.filter_map(Check::differing).collect()
     }
 
     pub fn calls(&self) -> u64 {
@@ -161,7 +150,8 @@ impl Stopped {
         self.finished
             .same_by_weight(&call.known(), &call.said(), weight, say);
         let laid = call.laid(call.all);
-        self.stores.same_by_weight(&laid, &call.finished, weight, say);
+        self.stores
+            .same_by_weight(&laid, &call.finished, weight, say);
         let state = State::of(asked.reader, call, &call.finished, &call.questions[1]);
         for (question, answer) in call.questions[1].iter().zip(&state.answers) {
             self.finished_lookups
@@ -243,10 +233,13 @@ impl Stopped {
             (0, 1) => "erased mark new",
             _ => "same erased mark",
         });
-        self.old.outcome_of("of", match call.step.task.work {
-            Work::Commit { .. } => "commits",
-            Work::Compact => "compactions",
-        });
+        self.old.outcome_of(
+            "of",
+            match call.step.task.work {
+                Work::Commit { .. } => "commits",
+                Work::Compact => "compactions",
+            },
+        );
         for (before, now) in call.before.answers.iter().zip(&state.answers) {
             self.old_lookups.same_by_weight(before, now, weight, say);
         }

@@ -17,6 +17,7 @@ enum Expected {
     Model,
 }
 
+#[derive(Clone)]
 pub struct Check {
     name: &'static str,
     expected: Expected,

@@ -3,10 +3,12 @@
 //!
 //! A fault that the Rust decides must be seen against the Rust; one that is
 //! Ours, against the second implementation without a fault. The writer's faults
-//! are in `writing`.
+//! are in `writing`; those that break demand 3 go through its stops too, in
+//! `stopped`.
 //!
 //! Assumes nothing.
 
+mod stopped;
 mod writing;
 
 use crate::calls::Voice;
@@ -57,8 +59,10 @@ pub fn bite() -> bool {
     let caught = tried.iter().filter(|tried| tried.caught.is_some()).count();
     let (caught_writing, writing) = writing::bite();
     let (caught, all) = (caught + caught_writing, tried.len() + writing);
-    println!("teeth: {caught} of {all} faults caught");
-    caught == all
+    println!("of these, at the stops of accepted calls, by demand 3 alone:");
+    let (caught_stopped, stopped) = stopped::bite();
+    println!("teeth: {caught} of {all} faults caught; at the stops {caught_stopped} of {stopped}");
+    caught == all && caught_stopped == stopped
 }
 
 fn said(tried: &Tried) -> String {

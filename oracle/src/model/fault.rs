@@ -50,6 +50,8 @@ faults! {
     SeedBigEndian Rust "fetch: seed over big-endian bytes";
     SeedOnce Rust "fetch: seed once only";
     SeedXored Rust "fetch: seed XORed with the checksum";
+    SeedForgotten Rust "fetch: seed as given behind uncommitted entries";
+    ErasedSumFits Rust "fetch: a checksum of 0xffffffff always fits";
     SecondBlockGoesOn Rust "fetch: second block's state not reset";
     SecondBlockUntried Rust "fetch: second block never tried";
     UncommittedShown Rust "fetch: uncommitted count and tail shown";

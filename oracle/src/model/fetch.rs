@@ -3,7 +3,7 @@
 //! Assumes nothing.
 
 use super::walk::{Commit, Walk};
-use super::{bytes::*, Fault, Model};
+use super::{bytes::*, tag::*, Fault, Model};
 use crate::calls::{Fetch, Fetched, Mdir, CORRUPT, INVAL, NOENT};
 
 /// "-2: fetch: count above 1,023"
@@ -97,7 +97,10 @@ impl Model {
         let answer = Fetched {
             result: self.result(contents.count),
             dir,
-            seed: walk.seed,
+            seed: match self.fault {
+                Fault::SeedForgotten if type2_of(walk.previous) != CHECK => input.seed,
+                _ => walk.seed,
+            },
         };
         match self.fault {
             Fault::NoentHasNoRecord if answer.result == NOENT => (refused(NOENT, input.seed), ours),

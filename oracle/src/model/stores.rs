@@ -40,7 +40,8 @@ impl Writer {
             _ => made,
         };
         let block = if plan.which == 0 { &mut *b0 } else { &mut *b1 };
-        self.store(plan, made, block);
+        let unplaced = task.stores.is_some() && made == all && self.has(WriteFault::LastUnplaced);
+        self.store(plan, made - usize::from(unplaced), block);
         let Some(limit) = task.stores else {
             let after = match self.fault {
                 WriteFault::OldRecord => before,
@@ -73,7 +74,21 @@ impl Writer {
 
     fn stores_of(&self, plan: &Plan) -> usize {
         let erase = plan.erase && !self.has(WriteFault::EraseUncounted);
-        plan.laid.bytes.len() + usize::from(erase)
+        let bytes = match self.fault {
+            WriteFault::TwoAtOnce => plan.laid.bytes.len().div_ceil(2),
+            _ => plan.laid.bytes.len(),
+        };
+        bytes + usize::from(erase)
+    }
+
+    /// Where the store of this number goes: "single bytes, rising".
+    fn place(&self, i: usize, length: usize) -> usize {
+        let check = length.saturating_sub(8);
+        match self.fault {
+            WriteFault::Falling => length - 1 - i,
+            WriteFault::ChecksumFirst if i >= check && length >= 8 => check + (i - check + 4) % 8,
+            _ => i,
+        }
     }
 
     /// The first `made` stores of a plan.
@@ -91,11 +106,11 @@ impl Writer {
         if bytes > 0 && self.has(WriteFault::AllAtOnce) {
             bytes = length;
         }
+        if self.has(WriteFault::TwoAtOnce) {
+            bytes *= 2;
+        }
         for i in 0..bytes.min(length) {
-            let place = match self.fault {
-                WriteFault::Falling => length - 1 - i,
-                _ => i,
-            };
+            let place = self.place(i, length);
             let to = block.get_mut(plan.laid.start + place);
             if let (Some(to), Some(&byte)) = (to, plan.laid.bytes.get(place)) {
                 *to = byte;

@@ -140,7 +140,8 @@ impl<'a> Walk<'a> {
     fn check(&mut self, tag: u32) -> Result<(), Stop> {
         let stored = le32(self.block, self.at + 4).ok_or(Stop::Other)?;
         let short = size_of(tag) < 4 || is_removal(tag);
-        if stored != self.sum || (short && self.has(Fault::ShortCheckStops)) {
+        let fits = stored == self.sum || (stored == ONES && self.has(Fault::ErasedSumFits));
+        if !fits || (short && self.has(Fault::ShortCheckStops)) {
             return Err(Stop::Other);
         }
         let first = self.committed.is_none();

@@ -101,7 +101,10 @@ write_faults! {
     ErasedByNoStore "stores: limit 0 erases";
     Unerased "stores: block not erased";
     AllAtOnce "stores: everything placed with the first byte";
+    TwoAtOnce "stores: two bytes with one store";
     Falling "stores: bytes falling";
+    ChecksumFirst "stores: checksum before its tag";
+    LastUnplaced "stores: with a limit, the last byte never placed";
     LimitAnswered "stores: the limit answered";
     AllAnswered "stores: all stores answered";
 

@@ -8,7 +8,7 @@ use super::machine::{questions, Question};
 use super::Asked;
 use crate::calls::write::{Committed, Work, Writes};
 use crate::calls::{Blocks, Fetch, Fetched, Gstate, Lookup, Voice};
-use crate::dirs::truth::{Slicer, Sliced};
+use crate::dirs::truth::{Sliced, Slicer};
 use crate::histories::ask::{text, Step};
 use crate::model::size_of;
 
@@ -96,7 +96,10 @@ impl<'a> Call<'a> {
         };
         // The check tag's size counts the checksum's four bytes and the padding,
         // which isn't stored.
-        let (end, padded) = (answer.dir.off as usize + 4, size_of(answer.dir.etag) as usize);
+        let (end, padded) = (
+            answer.dir.off as usize + 4,
+            size_of(answer.dir.etag) as usize,
+        );
         let bytes = end.saturating_sub(padded + start);
         let room = finished[which].len().saturating_sub(start);
         Call {

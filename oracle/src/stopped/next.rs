@@ -26,6 +26,9 @@ pub fn recover<W: Writes, R: Voice>(
     limit: usize,
 ) {
     let finished = *images == call.finished;
+    let [first, again] = [(); 2].map(|()| State::of(asked.reader, call, images, &[]).fetched);
+    let (weight, say) = (|| call.weight(limit), || call.text(limit));
+    check.same_by_weight(&first, &again, weight, say);
     if !call.compacts() && !finished {
         commit(check, asked, call, images, limit);
     }
