@@ -97,10 +97,7 @@ impl Model {
         let answer = Fetched {
             result: self.result(contents.count),
             dir,
-            seed: match self.fault {
-                Fault::SeedForgotten if type2_of(walk.previous) != CHECK => input.seed,
-                _ => walk.seed,
-            },
+            seed: self.seed(input, walk),
         };
         match self.fault {
             Fault::NoentHasNoRecord if answer.result == NOENT => (refused(NOENT, input.seed), ours),
@@ -109,6 +106,14 @@ impl Model {
                 (Fetched { seed, ..answer }, ours)
             }
             _ => (answer, ours),
+        }
+    }
+
+    fn seed(&self, input: &Fetch, walk: &Walk) -> u32 {
+        let torn = type2_of(walk.previous) != CHECK;
+        match torn && self.has(Fault::SeedForgotten) {
+            true => input.seed,
+            false => walk.seed,
         }
     }
 
