@@ -5,7 +5,13 @@ use mathlib.Core.List.{List}
 use Prim.Native.Nat.{ℕ}
 use Rattle.format.specs.Fetch.{fetchOf}
 use Rattle.format.specs.Lookup.{getsliceOf, getsliceBuffer, getOf, getBuffer, getinfoOf, getgstateOf, getgstateState}
+use Rattle.format.specs.Word.{allOnes}
+use Rattle.format.specs.Writer.{Images, unlimited, commitImages, commitOf, commitStoresOf}
+use Rattle.format.specs.Compaction.{compactImages, compactOf, compactStoresOf}
 use Rattle.format.specs.declared.Geometry.{Geometry}
+use Rattle.format.specs.declared.Entry.{Entry}
+use Rattle.format.specs.declared.Committed.{Committed}
+use Rattle.format.specs.declared.Stored.{Stored}
 use Rattle.format.specs.declared.LfsMdir.{LfsMdir}
 use Rattle.format.specs.declared.LfsGstate.{LfsGstate}
 use Rattle.format.specs.declared.Fetched.{Fetched}
@@ -56,3 +62,36 @@ module _ (g : Geometry) (b0 b1 : List ℕ) (n0 n1 : ℕ) (dir : LfsMdir) (gdisk 
   pub getgstate-decided : (gstate : LfsGstate) (r s : Altered) (x y : LfsGstate)
       → GetgstateAllows gstate r x → GetgstateAllows gstate s y → (r ≡ s) × (x ≡ y)
   getgstate-decided gstate r s x y a b = (decided (getgstateOf g b0 b1 n0 n1 dir gdisk) (a .0) (b .0), decided (getgstateState g b0 b1 n0 n1 dir gdisk gstate) (a .1) (b .1))
+
+-- ---- the calls that write: the answer, and what stands in both images afterwards
+module _ (g : Geometry) (b0 b1 : List ℕ) (n0 n1 count seed : ℕ) where
+  abbrev both : {A : Type 0} → A → Images → A → List ℕ → List ℕ → Type 0
+  both d i r after0 after1 = (r ≡ d) × (after0 ≡ i .b0) × (after1 ≡ i .b1)
+
+  both-decided : {A : Type 0} (d : A) (i : Images) (r s : A) (x0 x1 y0 y1 : List ℕ) → both d i r x0 x1 → both d i s y0 y1 → (r ≡ s) × (x0 ≡ y0) × (x1 ≡ y1)
+  both-decided d i r s x0 x1 y0 y1 a b = (decided d (a .0) (b .0), decided (i .b0) (a .1) (b .1), decided (i .b1) (a .2) (b .2))
+
+  module _ (entries : List Entry) (dat : List ℕ) where
+    abbrev pub CommitAllows : Committed → List ℕ → List ℕ → Type 0
+    CommitAllows r after0 after1 = both (commitOf g b0 b1 n0 n1 count seed entries dat) (commitImages g b0 b1 n0 n1 count seed entries dat unlimited) r after0 after1
+
+    pub commit-decided : (r s : Committed) (x0 x1 y0 y1 : List ℕ) → CommitAllows r x0 x1 → CommitAllows s y0 y1 → (r ≡ s) × (x0 ≡ y0) × (x1 ≡ y1)
+    commit-decided r s x0 x1 y0 y1 = both-decided (commitOf g b0 b1 n0 n1 count seed entries dat) (commitImages g b0 b1 n0 n1 count seed entries dat unlimited) r s x0 x1 y0 y1
+
+    abbrev pub CommitStoresAllows : ℕ → Stored → List ℕ → List ℕ → Type 0
+    CommitStoresAllows n r after0 after1 = both (commitStoresOf g b0 b1 n0 n1 count seed entries dat n) (commitImages g b0 b1 n0 n1 count seed entries dat n) r after0 after1
+
+    pub commit-stores-decided : (n : ℕ) (r s : Stored) (x0 x1 y0 y1 : List ℕ) → CommitStoresAllows n r x0 x1 → CommitStoresAllows n s y0 y1 → (r ≡ s) × (x0 ≡ y0) × (x1 ≡ y1)
+    commit-stores-decided n r s x0 x1 y0 y1 = both-decided (commitStoresOf g b0 b1 n0 n1 count seed entries dat n) (commitImages g b0 b1 n0 n1 count seed entries dat n) r s x0 x1 y0 y1
+
+  abbrev pub CompactAllows : Committed → List ℕ → List ℕ → Type 0
+  CompactAllows r after0 after1 = both (compactOf g b0 b1 n0 n1 count seed) (compactImages g b0 b1 n0 n1 count seed allOnes) r after0 after1
+
+  pub compact-decided : (r s : Committed) (x0 x1 y0 y1 : List ℕ) → CompactAllows r x0 x1 → CompactAllows s y0 y1 → (r ≡ s) × (x0 ≡ y0) × (x1 ≡ y1)
+  compact-decided r s x0 x1 y0 y1 = both-decided (compactOf g b0 b1 n0 n1 count seed) (compactImages g b0 b1 n0 n1 count seed allOnes) r s x0 x1 y0 y1
+
+  abbrev pub CompactStoresAllows : ℕ → Stored → List ℕ → List ℕ → Type 0
+  CompactStoresAllows n r after0 after1 = both (compactStoresOf g b0 b1 n0 n1 count seed n) (compactImages g b0 b1 n0 n1 count seed n) r after0 after1
+
+  pub compact-stores-decided : (n : ℕ) (r s : Stored) (x0 x1 y0 y1 : List ℕ) → CompactStoresAllows n r x0 x1 → CompactStoresAllows n s y0 y1 → (r ≡ s) × (x0 ≡ y0) × (x1 ≡ y1)
+  compact-stores-decided n r s x0 x1 y0 y1 = both-decided (compactStoresOf g b0 b1 n0 n1 count seed n) (compactImages g b0 b1 n0 n1 count seed n) r s x0 x1 y0 y1

@@ -1,4 +1,14 @@
 -- The demands, in the order in which to read them. docs/PROMISES.md has them in words.
+--
+-- Demand 1: a refused call alters nothing. (Of the calls that write without a limit: Stopped.)
 pub mod Refused
 pub mod Writes
+-- Demand 2: when each call refuses or accepts, and that each contract decides.
+pub mod Exactly
+pub mod Accepted
 pub mod Decided
+pub mod Numbers
+-- The directory machine, and demand 3.
+pub mod Directory
+pub mod Stopped
+pub mod Example

@@ -58,4 +58,3 @@ pub mod Kept
 pub mod Runs
 pub mod StoppedCommit
 pub mod StoppedCompaction
-pub mod Instance

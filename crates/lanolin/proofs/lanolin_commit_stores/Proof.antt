@@ -267,7 +267,7 @@ module _ {M : Type 1} (𝓤 : URA M) (H : Heap 𝓤) (A : Atoms 𝓤) (W : Given
               by ! (part-2 r0 v0 is0 y0b0 m0b0 y0b1 m0b1 said0 r1 v1 is1 said1))))))
 
           body : ent 𝓤 (⋆ 𝓤 H A Start) (Wp 𝓤 H C Λ En t-1 (atReturn 𝓤 H En Post))
-          body  =
+          body =
               qed W Start ∵ exec ! C Λ En t-1 (atRet En Post) $
               assigns ! (addr ! (from ! (fld ! refl (hop ! (look-in ! 10 (sub ! 0 refl (whole !))) (stop !))))) (from ! (stop !)) (init ! 20 refl (tt, tt)) $
               assigns ! (agg ! (and-then ! (load ! (from ! (stop !)) (look ! 20 refl)) (and-then ! (load ! (from ! (fld ! refl (stop !))) (look-in ! 10 (sub ! 1 refl (whole !)))) (no-more !)))) (from ! (stop !)) (init ! 21 refl (tt, (tt, (record { fits = g-b0 .0 }, tt)))) $
@@ -297,7 +297,6 @@ module _ {M : Type 1} (𝓤 : URA M) (H : Heap 𝓤) (A : Atoms 𝓤) (W : Given
 
         walk : ent 𝓤 (onEntry 𝓤 H A f.signature (κ-b0, (κ-b1, (κ-entries, (κ-dat, tt)))) (q-b0, (q-b1, (q-entries, (q-dat, tt)))) x at) (WpFn 𝓤 H C Λ code.function (v-g ∷ s-b0 ∷ s-b1 ∷ v-n0 ∷ v-n1 ∷ v-blockcount ∷ v-seed ∷ s-entries ∷ s-dat ∷ v-stores ∷ []) Post)
         walk = apart (WpFn 𝓤 H C Λ code.function (v-g ∷ s-b0 ∷ s-b1 ∷ v-n0 ∷ v-n1 ∷ v-blockcount ∷ v-seed ∷ s-entries ∷ s-dat ∷ v-stores ∷ []) Post) begins
-
 
   walks : (𝓣 : Tables 𝓤 H) → FmC 𝓤 H (W .laws) (𝓣 .C) → Triple 𝓤 (𝓣 .C #lfs_dir_commit_stores) K-lfs_dir_commit_stores → Triple 𝓤 (𝓣 .C #stored_out) K-stored_out → Walks 𝓤 H A f.ended stayed (WpFn 𝓤 H (𝓣 .C) (𝓣 .Λ) code.function) (f.clauses 𝓤 H A at-mem run)
   walks 𝓣 fm known-lfs_dir_commit_stores known-stored_out = walked 𝓤 H A f.ended stayed (f.clauses 𝓤 H A at-mem run) (WpFn 𝓤 H (𝓣 .C) (𝓣 .Λ) code.function) (λ κs. (LL.vals Geometry-ty.the-type Geometry-laws.the-laws, (slice-vals, (slice-vals, (uint-vals w32, (uint-vals w32, (uint-vals w32, (uint-vals w32, (slice-vals, (slice-vals, (uint-vals w32, tt)))))))))))
