@@ -2,10 +2,9 @@
 -- is accepted exactly if all of them hold, and then with these entries and this check. Assumes nothing.
 use mathlib.Core.Path.{_≡_, refl}
 use mathlib.Core.Logic.{_↔_}
-use mathlib.Core.Bool.{Bool, true, false, not, cond}
+use mathlib.Core.Bool.{Bool, true, false, not}
 use mathlib.Core.List.{List}
 use Prim.Native.Nat.{ℕ}
-use native.Mathlib.Omega.{arith}
 use lib.ListN.{length}
 use lib.Dec.{ltb}
 use borrow.Author.Tests.{not-false}
@@ -17,16 +16,16 @@ use Rattle.format.specs.Fetch.{fetchOf}
 use Rattle.format.specs.Regular.{Regular}
 use Rattle.format.specs.Commit.{Item, checkTag}
 use Rattle.format.specs.Stores.{coincides}
-use Rattle.format.specs.Entries.{itemsOf, Judged, bad, good, judge}
-use Rattle.format.specs.Writer.{roundedEnd, checkSize, checkAt, commitFits, roomClean, blockAt, isSecond, Verdict, refused, accepted, placed, judgedBy, appended, fetchedThen, verdictOf}
-use Rattle.format.specs.Compaction.{compactionItems, CompactVerdict, compactRefused, compactAccepted, compactCheckAt, placedAnew, compactable, compactFetched, compactVerdict}
+use Rattle.format.specs.Entries.{itemsOf, good, judge}
+use Rattle.format.specs.Writer.{roundedEnd, checkSize, checkAt, commitFits, roomClean, blockAt, isSecond, accepted, placed, appended, verdictOf}
+use Rattle.format.specs.Compaction.{compactionItems, compactAccepted, compactCheckAt, placedAnew, compactable, compactVerdict}
 use Rattle.format.specs.declared.Geometry.{Geometry}
 use Rattle.format.specs.declared.LfsMdir.{LfsMdir}
 use Rattle.format.specs.declared.Entry.{Entry}
-use Rattle.format.specs.declared.Refusal.{Refusal}
 use Rattle.format.specs.declared.Refusal.the-variants.{Invalid, Irregular, NoSpace, Unclean, Coincidence}
-use Rattle.format.specs.declared.Fetched.{Fetched}
 use Rattle.format.specs.declared.Fetched.the-variants as fetched
+use Rattle.theory.specs.Verdict.{past, found-then, good-then}
+use Rattle.theory.specs.Compaction as anew
 
 -- ---- a commit
 module _ (g : Geometry) (b0 b1 : List ℕ) (n0 n1 count seed : ℕ) (entries : List Entry) (dat : List ℕ) where
@@ -55,20 +54,6 @@ module _ (g : Geometry) (b0 b1 : List ℕ) (n0 n1 count seed : ℕ) (entries : L
     pub items : is ≡ itemsOf dat entries
     pub check : size ≡ checkSize (g .«prog_size») (checkAt (log b) is)
 
--- a test that did not refuse
-past : (b : Bool) (r : Refusal) (v : Verdict) (w : Bool) (is : List Item) (size : ℕ) → cond b (refused r) v ≡ accepted w is size → (b ≡ false) × (v ≡ accepted w is size)
-past true r v w is size h = (cc, cc)
-past false r v w is size h = (refl, h)
-
-found-then : (f : Fetched) (on : LfsMdir → Verdict) (w : Bool) (is : List Item) (size : ℕ) → fetchedThen f on ≡ accepted w is size
-    → (m : LfsMdir) × (s : ℕ) × (f ≡ fetched.Found m s) × (on m ≡ accepted w is size)
-found-then (fetched.Refused r) on w is size h = absurd (let z : _≡_ {A = ℕ} 0 1 = cc in omega arith)
-found-then (fetched.Found m s) on w is size h = (m, s, refl, h)
-
-good-then : (j : Judged) (v : Verdict) (w : Bool) (is : List Item) (size : ℕ) → judgedBy j v ≡ accepted w is size → (c : ℕ) × (j ≡ good c) × (v ≡ accepted w is size)
-good-then (bad i) v w is size h = absurd (let z : _≡_ {A = ℕ} 0 1 = cc in omega arith)
-good-then (good c) v w is size h = (c, refl, h)
-
 -- of a verdict that says the same
 alike : (g : Geometry) (b0 b1 : List ℕ) (n0 n1 count seed : ℕ) (entries : List Entry) (dat : List ℕ) (w v : Bool) (is js : List Item) (k l : ℕ) → w ≡ v → is ≡ js → k ≡ l
     → CommitConditions g b0 b1 n0 n1 count seed entries dat w (blockAt w b0 b1) is k → CommitConditions g b0 b1 n0 n1 count seed entries dat v (blockAt v b0 b1) js l
@@ -85,28 +70,28 @@ module _ (g : Geometry) (b0 b1 : List ℕ) (n0 n1 count seed : ℕ) (entries : L
       let p = past (not (commitFits g (length b0) (length b1) n0 n1 (length entries) (length dat))) Invalid _ second is size h in
       let f = found-then (fetchOf g b0 b1 n0 n1 count seed)
       (λ m. appended prog (isSecond n0 m) (blockAt (isSecond n0 m) b0 b1) (log (blockAt (isSecond n0 m) b0 b1)) entries dat) second is size (p .1) in
-      let w : Bool = isSecond n0 (f .0) in
-      let b : List ℕ = blockAt (isSecond n0 (f .0)) b0 b1 in
+      let w : Bool = isSecond n0 (f .m) in
+      let b : List ℕ = blockAt (isSecond n0 (f .m)) b0 b1 in
       let I : List Item = itemsOf dat entries in
-      let q = past (not (Regular (log b))) Irregular _ second is size (f .3) in
+      let q = past (not (Regular (log b))) Irregular _ second is size (f .then) in
       let j = good-then (judge dat 0 (countOf 0 (log b)) entries) _ second is size (q .1) in
-      let r = past (ltb (length b) (roundedEnd prog (checkAt (log b) I))) NoSpace _ second is size (j .2) in
+      let r = past (ltb (length b) (roundedEnd prog (checkAt (log b) I))) NoSpace _ second is size (j .then) in
       let c = past (not (roomClean prog b (logEnd (log b)) (logEndTag (log b)))) Unclean _ second is size (r .1) in
       let l = past (coincides allOnes (logEndTag (log b)) I (checkTag (checkSize prog (checkAt (log b) I)))) Coincidence _ second is size (c .1) in
-      let place : isSecond n0 (f .0) ≡ second = cc in
+      let place : isSecond n0 (f .m) ≡ second = cc in
       let items : I ≡ is = cc in
       let check : checkSize prog (checkAt (log b) I) ≡ size = cc in
       alike g b0 b1 n0 n1 count seed entries dat w second I is (checkSize prog (checkAt (log b) I)) size place items check
       (record {
         fits = not-false _ (p .0);
-        dir = f .0;
-        read = f .1;
-        found = f .2;
+        dir = f .m;
+        read = f .s;
+        found = f .found;
         place = refl;
         block = refl;
         regular = not-false _ (q .0);
-        slots = j .0;
-        judged = j .1;
+        slots = j .c;
+        judged = j .all;
         room = r .0;
         clean = not-false _ (c .0);
         lucky = l .0;
@@ -148,30 +133,20 @@ alike-anew : (g : Geometry) (b0 b1 : List ℕ) (n0 n1 count seed : ℕ) (w v : B
     → CompactConditions g b0 b1 n0 n1 count seed w (blockAt w b0 b1) r is k → CompactConditions g b0 b1 n0 n1 count seed v (blockAt v b0 b1) s js l
 alike-anew g b0 b1 n0 n1 count seed w v r s is js k l e d f h c = rw (← e, ← d, ← f, ← h) c
 
-past-anew : (b : Bool) (r : Refusal) (v : CompactVerdict) (w : Bool) (rev : ℕ) (is : List Item) (size : ℕ)
-    → cond b (compactRefused r) v ≡ compactAccepted w rev is size → (b ≡ false) × (v ≡ compactAccepted w rev is size)
-past-anew true r v w rev is size h = (cc, cc)
-past-anew false r v w rev is size h = (refl, h)
-
 module _ (g : Geometry) (b0 b1 : List ℕ) (n0 n1 count seed : ℕ) (second : Bool) (rev : ℕ) (is : List Item) (size : ℕ) where
-  compact-found : (f : Fetched) → compactFetched (g .«prog_size») b0 b1 n0 f ≡ compactAccepted second rev is size
-      → (m : LfsMdir) × (s : ℕ) × (f ≡ fetched.Found m s)
-      × (compactable (g .«prog_size») (isSecond n0 m) (blockAt (isSecond n0 m) b0 b1) (log (blockAt (isSecond n0 m) b0 b1)) ≡ compactAccepted second rev is size)
-  compact-found (fetched.Refused r) h = absurd (let z : _≡_ {A = ℕ} 0 1 = cc in omega arith)
-  compact-found (fetched.Found m s) h = (m, s, refl, h)
-
   compact-conditions : compactVerdict g b0 b1 n0 n1 count seed ≡ compactAccepted second rev is size
       → CompactConditions g b0 b1 n0 n1 count seed second (blockAt second b0 b1) rev is size
   unfolding compactVerdict compactable placedAnew
   compact-conditions h =
       let p : ℕ = g .«prog_size» in
-      let f = compact-found (fetchOf g b0 b1 n0 n1 count seed) h in
+      let f = anew.found-then p b0 b1 n0 (fetchOf g b0 b1 n0 n1 count seed) second rev is size h in
+      let t : compactable p (isSecond n0 (f .0)) (blockAt (isSecond n0 (f .0)) b0 b1) (log (blockAt (isSecond n0 (f .0)) b0 b1)) ≡ compactAccepted second rev is size = rw (f .2) at h in
       let b : List ℕ = blockAt (isSecond n0 (f .0)) b0 b1 in
       let I : List Item = compactionItems (log b) in
       let R : ℕ = plus32 (le32 b) 1 in
-      let q = past-anew (not (Regular (log b))) Irregular _ second rev is size (f .3) in
-      let r = past-anew (ltb (length b) (roundedEnd p (compactCheckAt I))) NoSpace _ second rev is size (q .1) in
-      let l = past-anew (coincides (crc allOnes (toLe32 R)) allOnes I (checkTag (checkSize p (compactCheckAt I)))) Coincidence _ second rev is size (r .1) in
+      let q = anew.past (not (Regular (log b))) Irregular _ second rev is size t in
+      let r = anew.past (ltb (length b) (roundedEnd p (compactCheckAt I))) NoSpace _ second rev is size (q .1) in
+      let l = anew.past (coincides (crc allOnes (toLe32 R)) allOnes I (checkTag (checkSize p (compactCheckAt I)))) Coincidence _ second rev is size (r .1) in
       let place : isSecond n0 (f .0) ≡ second = cc in
       let next : R ≡ rev = cc in
       let items : I ≡ is = cc in

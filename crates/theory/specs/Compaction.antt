@@ -52,7 +52,7 @@ use Rattle.theory.specs.Verdict.{check-size}
 use Rattle.theory.specs.Reading.{Sized, found-sized, view-rev}
 
 -- ---- the tests, passed
-past : (b : Bool) (r : Refusal) (v : CompactVerdict) (w : Bool) (rev : ℕ) (is : List Item) (size : ℕ) → cond b (compactRefused r) v ≡ compactAccepted w rev is size
+pub past : (b : Bool) (r : Refusal) (v : CompactVerdict) (w : Bool) (rev : ℕ) (is : List Item) (size : ℕ) → cond b (compactRefused r) v ≡ compactAccepted w rev is size
     → (b ≡ false) × (v ≡ compactAccepted w rev is size)
 past true r v w rev is size h = (cc, cc)
 past false r v w rev is size h = (refl, h)
@@ -130,7 +130,7 @@ module _ (prog : ℕ) (some : 4 ≤ prog) (most : prog ≤ 512) (x o : List ℕ)
       }
 
 -- ---- the verdict
-found-then : (prog : ℕ) (b0 b1 : List ℕ) (n0 : ℕ) (f : Fetched) (w : Bool) (rev : ℕ) (is : List Item) (size : ℕ) → compactFetched prog b0 b1 n0 f ≡ compactAccepted w rev is size
+pub found-then : (prog : ℕ) (b0 b1 : List ℕ) (n0 : ℕ) (f : Fetched) (w : Bool) (rev : ℕ) (is : List Item) (size : ℕ) → compactFetched prog b0 b1 n0 f ≡ compactAccepted w rev is size
     → (m : LfsMdir) × (s : ℕ) × (f ≡ fetched.Found m s)
 found-then prog b0 b1 n0 (fetched.Refused r) w rev is size h = absurd (let z : _≡_ {A = ℕ} 0 1 = cc in omega arith)
 found-then prog b0 b1 n0 (fetched.Found m s) w rev is size h = (m, s, refl)

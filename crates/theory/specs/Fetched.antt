@@ -34,7 +34,7 @@ pub record Answering (b0 b1 : List ℕ) (n0 : ℕ) (m : LfsMdir) : Type 0 where
 refused-found : (r : Refusal) (m : LfsMdir) (s : ℕ) → Refused r ≡ Found m s → ⊥
 refused-found r m s h = let z : _≡_ {A = ℕ} 0 1 = cc in omega arith
 
-few-found : (k m : LfsMdir) (t s : ℕ) → fewEnough k t ≡ Found m s → k ≡ m
+pub few-found : (k m : LfsMdir) (t s : ℕ) → fewEnough k t ≡ Found m s → k ≡ m
 few-found k m t s h = go (ltb 1_023 (k .count)) h
   where
     go : (b : Bool) → cond b (Refused (TooMany k t)) (Found k t) ≡ Found m s → k ≡ m
@@ -42,7 +42,7 @@ few-found k m t s h = go (ltb 1_023 (k .count)) h
     go false h = cc
 
 -- a test that did not refuse
-past-test : (b : Bool) (r : Refusal) (f : Fetched) (m : LfsMdir) (s : ℕ) → cond b (Refused r) f ≡ Found m s → (b ≡ false) × (f ≡ Found m s)
+pub past-test : (b : Bool) (r : Refusal) (f : Fetched) (m : LfsMdir) (s : ℕ) → cond b (Refused r) f ≡ Found m s → (b ≡ false) × (f ≡ Found m s)
 past-test true r f m s h = absurd (refused-found r m s h)
 past-test false r f m s h = (refl, h)
 

@@ -2,12 +2,12 @@
 -- nothing.
 use mathlib.Core.Path.{_≡_, refl, sym, ap, _∙_}
 use mathlib.Core.Logic.{_≢_}
-use mathlib.Core.Bool.{Bool, true, false, not, cond, _&&_, _||_}
+use mathlib.Core.Bool.{Bool, true, false, not, _&&_, _||_}
 use mathlib.Core.List.{List, []}
 use Prim.Native.Nat.{ℕ, _%_, _≤_}
 use native.Mathlib.Omega.{arith}
 use lib.ListN.{length}
-use lib.Dec.{leb, ltb, eqb}
+use lib.Dec.{leb, eqb}
 use borrow.Author.Tests.{leb-true, eqb-true, eqb-false, eq-eqb, ne-eqb, not-true, not-false}
 use Rattle.format.specs.Word.{le32}
 use Rattle.format.specs.Walk.{Event}
@@ -19,20 +19,13 @@ use Rattle.format.specs.Fetch.{geometryFits, pairFits, tooHigh, mdirOf, fewEnou
 use Rattle.format.specs.Writer.{blockAt, isSecond}
 use Rattle.format.specs.declared.Geometry.{Geometry}
 use Rattle.format.specs.declared.LfsMdir.{LfsMdir}
-use Rattle.format.specs.declared.Refusal.{Refusal}
-use Rattle.format.specs.declared.Refusal.the-variants.{TooMany}
-use Rattle.format.specs.declared.Fetched.{Fetched}
 use Rattle.format.specs.declared.Fetched.the-variants as fetched
 use Rattle.theory.specs.Steps.{both-true}
 use Rattle.theory.specs.Pair.{viewAt, view-log, rank-left-is, rank-right-is}
+use Rattle.theory.specs.Fetched.{few-found, past-test}
 use Rattle.theory.specs.Verdict.{fits-prog}
 
 -- ---- what a found record says of the sizes
--- a test that did not refuse
-past-test : (b : Bool) (r : Refusal) (f : Fetched) (m : LfsMdir) (s : ℕ) → cond b (fetched.Refused r) f ≡ fetched.Found m s → (b ≡ false) × (f ≡ fetched.Found m s)
-past-test true r f m s h = (cc, cc)
-past-test false r f m s h = (refl, h)
-
 -- "Block size 128 to 32,768"
 fits-block : (g : Geometry) → geometryFits g ≡ true → (128 ≤ g .«block_size») × (g .«block_size» ≤ 32_768)
 unfolding geometryFits
@@ -76,13 +69,6 @@ pub record Reads (b0 b1 : List ℕ) (n0 : ℕ) (m : LfsMdir) : Type 0 where
   pub count′ : m .count ≡ countOf 0 (log (blockAt w b0 b1))
   pub split′ : m .split ≡ splitOf false (log (blockAt w b0 b1))
   pub tail′ : m .tail ≡ tailOf noTail (log (blockAt w b0 b1))
-
-few-found : (k m : LfsMdir) (t s : ℕ) → fewEnough k t ≡ fetched.Found m s → k ≡ m
-few-found k m t s h = go (ltb 1_023 (k .count)) h
-  where
-    go : (b : Bool) → cond b (fetched.Refused (TooMany k t)) (fetched.Found k t) ≡ fetched.Found m s → k ≡ m
-    go true h = cc
-    go false h = cc
 
 module _ (prog n0 n1 : ℕ) (b0 b1 : List ℕ) (seed : ℕ) (m : LfsMdir) (s : ℕ) (apart : eqb n0 n1 ≡ false) where
   -- n and k are the numbers, x and o the blocks, of place w and of the other

@@ -13,7 +13,7 @@ use Rattle.format.specs.Log.{log, logEnd, logEndTag}
 use Rattle.format.specs.Gstate.{gstateHasMoveHere}
 use Rattle.format.specs.Pair.{pairSync}
 use Rattle.format.specs.View.{View, none, at, view}
-use Rattle.format.specs.Fetch.{pairFits, tooHigh, mdirOf, fewEnough, viewed, fetchOf}
+use Rattle.format.specs.Fetch.{pairFits, tooHigh, mdirOf, viewed, fetchOf}
 use Rattle.format.specs.Record.{seedOf}
 use Rattle.format.specs.Back.{back}
 use Rattle.format.specs.Look.{wlook}
@@ -25,10 +25,7 @@ use Rattle.format.specs.Writer.{blockAt, isSecond}
 use Rattle.format.specs.declared.Geometry.{Geometry}
 use Rattle.format.specs.declared.LfsMdir.{LfsMdir}
 use Rattle.format.specs.declared.LfsGstate.{LfsGstate}
-use Rattle.format.specs.declared.Refusal.{Refusal}
-use Rattle.format.specs.declared.Refusal.the-variants.{TooMany}
-use Rattle.format.specs.declared.Fetched.{Fetched}
-use Rattle.format.specs.declared.Fetched.the-variants.{Found, Refused}
+use Rattle.format.specs.declared.Fetched.the-variants.{Found}
 use Rattle.format.specs.declared.Got.the-variants as got
 use Rattle.theory.specs.Steps.{both-true}
 use Rattle.theory.specs.Queries.{query-name, query-struct, query-attr}
@@ -37,6 +34,7 @@ use Rattle.theory.specs.Searchable.{RegularLog, regular-searchable, bloc
 use Rattle.theory.specs.Move.{move-found}
 use Rattle.theory.specs.Accepted.{regular-log}
 use Rattle.theory.specs.Gathered.{log-inside}
+use Rattle.theory.specs.Fetched.{few-found, past-test}
 use Rattle.theory.specs.Reading.{Reads, found-sized, found-reads}
 use Rattle.theory.specs.Compaction.{slots-counted}
 use Rattle.format.specs.Machine.{machineOf, Ask, name, struct, attribute, move, askMask, askKey, askFits, askId, asked, heldGot, heldBuffer}
@@ -63,18 +61,6 @@ module _ (x : List ℕ) (some : log x ≢ []) (regular : Regular (log x) ≡ tru
       (move-found x (log x) size refl some (r .base .reg) (r .base .eight) (omega arith), move-answer x size some regular (r .base .reg) (omega arith))
 
 -- ---- a record that fetch found passes the lookups' own test
--- a test that did not refuse
-past-test : (b : Bool) (r : Refusal) (f : Fetched) (m : LfsMdir) (s : ℕ) → cond b (Refused r) f ≡ Found m s → (b ≡ false) × (f ≡ Found m s)
-past-test true r f m s h = (cc, cc)
-past-test false r f m s h = (refl, h)
-
-few-found : (k m : LfsMdir) (t s : ℕ) → fewEnough k t ≡ Found m s → k ≡ m
-few-found k m t s h = go (ltb 1_023 (k .count)) h
-  where
-    go : (b : Bool) → cond b (Refused (TooMany k t)) (Found k t) ≡ Found m s → k ≡ m
-    go true h = cc
-    go false h = cc
-
 same-numbers : (n0 n1 : ℕ) → (pairSync (record { n0 = n0; n1 = n1 }) (record { n0 = n0; n1 = n1 }) ≡ true) × (pairSync (record { n0 = n1; n1 = n0 }) (record { n0 = n0; n1 = n1 }) ≡ true)
 same-numbers n0 n1 = (rw (eq-eqb n0 n0 refl, eq-eqb n1 n1 refl), rw (eq-eqb n0 n0 refl, eq-eqb n1 n1 refl) (or-true (eqb n1 n0 && eqb n0 n1)))
   where

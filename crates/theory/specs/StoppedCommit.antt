@@ -1,7 +1,7 @@
 -- DEMAND 3, COMMIT: an accepted call, stopped after any number of its stores. Assumes nothing.
 use mathlib.Core.Path.{_≡_, refl, sym, ap, subst, _∙_}
 use mathlib.Core.Logic.{_⊎_, inl, inr}
-use mathlib.Core.Bool.{Bool, true, false, not, cond}
+use mathlib.Core.Bool.{Bool, true, false, not}
 use mathlib.Core.List.{List, [], _++_, append-assoc}
 use Prim.Native.Nat.{ℕ, _+_, _≤_, min}
 use native.Mathlib.Omega.{arith}
@@ -17,13 +17,11 @@ use Rattle.format.specs.Regular.{Regular}
 use Rattle.format.specs.Commit.{Item, checkTag, commitBytes, written}
 use Rattle.format.specs.Stores.{appending}
 use Rattle.format.specs.Entries.{itemsOf}
-use Rattle.format.specs.Writer.{Verdict, refused, accepted, commitFits, blockAt, isSecond, fetchedThen, verdictOf, Images, storedTo, imagesAfter, allStores, unlimited, commitImages}
+use Rattle.format.specs.Writer.{accepted, commitFits, blockAt, isSecond, verdictOf, Images, storedTo, imagesAfter, allStores, unlimited, commitImages}
 use Rattle.format.specs.declared.Geometry.{Geometry}
 use Rattle.format.specs.declared.LfsMdir.{LfsMdir}
 use Rattle.format.specs.declared.Entry.{Entry}
-use Rattle.format.specs.declared.Refusal.{Refusal}
 use Rattle.format.specs.declared.Refusal.the-variants.{Invalid}
-use Rattle.format.specs.declared.Fetched.{Fetched}
 use Rattle.format.specs.declared.Fetched.the-variants as fetched
 use Rattle.theory.specs.Pair.{viewAt, view-log}
 use Rattle.theory.specs.Stores.{commitEvents}
@@ -32,7 +30,7 @@ use Rattle.theory.specs.Writer.{Accepts, accepted-stopped, finished-regu
 use Rattle.theory.specs.Writer as writing
 use Rattle.theory.specs.Fetched.{found-answers}
 use Rattle.theory.specs.Reading.{found-sized}
-use Rattle.theory.specs.Verdict.{AppendsTo, accepted-commit}
+use Rattle.theory.specs.Verdict.{past, found-then, AppendsTo, accepted-commit}
 use Rattle.format.specs.Machine.{Machine, machineOf, ran}
 use Rattle.format.specs.Stopped.{Shows, ReadsAs, CommitStopped}
 use Rattle.theory.specs.Places.{same-place, both-blocks, lengths, few-slots, block-length}
@@ -41,14 +39,6 @@ use Rattle.theory.specs.Kept.{reads-as, refound, refound-place}
 use Rattle.theory.specs.Runs.{commit-ran}
 
 -- ---- a commit
-found-then : (f : Fetched) (on : LfsMdir → Verdict) (w : Bool) (is : List Item) (size : ℕ) → fetchedThen f on ≡ accepted w is size → (m : LfsMdir) × (s : ℕ) × (f ≡ fetched.Found m s)
-found-then (fetched.Refused r) on w is size h = absurd (let z : _≡_ {A = ℕ} 0 1 = cc in omega arith)
-found-then (fetched.Found m s) on w is size h = (m, s, refl)
-
-past : (b : Bool) (r : Refusal) (v : Verdict) (w : Bool) (is : List Item) (size : ℕ) → cond b (refused r) v ≡ accepted w is size → v ≡ accepted w is size
-past true r v w is size h = cc
-past false r v w is size h = h
-
 module _ (g : Geometry) (b0 b1 : List ℕ) (n0 n1 count seed : ℕ) (entries : List Entry) (dat : List ℕ) (w : Bool) (is : List Item) (size : ℕ)
     (h : verdictOf g b0 b1 n0 n1 count seed entries dat ≡ accepted w is size) where
   abbrev x : List ℕ
@@ -59,7 +49,9 @@ module _ (g : Geometry) (b0 b1 : List ℕ) (n0 n1 count seed : ℕ) (entries : L
 
   commit-found : (m : LfsMdir) × (s : ℕ) × (fetchOf g b0 b1 n0 n1 count seed ≡ fetched.Found m s)
   unfolding verdictOf
-  commit-found = found-then (fetchOf g b0 b1 n0 n1 count seed) _ w is size (past (not (commitFits g (length b0) (length b1) n0 n1 (length entries) (length dat))) Invalid _ w is size h)
+  commit-found =
+      let f = found-then (fetchOf g b0 b1 n0 n1 count seed) _ w is size (past (not (commitFits g (length b0) (length b1) n0 n1 (length entries) (length dat))) Invalid _ w is size h .1) in
+      (f .m, f .s, f .found)
 
   appends : AppendsTo b0 b1 entries dat w is size
   appends = accepted-commit g b0 b1 n0 n1 count seed entries dat w is size h

@@ -18,10 +18,9 @@ use Rattle.format.specs.Directory.{dirOf}
 use Rattle.format.specs.Commit.{Item, checkTag}
 use Rattle.format.specs.Stores.{erased, fill, compactBytes, compacted, compacting}
 use Rattle.format.specs.Writer.{checkLength, blockAt, isSecond, Images}
-use Rattle.format.specs.Compaction.{compactAccepted, compactCheckAt, compactStores, compactedTo, compactFetched, compactVerdict, compactImages}
+use Rattle.format.specs.Compaction.{compactAccepted, compactCheckAt, compactStores, compactedTo, compactVerdict, compactImages}
 use Rattle.format.specs.declared.Geometry.{Geometry}
 use Rattle.format.specs.declared.LfsMdir.{LfsMdir}
-use Rattle.format.specs.declared.Fetched.{Fetched}
 use Rattle.format.specs.declared.Fetched.the-variants as fetched
 use Rattle.theory.specs.Erased.{length-fill, length-erased}
 use Rattle.theory.specs.Pair.{viewAt, view-log}
@@ -31,7 +30,7 @@ use Rattle.theory.specs.Compact.{AfterCompact}
 use Rattle.theory.specs.Compactor.{compacted-regular}
 use Rattle.theory.specs.Fetched.{found-answers}
 use Rattle.theory.specs.Reading.{found-sized}
-use Rattle.theory.specs.Compaction.{behindOf, CompactsTo, accepted-compaction, compaction-written, compaction-length, compaction-stopped, compaction-keeps}
+use Rattle.theory.specs.Compaction.{found-then, behindOf, CompactsTo, accepted-compaction, compaction-written, compaction-length, compaction-stopped, compaction-keeps}
 use Rattle.format.specs.Machine.{Machine, machineOf}
 use Rattle.format.specs.Stopped.{Bytes, Shows, ReadsAs, CompactStopped}
 use Rattle.theory.specs.Shown.{shows}
@@ -45,11 +44,6 @@ word-fits b h = omega (arith, h 0, h 1, h 2, h 3)
 pub block-bytes : (w : Bool) (b0 b1 : List ℕ) → Bytes b0 → Bytes b1 → Bytes (blockAt w b0 b1)
 block-bytes false b0 b1 h k = h
 block-bytes true b0 b1 h k = k
-
-found-then : (prog : ℕ) (b0 b1 : List ℕ) (n0 : ℕ) (f : Fetched) (w : Bool) (rev : ℕ) (is : List Item) (size : ℕ)
-    → compactFetched prog b0 b1 n0 f ≡ compactAccepted w rev is size → (m : LfsMdir) × (s : ℕ) × (f ≡ fetched.Found m s)
-found-then prog b0 b1 n0 (fetched.Refused r) w rev is size h = absurd (let z : _≡_ {A = ℕ} 0 1 = cc in omega arith)
-found-then prog b0 b1 n0 (fetched.Found m s) w rev is size h = (m, s, refl)
 
 not-not : (w : Bool) → not (not w) ≡ w
 not-not true = refl

@@ -71,26 +71,26 @@ module _ (prog p : ℕ) (some : 4 ≤ prog) where
       omega (arith, div-add-mod' (p + 4 + size + (prog - 1)) prog, mul-le-mul-right prog le)
 
 -- ---- tests that did not refuse
-past : (b : Bool) (r : Refusal) (v : Verdict) (w : Bool) (is : List Item) (size : ℕ) → cond b (refused r) v ≡ accepted w is size → (b ≡ false) × (v ≡ accepted w is size)
+pub past : (b : Bool) (r : Refusal) (v : Verdict) (w : Bool) (is : List Item) (size : ℕ) → cond b (refused r) v ≡ accepted w is size → (b ≡ false) × (v ≡ accepted w is size)
 past true r v w is size h = (cc, cc)
 past false r v w is size h = (refl, h)
 
-record FoundThen (f : Fetched) (on : LfsMdir → Verdict) (v : Verdict) : Type 0 where
-  m : LfsMdir
-  s : ℕ
-  found : f ≡ fetched.Found m s
-  then : on m ≡ v
+pub record FoundThen (f : Fetched) (on : LfsMdir → Verdict) (v : Verdict) : Type 0 where
+  pub m : LfsMdir
+  pub s : ℕ
+  pub found : f ≡ fetched.Found m s
+  pub then : on m ≡ v
 
-found-then : (f : Fetched) (on : LfsMdir → Verdict) (w : Bool) (is : List Item) (size : ℕ) → fetchedThen f on ≡ accepted w is size → FoundThen f on (accepted w is size)
+pub found-then : (f : Fetched) (on : LfsMdir → Verdict) (w : Bool) (is : List Item) (size : ℕ) → fetchedThen f on ≡ accepted w is size → FoundThen f on (accepted w is size)
 found-then (fetched.Refused r) on w is size h = absurd (let z : _≡_ {A = ℕ} 0 1 = cc in omega arith)
 found-then (fetched.Found m s) on w is size h = record { m = m; s = s; found = refl; then = h }
 
-record GoodThen (j : Judged) (v v′ : Verdict) : Type 0 where
-  c : ℕ
-  all : j ≡ good c
-  then : v ≡ v′
+pub record GoodThen (j : Judged) (v v′ : Verdict) : Type 0 where
+  pub c : ℕ
+  pub all : j ≡ good c
+  pub then : v ≡ v′
 
-good-then : (j : Judged) (v : Verdict) (w : Bool) (is : List Item) (size : ℕ) → judgedBy j v ≡ accepted w is size → GoodThen j v (accepted w is size)
+pub good-then : (j : Judged) (v : Verdict) (w : Bool) (is : List Item) (size : ℕ) → judgedBy j v ≡ accepted w is size → GoodThen j v (accepted w is size)
 good-then (bad i) v w is size h = absurd (let z : _≡_ {A = ℕ} 0 1 = cc in omega arith)
 good-then (good c) v w is size h = record { c = c; all = refl; then = h }
 
