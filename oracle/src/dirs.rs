@@ -75,8 +75,9 @@ struct Comparisons {
     gstate: Comparison,
 }
 
-/// One pass over all inputs, and a subject for each function of the Rust.
-pub fn compare() -> Vec<Subject> {
+/// One pass over the first of so many parts of the inputs, and a subject for each
+/// function of the Rust.
+pub fn compare(parts: u64) -> Vec<Subject> {
     let mut all = Comparisons {
         rust: Rust::default(),
         fetch: Comparison::new("dir/fetch: lfs_dir_fetch", "lfs_dir_fetch"),
@@ -87,7 +88,7 @@ pub fn compare() -> Vec<Subject> {
         info: Comparison::new("dir/fetch: lfs_dir_getinfo", "lfs_dir_getinfo"),
         gstate: Comparison::new("dir/fetch: lfs_dir_getgstate", "lfs_dir_getgstate"),
     };
-    for case in 0..CASES {
+    for case in 0..CASES.div_ceil(parts) {
         inputs::ask(case, Sizes::Any, &mut |case, question| {
             all.answer(case, &question);
         });

@@ -33,8 +33,9 @@ struct Histories {
     reads: Reads,
 }
 
-/// One pass over all histories. What the voice lacks is not asked of it.
-pub fn compare(voice: &impl Writes) -> Vec<Subject> {
+/// One pass over the first of so many parts of the histories. What the voice lacks
+/// is not asked of it.
+pub fn compare(voice: &impl Writes, parts: u64) -> Vec<Subject> {
     let mut all = Histories {
         commit: Check::ours("lanolin_commit"),
         commit_stores: Check::ours("lanolin_commit_stores"),
@@ -42,7 +43,7 @@ pub fn compare(voice: &impl Writes) -> Vec<Subject> {
         compact_stores: Check::ours("lanolin_compact_stores"),
         reads: Reads::default(),
     };
-    for number in 0..HISTORIES {
+    for number in 0..HISTORIES.div_ceil(parts) {
         history::run(number, STEPS, &mut |step| all.judge(voice, step));
     }
     let mut calls = Subject::new("writing: the calls, by the second implementation");

@@ -8,13 +8,15 @@
 
 use std::process::ExitCode;
 
-const USAGE: &str = "usage: oracle | oracle histories [stand-in] | oracle stopped [stand-in] | oracle teeth
-       oracle record FILE N
+const USAGE: &str = "usage: oracle [--one-in N] | oracle histories [stand-in] [--one-in N]
+       oracle stopped [stand-in] [--one-in N] | oracle teeth | oracle record FILE N
 Compares the port with the unchanged Rust. `histories` compares writing alone, and
 `stopped` stops accepted calls after every number of stores: of the port or, with
 `stand-in`, of the second implementation. `teeth` instead runs every fault of the
-second implementation through the comparisons, and `record` writes N inputs with the Rust's answers to a file. What
-is compared is fixed when the program is built, by LFS_RUST_SRC and LANOLIN_LIB.";
+second implementation through the comparisons, and `record` writes N inputs with
+the Rust's answers to a file. With --one-in N only the first of N equal parts of the
+random pairs and histories is taken. What is compared is fixed when the program is
+built, by LFS_RUST_SRC and LANOLIN_LIB.";
 
 fn main() -> ExitCode {
     let arguments: Vec<String> = std::env::args_os()
@@ -22,14 +24,22 @@ fn main() -> ExitCode {
         .map(|argument| argument.to_string_lossy().into_owned())
         .collect();
     let words: Vec<&str> = arguments.iter().map(String::as_str).collect();
-    match words[..] {
-        [] => compare(),
-        ["histories"] => histories(false),
-        ["histories", "stand-in"] => histories(true),
-        ["stopped"] => stopped(false),
-        ["stopped", "stand-in"] => stopped(true),
-        ["teeth"] => teeth(),
-        ["record", file, number] => match number.parse() {
+    // How many parts the random inputs have; the first one is taken.
+    let (asked, parts) = match words[..] {
+        [ref asked @ .., "--one-in", number] => match number.parse() {
+            Ok(parts @ 1..) => (asked, parts),
+            _ => return wrong(&format!("not a number from 1: {number}")),
+        },
+        ref asked => (asked, 1),
+    };
+    match (asked, parts) {
+        ([], _) => compare(parts),
+        (["histories"], _) => histories(false, parts),
+        (["histories", "stand-in"], _) => histories(true, parts),
+        (["stopped"], _) => stopped(false, parts),
+        (["stopped", "stand-in"], _) => stopped(true, parts),
+        (["teeth"], 1) => teeth(),
+        (["record", file, number], 1) => match number.parse() {
             Ok(number) => record(file, number),
             Err(_) => wrong(&format!("not a number: {number}")),
         },
@@ -44,17 +54,17 @@ fn wrong(why: &str) -> ExitCode {
 }
 
 #[cfg(not(lfs_rust))]
-fn compare() -> ExitCode {
+fn compare(_parts: u64) -> ExitCode {
     skip()
 }
 
 #[cfg(not(lfs_rust))]
-fn histories(_stand_in: bool) -> ExitCode {
+fn histories(_stand_in: bool, _parts: u64) -> ExitCode {
     skip()
 }
 
 #[cfg(not(lfs_rust))]
-fn stopped(_stand_in: bool) -> ExitCode {
+fn stopped(_stand_in: bool, _parts: u64) -> ExitCode {
     skip()
 }
 
@@ -79,18 +89,20 @@ fn skip() -> ExitCode {
 }
 
 #[cfg(lfs_rust)]
-fn compare() -> ExitCode {
+fn compare(parts: u64) -> ExitCode {
     use oracle::tally::Totals;
 
     println!("The port against the unchanged Rust.");
+    say_parts(parts);
     let start = std::time::Instant::now();
     let mut totals = Totals::default();
     let leaves = oracle::leaves::SUBJECTS.iter().map(|subject| subject());
-    for subject in leaves.chain(std::iter::once_with(oracle::dirs::compare).flatten()) {
+    let dirs = std::iter::once_with(|| oracle::dirs::compare(parts)).flatten();
+    for subject in leaves.chain(dirs) {
         subject.print();
         totals.add(subject.totals());
     }
-    for subject in writing() {
+    for subject in writing(parts) {
         subject.print();
         totals.add(subject.totals());
     }
@@ -101,18 +113,19 @@ fn compare() -> ExitCode {
 /// Writing alone; with `stand-in`, that of the second implementation, to try it
 /// against what the Rust reads.
 #[cfg(lfs_rust)]
-fn histories(stand_in: bool) -> ExitCode {
+fn histories(stand_in: bool, parts: u64) -> ExitCode {
     use oracle::tally::Totals;
 
     println!("Writing, and what the unchanged Rust reads of it.");
+    say_parts(parts);
     let start = std::time::Instant::now();
     let mut totals = Totals::default();
     let subjects = match stand_in {
         true => {
             println!("NOT THE PORT: the second implementation stands in for it.");
-            oracle::histories::compare(&oracle::model::FAULTLESS_WRITER)
+            oracle::histories::compare(&oracle::model::FAULTLESS_WRITER, parts)
         }
-        false => writing(),
+        false => writing(parts),
     };
     for subject in subjects {
         subject.print();
@@ -124,23 +137,24 @@ fn histories(stand_in: bool) -> ExitCode {
 
 /// Every stop of accepted calls.
 #[cfg(lfs_rust)]
-fn stopped(stand_in: bool) -> ExitCode {
+fn stopped(stand_in: bool, parts: u64) -> ExitCode {
     use oracle::model::{FAULTLESS, FAULTLESS_WRITER};
     use oracle::port::Port;
     use oracle::stopped::{compare, Asked};
 
     println!("Accepted calls, stopped after every number of stores.");
+    say_parts(parts);
     let start = std::time::Instant::now();
     let (subject, line) = match stand_in {
         true => {
             println!("NOT THE PORT: the second implementation stands in for it.");
             let (writer, reader) = (&FAULTLESS_WRITER, &FAULTLESS);
-            compare(&Asked { writer, reader })
+            compare(&Asked { writer, reader }, parts)
         }
-        false if some_there() => compare(&Asked {
-            writer: &Port,
-            reader: &Port,
-        }),
+        false if some_there() => {
+            let (writer, reader) = (&Port, &Port);
+            compare(&Asked { writer, reader }, parts)
+        }
         false => return ExitCode::SUCCESS,
     };
     subject.print();
@@ -152,11 +166,19 @@ fn stopped(stand_in: bool) -> ExitCode {
     ExitCode::from(u8::from(subject.totals().differences > 0))
 }
 
+/// Says it where not all is compared.
+#[cfg(lfs_rust)]
+fn say_parts(parts: u64) {
+    if parts > 1 {
+        println!("SHORTENED: of the random pairs and histories one in {parts}.");
+    }
+}
+
 /// The histories, of the calls that the archive has.
 #[cfg(lfs_rust)]
-fn writing() -> Vec<oracle::tally::Subject> {
+fn writing(parts: u64) -> Vec<oracle::tally::Subject> {
     match some_there() {
-        true => oracle::histories::compare(&oracle::port::Port),
+        true => oracle::histories::compare(&oracle::port::Port, parts),
         false => Vec::new(),
     }
 }

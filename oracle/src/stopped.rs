@@ -62,11 +62,11 @@ impl Default for Stopped {
     }
 }
 
-/// One pass over the histories: the subject, and the closing line without what
-/// it found.
-pub fn compare<W: Writes, R: Voice>(asked: &Asked<W, R>) -> (Subject, String) {
+/// One pass over the first of so many parts of the histories: the subject, and the
+/// closing line without what it found.
+pub fn compare<W: Writes, R: Voice>(asked: &Asked<W, R>, parts: u64) -> (Subject, String) {
     let (mut stopped, mut pairs) = (Stopped::default(), 0);
-    for number in 0..HISTORIES {
+    for number in 0..HISTORIES.div_ceil(parts) {
         let calls = stopped.calls;
         run(number, &mut |step| stopped.judge(asked, step));
         pairs += u64::from(stopped.calls > calls);
