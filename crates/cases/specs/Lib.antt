@@ -3,3 +3,4 @@ pub mod Listing
 pub mod Walks
 pub mod Rules
 pub mod Pairs
+pub mod Text

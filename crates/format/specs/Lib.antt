@@ -34,3 +34,5 @@ pub mod Compaction
 -- Demand 3: what a pair holds, as a machine, and what both calls leave when they are stopped.
 pub mod Machine
 pub mod Stopped
+-- The listing's text.
+pub mod Listing

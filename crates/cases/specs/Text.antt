@@ -1,0 +1,20 @@
+-- Document 01's listing, whole: its two images give its text. Assumes nothing.
+use mathlib.Core.Path.{_≡_, refl}
+use mathlib.Core.List.{List, _++_}
+use Prim.Native.Nat.{ℕ}
+use Rattle.format.specs.Word.{be32, le32, toLe32, xor}
+use Rattle.format.specs.Tag.{tagLength, tagFlipped}
+use Rattle.format.specs.Crc.{crc, crcByte, crcBits, crcBit}
+use Rattle.format.specs.Walk.{readBehind, classOf, bodyLength, walkIn, walkFrom, walk}
+use Rattle.format.specs.Log.{committed, log, eventLength, span, tagAfter, stoppedStraight}
+use Rattle.format.specs.Record.{counted, countOf, tailOf, splitOf, forwardOf, seedOf}
+use Rattle.format.specs.View.{rank, view}
+use Rattle.format.specs.Fetch.{geometryFits, pairFits, tooHigh, erasedOf, mdirOf, fetchOf}
+use Rattle.format.specs.Regular.{ruleOf, ruleHolds, countAfter, regularFrom, Regular}
+use Rattle.format.specs.Directory.{empty, upd, apply, dir, act, acts, dirOf}
+use Rattle.format.specs.Listing.{ascii, hexDigit, decimalIn, hexBytes, isPlain, nameByte, nameBytes, numberLine, tailLine, erasedLine, recordLines, nameFields, structFields, slotLine, attrLine, attrLines, slotLines, refusedLine, dirLines, imagesText, listingOf}
+use Rattle.cases.specs.Listing.{blank, listing}
+
+pub text : listingOf (listing ++ blank 128) ≡ ascii "rev 1\nblock 0\nend 48\ncount 1\ntail none\nerased no\nslot 0 001 q212 201 3\nattr 0 374 905f0100\n"
+unfolding listingOf imagesText dirLines refusedLine slotLines attrLines attrLine slotLine structFields nameFields recordLines erasedLine tailLine numberLine nameBytes nameByte isPlain hexBytes decimalIn hexDigit dirOf acts act dir apply upd empty Regular regularFrom ruleOf ruleHolds countAfter fetchOf mdirOf erasedOf tooHigh pairFits geometryFits view rank seedOf forwardOf splitOf tailOf countOf counted stoppedStraight tagAfter span eventLength log committed walk walkFrom walkIn classOf readBehind bodyLength tagFlipped tagLength be32 le32 toLe32 xor crc crcByte crcBits crcBit
+text = refl
