@@ -2,3 +2,5 @@
 pub mod Turn
 pub mod Leaves
 pub mod Move
+pub mod Slots
+pub mod Loads

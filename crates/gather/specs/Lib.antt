@@ -1,1 +1,2 @@
 pub mod Seat
+pub mod Slots
