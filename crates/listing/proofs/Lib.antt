@@ -2,3 +2,4 @@
 pub mod Fields
 pub mod Loops
 pub mod Whole
+pub mod Fits

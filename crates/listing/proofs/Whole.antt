@@ -1,12 +1,13 @@
 -- The lines of a record, a refusal, a block and a pair. Assumes nothing.
-use mathlib.Core.Path.{_≡_, refl, sym, ap, _∙_}
+use mathlib.Core.Path.{_≡_, refl, sym, ap, ap₂, _∙_}
 use mathlib.Core.Bool.{Bool, true, false, not, cond}
 use mathlib.Core.List.{List, _++_}
-use Prim.Native.Nat.{ℕ, zero, suc, _<_}
+use Prim.Native.Nat.{ℕ, zero, suc, _-_, _/_, _%_, _≤_, _<_}
 use native.Mathlib.Omega.{arith}
 use lib.IntN.{pos, negℤ}
-use lib.ListN.{length}
-use borrow.Author.Tests.{not-true, not-false, eq-eqb, ne-eqb}
+use lib.ListN.{length, take, drop, length-drop}
+use lib.Seq.{take-all}
+use borrow.Author.Tests.{not-true, not-false, eq-eqb, ne-eqb, lt-ltb, le-ltb}
 use Rattle.format.specs.Log.{log}
 use Rattle.format.specs.Answer.{refusalNumber}
 use Rattle.format.specs.Fetch.{fetchOf}
@@ -14,11 +15,11 @@ use Rattle.format.specs.Regular.{Regular}
 use Rattle.format.specs.Directory.{dirOf}
 use Rattle.format.specs.Writer.{blockAt, isSecond}
 use Rattle.format.specs.Compaction.{isNoTail}
-use Rattle.format.specs.Listing.{ascii, decimal, integer, numberLine, tailKind, tailLine, erasedLine, recordLines, slotLines, refusedLine, dirLines, fetchedText, listingGeometry, imagesText}
+use Rattle.format.specs.Listing.{ascii, decimal, integer, numberLine, tailKind, tailLine, erasedLine, recordLines, slotLines, refusedLine, dirLines, fetchedText, listingGeometry, imagesText, listingOf}
 use Rattle.format.specs.declared.LfsPair.{LfsPair}
 use Rattle.format.specs.declared.LfsMdir.{LfsMdir}
 use Rattle.format.specs.declared.Refusal.{Refusal}
-use Rattle.format.specs.declared.Refusal.the-variants.{Irregular}
+use Rattle.format.specs.declared.Refusal.the-variants.{Invalid, Irregular}
 use Rattle.format.specs.declared.Fetched.{Fetched}
 use Rattle.format.specs.declared.Fetched.the-variants as fetched
 use Rattle.theory.specs.Reading.{Sized, found-sized, found-reads}
@@ -92,10 +93,10 @@ block-slots b m x w ex h =
     record { word = w .word; most = w .most; regular = regular; ends = w .ends; endTag = w .endTag; count′ = w .count′ ∙ slots-counted b regular }
 
 -- ---- both images, by what fetch answered
-module _ (size : ℕ) (b0 b1 : List ℕ) (s r : Text) where
-  pub images-refused : (x : Refusal) → fetched.Refused x ≡ fetchOf (listingGeometry size) b0 b1 0 1 0 0 → r ≡ putsOf s (refusedLine x) → r ≡ putsOf s (imagesText size b0 b1)
+module _ (size : ℕ) (b0 b1 : List ℕ) where
+  pub images-refused : (s r : Text) (x : Refusal) → fetched.Refused x ≡ fetchOf (listingGeometry size) b0 b1 0 1 0 0 → r ≡ putsOf s (refusedLine x) → r ≡ putsOf s (imagesText size b0 b1)
   unfolding imagesText
-  images-refused x f er = rw (← f) er
+  images-refused s r x f er = rw (← f) er
 
   module _ (m : LfsMdir) (k : ℕ) (f : fetched.Found m k ≡ fetchOf (listingGeometry size) b0 b1 0 1 0 0) where
     listable : (w : Bool) → isSecond 0 m ≡ w → Listable (blockAt w b0 b1) m
@@ -116,20 +117,51 @@ module _ (size : ℕ) (b0 b1 : List ℕ) (s r : Text) where
         long false z = z .first
         long true z = z .second
 
-    images-found : (w : Bool) → isSecond 0 m ≡ w → r ≡ putsOf s (blockText (blockAt w b0 b1) m) → r ≡ putsOf s (imagesText size b0 b1)
+    images-found : (w : Bool) → isSecond 0 m ≡ w → (s r : Text) → r ≡ putsOf s (blockText (blockAt w b0 b1) m) → r ≡ putsOf s (imagesText size b0 b1)
     unfolding imagesText
-    images-found w e er = rw (← f, e) er
+    images-found w e s r er = rw (← f, e) er
 
     -- the first block answers
-    pub first-listable : m .pair .n0 ≡ 0 → Listable b0 m
-    first-listable h = listable false (ap not (eq-eqb (m .pair .n0) 0 h))
+    module _ (h : m .pair .n0 ≡ 0) where
+      pub first-listable : Listable b0 m
+      first-listable = listable false (ap not (eq-eqb (m .pair .n0) 0 h))
 
-    pub images-first : m .pair .n0 ≡ 0 → r ≡ putsOf s (blockText b0 m) → r ≡ putsOf s (imagesText size b0 b1)
-    images-first h er = images-found false (ap not (eq-eqb (m .pair .n0) 0 h)) er
+      pub images-first : (s r : Text) → r ≡ putsOf s (blockText b0 m) → r ≡ putsOf s (imagesText size b0 b1)
+      images-first s r er = images-found false (ap not (eq-eqb (m .pair .n0) 0 h)) s r er
 
     -- the second block answers
-    pub second-listable : (m .pair .n0 ≡ 0 → ⊥) → Listable b1 m
-    second-listable h = listable true (ap not (ne-eqb (m .pair .n0) 0 h))
+    module _ (h : m .pair .n0 ≡ 0 → ⊥) where
+      pub second-listable : Listable b1 m
+      second-listable = listable true (ap not (ne-eqb (m .pair .n0) 0 h))
 
-    pub images-second : (m .pair .n0 ≡ 0 → ⊥) → r ≡ putsOf s (blockText b1 m) → r ≡ putsOf s (imagesText size b0 b1)
-    images-second h er = images-found true (ap not (ne-eqb (m .pair .n0) 0 h)) er
+      pub images-second : (s r : Text) → r ≡ putsOf s (blockText b1 m) → r ≡ putsOf s (imagesText size b0 b1)
+      images-second s r er = images-found true (ap not (ne-eqb (m .pair .n0) 0 h)) s r er
+
+-- ---- the two parts that the code cuts
+cut-front : (n : ℕ) (l : List ℕ) → take (n - 0) (drop 0 l) ≡ take n l
+cut-front n l =
+    let e : n - 0 ≡ n = omega arith in
+    rw e
+
+cut-back : (n : ℕ) (l : List ℕ) → take (length l - n) (drop n l) ≡ drop n l
+cut-back n l = take-all (length l - n) (drop n l) (omega (arith, length-drop n l))
+
+-- ---- the tests of the length
+module _ (pair : List ℕ) (s r : Text) where
+  pub list-odd : length pair % 2 ≡ 1 → r ≡ putsOf s (refusedLine Invalid) → r ≡ putsOf s (listingOf pair)
+  unfolding listingOf
+  list-odd h er = rw (eq-eqb (length pair % 2) 1 h) er
+
+  module _ (even : length pair % 2 ≡ 1 → ⊥) where
+    pub list-long : 65_536 < length pair → r ≡ putsOf s (refusedLine Invalid) → r ≡ putsOf s (listingOf pair)
+    unfolding listingOf
+    list-long h er = rw (ne-eqb (length pair % 2) 1 even, lt-ltb 65_536 (length pair) h) er
+
+    -- the parts as the code cuts them
+    pub list-images : length pair ≤ 65_536
+        → r ≡ putsOf s (imagesText (length pair / 2) (take (length pair / 2 - 0) (drop 0 pair)) (take (length pair - length pair / 2) (drop (length pair / 2) pair)))
+        → r ≡ putsOf s (listingOf pair)
+    unfolding listingOf
+    list-images h er =
+        rw (ne-eqb (length pair % 2) 1 even, le-ltb 65_536 (length pair) h)
+        (er ∙ ap₂ (λ (x y : List ℕ). putsOf s (imagesText (length pair / 2) x y)) (cut-front (length pair / 2) pair) (cut-back (length pair / 2) pair))
