@@ -1,0 +1,333 @@
+#!/usr/bin/env python3
+"""Writes samples/listings/cases and samples/listings/expected: inputs of the listing program, and the text that each must give.
+
+What is expected is worked out here from document 01 alone, by a walk, a directory and a rendering of its own; nothing is taken from the port.
+A case is one line, `NAME BYTES`, the bytes as runs of hex (aa*9 is aa nine times), joined by commas, - for none. What is expected of it is a line
+`== NAME` and the text behind it, or, for a text of more than 2,000 bytes, a line with its length and CRC-32. tests/listing/run.py shows the program's
+text in the same form. Run by hand when the set changes.
+"""
+import os
+import random
+import zlib
+
+ROOT = os.path.dirname(os.path.abspath(__file__))
+HERE = os.path.join(ROOT, "listings")
+CREATE, FILE, DIR, SUPER, INLINE, CTZ, DELETE = 0x401, 0x001, 0x002, 0x0FF, 0x201, 0x202, 0x4FF
+CHECK, FORWARD, SOFT, HARD, MOVE, NO_SLOT = 0x500, 0x5FF, 0x600, 0x601, 0x7FF, 1023
+PROG = 16
+
+
+def summed(register, data):
+    """The register behind the bytes, with no final inversion."""
+    return zlib.crc32(data, register ^ 0xFFFFFFFF) ^ 0xFFFFFFFF
+
+
+# ---- document 01's fetch and directory
+class Tag:
+    """ "validity (bit 31, valid when 0), type 11 bits, id 10 bits, size 10 bits" """
+
+    def __init__(self, word):
+        self.word, self.valid = word, word < 1 << 31
+        self.type, self.id, self.size = word >> 20 & 0x7FF, word >> 10 & 0x3FF, word & 0x3FF
+        self.chunk, self.removal = self.type & 0xFF, self.size == 0x3FF
+        self.length = 4 if self.removal else 4 + self.size
+        self.splice = self.chunk - 256 if self.chunk > 127 else self.chunk
+
+
+class Log:
+    """What the walk of a block takes: nothing (`ends` is None) until its first commit."""
+
+    def __init__(self, block):
+        self.block, self.revision = block, int.from_bytes(block[:4], "little")
+        self.ends, self.count, self.split, self.tail, self.forward, self.entries, self.checks = None, 0, False, (0xFFFFFFFF,) * 2, None, [], []
+        self.straight = False
+        count, split, tail, forward, entries, after_check = 0, False, self.tail, None, [], False
+        register, previous, at = summed(0xFFFFFFFF, block[:4]), 0xFFFFFFFF, 4
+        while at + 4 <= len(block):
+            register = summed(register, block[at:at + 4])
+            tag = Tag(int.from_bytes(block[at:at + 4], "big") ^ previous)
+            if not tag.valid:
+                self.straight = after_check
+                return
+            if at + tag.length > len(block):
+                return
+            if tag.type & 0x780 == CHECK:
+                if at + 8 > len(block) or int.from_bytes(block[at + 4:at + 8], "little") != register:
+                    return
+                at += tag.length
+                self.ends, self.count, self.split, self.tail, self.forward = at, count, split, tail, forward
+                self.entries, self.checks = list(entries), self.checks + [tag]
+                previous, register, after_check = tag.word ^ (tag.chunk & 1) << 31, 0xFFFFFFFF, True
+                continue
+            kind = tag.type & 0x700
+            wide = block[at + 4:at + 12]
+            if (kind == 0x600 or tag.type == FORWARD) and len(wide) < 8:
+                return
+            if kind == 0x000:
+                count = max(count, tag.id + 1)
+            elif kind == 0x400:
+                count = max(count + tag.splice, 0) % 65536
+            elif kind == 0x600:
+                split, tail = bool(tag.chunk & 1), (int.from_bytes(wide[:4], "little"), int.from_bytes(wide[4:], "little"))
+            elif tag.type == FORWARD:
+                forward = (int.from_bytes(wide[:4], "little"), int.from_bytes(wide[4:], "little"))
+            data = block[at + 4:at + tag.length]
+            entries.append((tag, data))
+            register, previous, after_check, at = summed(register, data), tag.word, False, at + tag.length
+
+    def erased(self):
+        if not self.straight or self.ends % PROG or self.forward is None:
+            return False
+        size, sum = self.forward
+        return self.ends + size <= len(self.block) and summed(0xFFFFFFFF, self.block[self.ends:self.ends + size]) == sum
+
+    def slots(self):
+        """The directory machine over the entries, or None: "the committed log isn't regular"."""
+        slots = []
+        if any(not 4 <= check.size <= 1022 for check in self.checks):
+            return None
+        for tag, data in self.entries:
+            c, inside = len(slots), tag.id < len(slots)
+            if tag.type == CREATE and tag.id <= c and c <= 1022 and tag.size == 0:
+                slots.insert(tag.id, {})
+            elif tag.type == DELETE and inside and tag.size == 0:
+                del slots[tag.id]
+            elif tag.type in (FILE, DIR, SUPER) and inside and 1 <= tag.size <= 1022:
+                slots[tag.id]["name"] = (tag.type, data)
+            elif (tag.type in (0x200, CTZ) and inside and tag.size == 8) or (tag.type == INLINE and inside and tag.size <= 1022):
+                slots[tag.id]["struct"] = (tag.type, data)
+            elif 0x300 <= tag.type <= 0x3FF and inside:
+                if tag.removal:
+                    slots[tag.id].pop(tag.type, None)
+                else:
+                    slots[tag.id][tag.type] = data
+            elif not (tag.type in (SOFT, HARD, FORWARD) and tag.id == NO_SLOT and tag.size == 8) and not (tag.type == MOVE and tag.id == NO_SLOT and tag.size == 12):
+                return None
+        return slots
+
+
+# ---- document 01's text
+def shown(name):
+    """ "Name bytes outside 0x21 to 0x7e, and the backslash, print as \\xHH." """
+    return "".join(chr(b) if 0x21 <= b <= 0x7E and b != 0x5C else f"\\x{b:02x}" for b in name)
+
+
+def listing(data):
+    half = len(data) // 2
+    if len(data) % 2 or len(data) > 65536 or not 128 <= half <= 32768 or half % PROG:
+        return "refused -22\n"
+    logs = [Log(data[:half]), Log(data[half:])]
+    difference = (logs[1].revision - logs[0].revision) % 2 ** 32
+    order = (1, 0) if 0 < difference < 1 << 31 else (0, 1)
+    found = [n for n in order if logs[n].ends is not None]
+    if not found:
+        return "refused -84\n"
+    log = logs[found[0]]
+    if log.count > 1023:
+        return "refused -2\n"
+    tail = "none" if not log.split and log.tail == (0xFFFFFFFF,) * 2 else f"{'hard' if log.split else 'soft'} {log.tail[0]} {log.tail[1]}"
+    lines = [f"rev {log.revision}", f"block {found[0]}", f"end {log.ends}", f"count {log.count}", f"tail {tail}", f"erased {'yes' if log.erased() else 'no'}"]
+    slots = log.slots()
+    if slots is None:
+        lines.append("refused -202")
+    for id, slot in enumerate(slots or []):
+        name, struct = slot.get("name"), slot.get("struct")
+        lines.append(f"slot {id} " + (f"{name[0]:03x} {shown(name[1])}" if name else "- -") + " " + (f"{struct[0]:03x} {len(struct[1])}" if struct else "- -"))
+        for type in sorted(k for k in slot if isinstance(k, int)):
+            lines.append(f"attr {id} {type:03x} {slot[type].hex() or '-'}")
+    return "\n".join(lines) + "\n"
+
+
+# ---- inputs
+def entry(type, id, data=b"", removal=False):
+    return type << 20 | id << 10 | (0x3FF if removal else len(data)), data
+
+
+def block(size, commits, revision=1, check=CHECK, sizes=None, break_sum=False):
+    """A block of these commits, each ended on a multiple of the program size, or by a check of the size given."""
+    data, previous, start = revision.to_bytes(4, "little"), 0xFFFFFFFF, 0
+    for k, entries in enumerate(commits):
+        for word, body in entries:
+            data += (word ^ previous).to_bytes(4, "big") + body
+            previous = word
+        least = 4 + -(len(data) + 8) % PROG
+        word = check << 20 | NO_SLOT << 10 | (sizes[k] if sizes else least)
+        data += (word ^ previous).to_bytes(4, "big")
+        data += (summed(0xFFFFFFFF, data[start:]) ^ break_sum).to_bytes(4, "little")
+        data = data.ljust(len(data) - 4 + (sizes[k] if sizes else least), b"\xff")
+        previous, start = word ^ (check & 1) << 31, len(data)
+    return data.ljust(size, b"\xff")[:size]
+
+
+def runs(data):
+    """Bytes as text: hex, with runs of eight and more as aa*n."""
+    parts, i = [], 0
+    while i < len(data):
+        j = i
+        while j < len(data) and data[j] == data[i]:
+            j += 1
+        if j - i >= 8:
+            parts.append(f"{data[i]:02x}*{j - i}")
+        elif parts and "*" not in parts[-1]:
+            parts[-1] += data[i:j].hex()
+        else:
+            parts.append(data[i:j].hex())
+        i = j
+    return ",".join(parts) or "-"
+
+
+CASES, EXPECTED = [], []
+
+
+def case(name, data, want=None):
+    """`want` is the text written out by hand, where there is one: the rendering must agree with it."""
+    text = listing(data)
+    assert want is None or text == want, (name, text)
+    CASES.append(f"{name} {runs(data)}")
+    EXPECTED.append(f"== {name}\n" + (text if len(text) <= 2000 else f"{len(text)} bytes, CRC-32 {zlib.crc32(text.encode()):08x}\n"))
+
+
+def pair(name, first, want=None, second=None):
+    case(name, first + (b"\xff" * len(first) if second is None else second), want)
+
+
+SLOT = [entry(CREATE, 0), entry(FILE, 0, b"q212"), entry(INLINE, 0, b"abc"), entry(0x374, 0, b"\x90\x5f\x01\x00")]
+HEAD = "rev 1\nblock 0\nend 48\ncount 1\ntail none\nerased no\n"
+
+
+def head(end, count=1, tail="none", rev=1, number=0, erased="no"):
+    return f"rev {rev}\nblock {number}\nend {end}\ncount {count}\ntail {tail}\nerased {erased}\n"
+
+
+# document 01's own
+pair("document-01", block(128, [SLOT]), HEAD + "slot 0 001 q212 201 3\nattr 0 374 905f0100\n")
+# attributes: removed, set anew, empty, removed and set again, in rising order
+pair("attribute-removed", block(128, [SLOT, [entry(0x374, 0, removal=True)]]), head(64) + "slot 0 001 q212 201 3\n")
+pair("attribute-empty", block(128, [SLOT + [entry(0x3FF, 0)]]), head(48) + "slot 0 001 q212 201 3\nattr 0 374 905f0100\nattr 0 3ff -\n")
+pair("attributes-rising", block(128, [[entry(CREATE, 0), entry(0x3FF, 0, b"\xff"), entry(0x301, 0, b"\x01"), entry(0x300, 0, b"\x00"), entry(0x301, 0, b"\x0a\xbc")]]),
+     head(48) + "slot 0 - - - -\nattr 0 300 00\nattr 0 301 0abc\nattr 0 3ff ff\n")
+pair("attribute-set-again", block(128, [SLOT, [entry(0x374, 0, removal=True)], [entry(0x374, 0, b"\x07")]]), head(80) + "slot 0 001 q212 201 3\nattr 0 374 07\n")
+# missing parts
+pair("no-name", block(128, [[entry(CREATE, 0), entry(INLINE, 0, b"abc")]]), head(32) + "slot 0 - - 201 3\n")
+pair("no-struct", block(128, [[entry(CREATE, 0), entry(DIR, 0, b"d")]]), head(32) + "slot 0 002 d - -\n")
+pair("nothing-in-it", block(128, [[entry(CREATE, 0)]]), head(16) + "slot 0 - - - -\n")
+pair("no-slots", block(128, [[]]), head(16, 0))
+pair("empty-inline-file", block(128, [[entry(CREATE, 0), entry(FILE, 0, b"e"), entry(INLINE, 0)]]), head(32) + "slot 0 001 e 201 0\n")
+pair("directory-and-ctz", block(256, [[entry(CREATE, 0), entry(DIR, 0, b"dir"), entry(0x200, 0, bytes(8)), entry(CREATE, 1), entry(FILE, 1, b"big"), entry(CTZ, 1, bytes(8))]]),
+     head(64, 2) + "slot 0 002 dir 200 8\nslot 1 001 big 202 8\n")
+pair("superblock", block(128, [[entry(CREATE, 0), entry(SUPER, 0, b"littlefs"), entry(INLINE, 0, bytes(24))]]), head(64) + "slot 0 0ff littlefs 201 24\n")
+# slots that move
+pair("slot-deleted", block(256, [SLOT + [entry(CREATE, 0), entry(FILE, 0, b"a"), entry(CREATE, 2), entry(FILE, 2, b"z")], [entry(DELETE, 1)]]),
+     head(80, 2) + "slot 0 001 a - -\nslot 1 001 z - -\n")
+pair("all-deleted", block(128, [SLOT, [entry(DELETE, 0)]]), head(64, 0))
+# names that need escapes
+pair("name-escapes", block(128, [[entry(CREATE, 0), entry(FILE, 0, b" \\\x7f\xff\x00!~\x20x")]]), head(32) + "slot 0 001 \\x20\\x5c\\x7f\\xff\\x00!~\\x20x - -\n")
+pair("name-every-byte", block(512, [[entry(CREATE, 0), entry(FILE, 0, bytes(range(256)))]]))
+pair("name-of-1022", block(2048, [[entry(CREATE, 0), entry(FILE, 0, b"\n" * 1022)]]))
+pair("name-a-dash", block(128, [[entry(CREATE, 0), entry(FILE, 0, b"-"), entry(INLINE, 0)]]), head(32) + "slot 0 001 - 201 0\n")
+# tails
+numbers = (7).to_bytes(4, "little") + (0xFFFFFFFE).to_bytes(4, "little")
+pair("tail-soft", block(128, [SLOT + [entry(SOFT, NO_SLOT, numbers)]]), head(64, tail="soft 7 4294967294") + "slot 0 001 q212 201 3\nattr 0 374 905f0100\n")
+pair("tail-hard", block(128, [SLOT + [entry(HARD, NO_SLOT, numbers)]]), head(64, tail="hard 7 4294967294") + "slot 0 001 q212 201 3\nattr 0 374 905f0100\n")
+pair("tail-hard-null", block(128, [[entry(HARD, NO_SLOT, b"\xff" * 8)]]), head(32, 0, "hard 4294967295 4294967295"))
+pair("tail-soft-null", block(128, [[entry(SOFT, NO_SLOT, b"\xff" * 8)]]), head(32, 0))
+pair("tail-soft-one-null", block(128, [[entry(SOFT, NO_SLOT, b"\xff" * 4 + bytes(4))]]), head(32, 0, "soft 4294967295 0"))
+# the other block, its revision, a revision that wraps
+pair("second-block", block(128, [SLOT], 4), head(48, rev=5, number=1) + "slot 0 001 q212 201 3\nattr 0 374 905f0100\n", block(128, [SLOT], 5))
+pair("revision-wraps", block(128, [SLOT], 0xFFFFFFFF), head(48, rev=0, number=1) + "slot 0 001 q212 201 3\nattr 0 374 905f0100\n", block(128, [SLOT], 0))
+pair("newer-block-torn", block(128, [SLOT], 4), head(48, rev=4) + "slot 0 001 q212 201 3\nattr 0 374 905f0100\n", block(128, [SLOT], 5, break_sum=True))
+pair("revision-highest", block(128, [[]], 0xFFFFFFFF), head(16, 0, rev=4294967295))
+# the erased mark
+forward = (32).to_bytes(4, "little") + summed(0xFFFFFFFF, b"\xff" * 32).to_bytes(4, "little")
+ready = block(128, [SLOT + [entry(FORWARD, NO_SLOT, forward)]])
+pair("erased", ready[:64] + b"\xff" * 64, head(64, erased="yes") + "slot 0 001 q212 201 3\nattr 0 374 905f0100\n")
+pair("erased-no-more", ready[:64] + b"\xff" * 20 + b"\x00" + b"\xff" * 43, head(64) + "slot 0 001 q212 201 3\nattr 0 374 905f0100\n")
+pair("erased-in-an-earlier-commit", block(128, [[entry(FORWARD, NO_SLOT, forward)], []]), head(48, 0, erased="yes"))
+pair("erased-by-bit-31", block(128, [SLOT + [entry(FORWARD, NO_SLOT, forward)]], check=0x501), head(64) + "slot 0 001 q212 201 3\nattr 0 374 905f0100\n")
+# what is not committed does not show
+torn = block(128, [SLOT, [entry(CREATE, 1), entry(FILE, 1, b"new")]])
+pair("not-committed", torn[:60] + b"\xff" * 68, HEAD + "slot 0 001 q212 201 3\nattr 0 374 905f0100\n")
+# "-202 after the erased line": no create, an id too high, a check of another size, a bad struct
+pair("irregular", block(128, [[entry(FILE, 5, b"a")]]), head(32, 6) + "refused -202\n")
+pair("irregular-struct", block(128, [[entry(CREATE, 0), entry(0x200, 0, bytes(7))]]), head(32) + "refused -202\n")
+pair("irregular-check", block(128, [SLOT], sizes=[3]), head(38) + "refused -202\n")
+pair("irregular-later", block(128, [SLOT, [entry(0x374, 1, b"")]]), head(64) + "refused -202\n")
+pair("irregular-erased", block(128, [[entry(FILE, 5, b"a"), entry(FORWARD, NO_SLOT, forward)]]), head(32, 6, erased="yes") + "refused -202\n")
+# refusals
+case("empty", b"", "refused -22\n")
+case("one-byte", b"\x00", "refused -22\n")
+case("odd", (block(128, [SLOT]) + b"\xff" * 128)[:255], "refused -22\n")
+case("odd-past-the-end", block(128, [SLOT]) + b"\xff" * 129, "refused -22\n")
+case("too-short-a-block", b"\xff" * 224, "refused -22\n")
+case("no-multiple-of-16", b"\xff" * 264, "refused -22\n")
+case("65537-bytes", block(32768, [SLOT]) + b"\xff" * 32769, "refused -22\n")
+case("65538-bytes", b"\xff" * 65538, "refused -22\n")
+case("far-too-long", b"\xff" * 70000, "refused -22\n")
+pair("all-erased", b"\xff" * 128, "refused -84\n")
+pair("all-zero", b"\x00" * 128, "refused -84\n", b"\x00" * 128)
+pair("torn", block(128, [SLOT], break_sum=True), "refused -84\n")
+pair("count-1024", block(128, [[entry(FILE, 1023, b"a")]]), "refused -2\n")
+pair("count-1023-irregular", block(128, [[entry(FILE, 1022, b"a")]]), head(32, 1023) + "refused -202\n")
+# whole blocks of 32,768 bytes: the most slots, the longest names, empty attributes, one attribute of each type
+end = 32768 - 4 - 8
+slots = [entry(CREATE, i) for i in range(1023)]
+pair("full-of-attributes", block(32768, [slots + [entry(0x300 + i % 256, 1022 - i // 256) for i in range((end - 4 * 1023) // 4)]]))
+pair("full-of-names", block(32768, [[e for i in range(31) for e in (entry(CREATE, i), entry(FILE, i, b"\x80" * 1022))]]))
+pair("full-of-slots", block(32768, [slots + [e for i in range(1023) for e in (entry(FILE, i, f"{i:08d}q".encode()), entry(INLINE, i, b"abc"), entry(0x374, i, b""))][:3 * 1000]]))
+pair("every-attribute", block(4096, [[entry(CREATE, 0)] + [entry(0x3FF - i, 0, bytes([i])) for i in range(256)]]))
+pair("largest-block-second", block(32768, [SLOT], 1), None, block(32768, [SLOT + [entry(0x300, 0, bytes(1022))]], 2))
+
+# pairs that a real littlefs wrote: many of them are irregular to document 01
+for name in sorted(os.listdir(os.path.join(ROOT, "real"))):
+    if name.endswith(".pair"):
+        with open(os.path.join(ROOT, "real", name), "rb") as f:
+            case("real-" + name[:-5], f.read())
+
+# random histories: entries that are mostly allowed, in several commits; some blocks get a byte changed
+random.seed(20261115)
+
+
+def some_entry(count):
+    id = random.randrange(count) if count and random.random() < 0.98 else count
+    kind = random.choice(("create", "create", "name", "struct", "attr", "attr", "attr", "remove", "delete", "tail")) if count else "create"
+    body = bytes(random.choice((0, 32, 65, 92, 126, 127, 255)) for _ in range(random.randrange(1, 9)))
+    if kind == "create":
+        return entry(CREATE, random.randrange(count + 1)), 1
+    if kind == "name":
+        return entry(random.choice((FILE, DIR)), id, body), 0
+    if kind == "struct":
+        return random.choice((entry(INLINE, id, body[1:]), entry(0x200, id, bytes(8)), entry(CTZ, id, bytes(8)))), 0
+    if kind == "attr":
+        return entry(0x300 + random.randrange(6), id, body[1:]), 0
+    if kind == "remove":
+        return entry(0x300 + random.randrange(6), id, removal=True), 0
+    if kind == "delete" and count:
+        return entry(DELETE, random.randrange(count)), -1
+    return entry(random.choice((SOFT, HARD)), NO_SLOT, body.ljust(8, b"\x01")[:8]), 0
+
+
+def history(size, revision):
+    commits, count = [], 0
+    for _ in range(random.randrange(1, 5)):
+        entries = []
+        for _ in range(random.randrange(1, 9)):
+            made, step = some_entry(count)
+            entries.append(made)
+            count += step
+        commits.append(entries)
+    made = block(size, commits, revision)
+    if random.random() < 0.2:
+        at = random.randrange(size)
+        made = made[:at] + bytes([made[at] ^ 1 << random.randrange(8)]) + made[at + 1:]
+    return made
+
+
+for k in range(120):
+    size = random.choice((256, 400, 512))
+    case(f"random-{k}", history(size, random.randrange(3)) + history(size, random.randrange(3)))
+
+os.makedirs(HERE, exist_ok=True)
+for name, text in (("cases", "\n".join(CASES) + "\n"), ("expected", "".join(EXPECTED))):
+    with open(os.path.join(HERE, name), "w") as f:
+        f.write(text)
+print(f"{len(CASES)} cases")

@@ -1,0 +1,28 @@
+#!/usr/bin/env python3
+"""Runs the listing program on each case of a file, and shows its texts as samples/make_listings.py writes the expected ones.
+
+    tests/listing/run.py samples/listings/cases target/bin/list | diff - samples/listings/expected
+"""
+import subprocess
+import sys
+import zlib
+
+
+def unrolled(runs):
+    data = b""
+    for part in [] if runs == "-" else runs.split(","):
+        digits, _, times = part.partition("*")
+        data += bytes.fromhex(digits) * int(times or 1)
+    return data
+
+
+cases, *program = sys.argv[1:]
+with open(cases) as f:
+    for line in f:
+        name, runs = line.split()
+        done = subprocess.run(program, input=unrolled(runs), capture_output=True, timeout=60)
+        text = done.stdout
+        print(f"== {name}")
+        if done.returncode or done.stderr:
+            print(f"exit {done.returncode}, {done.stderr!r}")
+        sys.stdout.write(text.decode("latin-1") if len(text) <= 2000 else f"{len(text)} bytes, CRC-32 {zlib.crc32(text):08x}\n")
