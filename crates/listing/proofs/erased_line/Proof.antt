@@ -1,52 +1,16 @@
-use Rattle.listing.proofs.Whole.{erased-yes, erased-no}
+-- `listing::erased_line` meets its contract. Assumes nothing.
 use borrow.Author.Needs.{needs}
+use Rattle.listing.proofs.Whole.{erased-yes, erased-no}
 use Rattle.listing.proofs.erased_line.Statement.{statement}
 use Rattle.listing.proofs.erased_line.Tie as tie
-use Rattle.listing.proofs.erased_line.Reads as reads
-use Rattle.listing.proofs.erased_line.Lts as lts
-use Rattle.text.proofs.puts.Reads as puts-reads
 
--- src/lib.rt:188:36
-slice-aggregate-puts : tie.Need-slice-aggregate-puts
-slice-aggregate-puts c = search needs
-
--- src/lib.rt:188:9
-puts-requires : tie.Need-puts-requires
-puts-requires c κs = search needs
-
--- src/lib.rt:188:9
-same-length : tie.Need-same-length
-same-length c = search needs
-
--- src/lib.rt:188:9
 returns : tie.Need-returns
 returns c = erased-yes _ _ _ (c .before .before .before .before .before .if1 .taken) (c .before .before .puts .ensures)
 
--- src/lib.rt:190:25
-slice-aggregate-puts-2 : tie.Need-slice-aggregate-puts-2
-slice-aggregate-puts-2 c = search needs
-
--- src/lib.rt:190:5
-puts-requires-2 : tie.Need-puts-requires-2
-puts-requires-2 c κs = search needs
-
--- src/lib.rt:184:1
-same-length-2 : tie.Need-same-length-2
-same-length-2 c = search needs
-
--- src/lib.rt:184:1
 returns-2 : tie.Need-returns-2
 returns-2 c = erased-no _ _ _ (c .before .before .before .before .before .if1 .left) (c .before .before .puts2 .ensures)
 
 pub erased-line-spec : {M : Type 1} → statement M
 erased-line-spec =
     tie.close
-    (tie.spec
-    slice-aggregate-puts
-    puts-requires
-    same-length
-    returns
-    slice-aggregate-puts-2
-    puts-requires-2
-    same-length-2
-    returns-2)
+    (tie.spec (λ c. search needs) (λ c κs. search needs) (λ c. search needs) returns (λ c. search needs) (λ c κs. search needs) (λ c. search needs) returns-2)

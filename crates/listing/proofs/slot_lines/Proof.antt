@@ -1,3 +1,4 @@
+-- `listing::slot_lines` meets its contract. The loop keeps where all slots end, from here; the slots that are left fall. Assumes nothing.
 use mathlib.Core.Path.{_≡_, refl}
 use Prim.Native.Nat.{_-_, _≤_}
 use native.Mathlib.Omega.{arith}
@@ -11,10 +12,6 @@ use Rattle.gather.proofs.Slots.{slot-gathers, slot-holds, slots-more, slots-end
 use Rattle.listing.proofs.Loops.{slots-next, slots-done}
 use Rattle.listing.proofs.slot_lines.Statement.{statement}
 use Rattle.listing.proofs.slot_lines.Tie as tie
-use Rattle.listing.proofs.slot_lines.Reads as reads
-use Rattle.listing.proofs.slot_lines.Lts as lts
-use Rattle.gather.proofs.gather.Reads as gather-reads
-use Rattle.listing.proofs.slot_text.Reads as slot-text-reads
 
 abbrev Inv-loop : tie.InvT-loop
 Inv-loop out₀ at b end etag count n₀ id₀ out n id =
@@ -24,54 +21,25 @@ Inv-loop out₀ at b end etag count n₀ id₀ out n id =
 abbrev μ-loop : tie.MeasureT-loop
 μ-loop out₀ at b end etag count n₀ id₀ out n id = count - id
 
--- src/lib.rt:152:5
 loop-holds : tie.Need-loop-holds Inv-loop μ-loop
 loop-holds c = (omega arith, refl, refl)
 
--- src/lib.rt:153:50
-cast-gather : tie.Need-cast-gather Inv-loop μ-loop
-cast-gather c = omega arith
-
--- src/lib.rt:153:21
 gather-requires : tie.Need-gather-requires Inv-loop μ-loop
 gather-requires c κs = slot-gathers _ _ _ _ (c .before .before .before .before .pre) _ (omega arith)
 
--- src/lib.rt:154:9
 slot-text-requires : tie.Need-slot-text-requires Inv-loop μ-loop
 slot-text-requires c κs = c .before .before .gather .ensures .inside
 
--- src/lib.rt:155:9
-add-id : tie.Need-add-id Inv-loop μ-loop
-add-id c = omega arith
-
--- src/lib.rt:152:5
-loop-less : tie.Need-loop-less Inv-loop μ-loop
-loop-less c = omega arith
-
--- src/lib.rt:152:5
 loop-again : tie.Need-loop-again Inv-loop μ-loop
 loop-again c = (omega arith, search needs, slots-next _ _ _ _ _ _ (slots-more _ _ _ _ (c .before .before .before .before .before .before .before .before .before .before .pre) _ (c .before .before .before .before .before .before .loop-test .taken)) (slot-holds _ _ _ _ (c .before .before .before .before .before .before .before .before .before .before .pre) _ _ (c .before .before .before .before .before .before .loop-test .taken) (c .before .before .before .before .before .gather .ensures)) (c .before .before .before .before .before .before .before .loop .inv .2) (c .before .before .slot-text .ensures))
 
--- src/lib.rt:146:1
 same-length : tie.Need-same-length Inv-loop μ-loop
 same-length c = c .before .loop .inv .1
 
--- src/lib.rt:146:1
 returns : tie.Need-returns Inv-loop μ-loop
 returns c = slots-done _ _ _ (c .before .loop .id) (slots-end _ _ _ _ (c .before .before .before .before .pre) _ (c .loop-test .left)) (c .before .loop .inv .2)
 
 pub slot-lines-spec : {M : Type 1} → statement M
 slot-lines-spec =
     tie.close
-    (tie.spec
-    Inv-loop
-    μ-loop
-    loop-holds
-    cast-gather
-    gather-requires
-    slot-text-requires
-    add-id
-    loop-less
-    loop-again
-    same-length
-    returns)
+    (tie.spec Inv-loop μ-loop loop-holds (λ c. omega arith) gather-requires slot-text-requires (λ c. omega arith) (λ c. omega arith) loop-again same-length returns)

@@ -1,11 +1,11 @@
+-- `text::decimal_in` meets its contract: no digit is left, one digit, or those in front and then the last. The digits that are left fall. Assumes nothing.
+use Prim.Native.Nat.{ℕ, _<_}
 use native.Mathlib.Omega.{arith}
 use native.Mathlib.Nat.{pos-of-ne-zero}
 use borrow.Author.Needs.{needs}
-use mathlib.Core.Path.{_∙_}
-use Rattle.text.proofs.Shown.{decimal-none, decimal-last, decimal-more}
-use Prim.Native.Nat.{ℕ, _<_}
 use borrow.Fn.Kinds.{In}
 use borrow.Fn.PlainCycle.{Measures, is, falls, and}
+use Rattle.text.proofs.Shown.{decimal-none, decimal-last, decimal-more}
 use Rattle.text.proofs.decimal_in.Reads as decimal-in
 use Rattle.text.proofs.decimal_in.Kinds as decimal-in-kinds
 use Rattle.text.proofs.+decimal_in.Lts-decimal_in as decimal-in-lts
@@ -24,7 +24,6 @@ abbrev decimal-in-below : ℕ → In 1 decimal-in-kinds.ps
 decimal-in-below t =
     and 1 decimal-in-kinds.ps (falls 1 decimal-in-kinds.ps _<_ μ-decimal-in t) decimal-in.Pre
 
--- src/lib.rt:39:9
 decimal-in-returns : (t : ℕ) → decimal-in-lts.Need-returns (
   put-reads.Asked,
   put-reads.Learnt,
@@ -33,7 +32,6 @@ decimal-in-returns : (t : ℕ) → decimal-in-lts.Need-returns (
 ) (decimal-in-at t) decimal-in.Post
 decimal-in-returns t c = decimal-none _ _ _ (c .if1 .taken)
 
--- src/lib.rt:41:18
 decimal-in-add-digit : (t : ℕ) → decimal-in-lts.Need-add-digit (
   put-reads.Asked,
   put-reads.Learnt,
@@ -42,7 +40,6 @@ decimal-in-add-digit : (t : ℕ) → decimal-in-lts.Need-add-digit (
 ) (decimal-in-at t) decimal-in.Post
 decimal-in-add-digit t c = omega arith
 
--- src/lib.rt:41:17
 decimal-in-cast-digit : (t : ℕ) → decimal-in-lts.Need-cast-digit (
   put-reads.Asked,
   put-reads.Learnt,
@@ -51,7 +48,6 @@ decimal-in-cast-digit : (t : ℕ) → decimal-in-lts.Need-cast-digit (
 ) (decimal-in-at t) decimal-in.Post
 decimal-in-cast-digit t c = omega arith
 
--- src/lib.rt:43:9
 decimal-in-put-requires : (t : ℕ) → decimal-in-lts.Need-put-requires (
   put-reads.Asked,
   put-reads.Learnt,
@@ -60,7 +56,6 @@ decimal-in-put-requires : (t : ℕ) → decimal-in-lts.Need-put-requires (
 ) (decimal-in-at t) decimal-in.Post
 decimal-in-put-requires t c κs = tt
 
--- src/lib.rt:43:9
 decimal-in-same-length : (t : ℕ) → decimal-in-lts.Need-same-length (
   put-reads.Asked,
   put-reads.Learnt,
@@ -69,7 +64,6 @@ decimal-in-same-length : (t : ℕ) → decimal-in-lts.Need-same-length (
 ) (decimal-in-at t) decimal-in.Post
 decimal-in-same-length t c = search needs
 
--- src/lib.rt:43:9
 decimal-in-returns-2 : (t : ℕ) → decimal-in-lts.Need-returns-2 (
   put-reads.Asked,
   put-reads.Learnt,
@@ -78,7 +72,6 @@ decimal-in-returns-2 : (t : ℕ) → decimal-in-lts.Need-returns-2 (
 ) (decimal-in-at t) decimal-in.Post
 decimal-in-returns-2 t c = decimal-last _ _ _ _ (c .before .before .before .before .before .if1 .left) (c .before .before .before .before .if2 .taken) (c .before .before .put .ensures)
 
--- src/lib.rt:45:37
 decimal-in-sub-decimal-in : (t : ℕ) → decimal-in-lts.Need-sub-decimal-in (
   put-reads.Asked,
   put-reads.Learnt,
@@ -87,7 +80,6 @@ decimal-in-sub-decimal-in : (t : ℕ) → decimal-in-lts.Need-sub-decimal-in (
 ) (decimal-in-at t) decimal-in.Post
 decimal-in-sub-decimal-in t c = pos-of-ne-zero (c .before .before .if1 .left)
 
--- src/lib.rt:45:9
 decimal-in-decimal-in-requires : (t : ℕ) → decimal-in-lts.Need-decimal-in-requires (
   put-reads.Asked,
   put-reads.Learnt,
@@ -96,7 +88,6 @@ decimal-in-decimal-in-requires : (t : ℕ) → decimal-in-lts.Need-decimal-in-re
 ) (decimal-in-at t) decimal-in.Post
 decimal-in-decimal-in-requires t c κs = (omega (arith, c .before .before .before .before .pre .0, pos-of-ne-zero (c .before .before .if1 .left)), tt)
 
--- src/lib.rt:46:5
 decimal-in-put-requires-2 : (t : ℕ) → decimal-in-lts.Need-put-requires-2 (
   put-reads.Asked,
   put-reads.Learnt,
@@ -105,7 +96,6 @@ decimal-in-put-requires-2 : (t : ℕ) → decimal-in-lts.Need-put-requires-2 (
 ) (decimal-in-at t) decimal-in.Post
 decimal-in-put-requires-2 t c κs = tt
 
--- src/lib.rt:35:1
 decimal-in-same-length-2 : (t : ℕ) → decimal-in-lts.Need-same-length-2 (
   put-reads.Asked,
   put-reads.Learnt,
@@ -114,7 +104,6 @@ decimal-in-same-length-2 : (t : ℕ) → decimal-in-lts.Need-same-length-2 (
 ) (decimal-in-at t) decimal-in.Post
 decimal-in-same-length-2 t c = search needs
 
--- src/lib.rt:35:1
 decimal-in-returns-3 : (t : ℕ) → decimal-in-lts.Need-returns-3 (
   put-reads.Asked,
   put-reads.Learnt,

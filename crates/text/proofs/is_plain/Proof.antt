@@ -1,10 +1,8 @@
+-- `text::is_plain` meets its contract. Assumes nothing.
 use Rattle.text.proofs.Shown.{plain-is}
 use Rattle.text.proofs.is_plain.Statement.{statement}
 use Rattle.text.proofs.is_plain.Tie as tie
-use Rattle.text.proofs.is_plain.Reads as reads
-use Rattle.text.proofs.is_plain.Lts as lts
 
--- src/lib.rt:97:1
 returns : tie.Need-returns
 returns c = plain-is _
 
