@@ -4,13 +4,12 @@ use mathlib.Core.Bool.{false}
 use mathlib.Core.List.{[], _∷_}
 use Prim.Native.Nat.{ℕ}
 use Rattle.format.specs.Word.{be32, le32, toLe32, xor, allOnes}
-use Rattle.format.specs.Tag.{tagLength, tagFlipped}
+use Rattle.format.specs.Tag.{tagLength, tagFlipped, tagOf}
 use Rattle.format.specs.Crc.{crc, crcByte, crcBits, crcBit}
 use Rattle.format.specs.Walk.{readBehind, classOf, bodyLength, walkIn, walkFrom, walk}
 use Rattle.format.specs.Log.{committed, log, eventLength, span, tagAfter, stoppedStraight}
 use Rattle.format.specs.Record.{counted, countOf, tailOf, splitOf, forwardOf, seedOf}
 use Rattle.format.specs.View.{rank, view}
-use Rattle.format.specs.Commit.{tagOf}
 use Rattle.format.specs.Fetch.{geometryFits, pairFits, tooHigh, erasedOf, mdirOf, fetchOf}
 use Rattle.format.specs.Back.{backs, back}
 use Rattle.format.specs.Look.{asIds, splicedAt, wlook}

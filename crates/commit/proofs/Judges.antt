@@ -9,10 +9,10 @@ use native.Mathlib.Numerals.{add-one}
 use native.Mathlib.Omega.{arith}
 use lib.ListN.{length}
 use Rattle.format.specs.Word.{toBe32, xor, plus32}
-use Rattle.format.specs.Tag.{tagLength, mkTag}
+use Rattle.format.specs.Tag.{tagLength, mkTag, tagOf}
 use Rattle.format.specs.Crc.{crc}
 use Rattle.format.specs.Regular.{ruleHolds, countAfter}
-use Rattle.format.specs.Commit.{tagOf, Item}
+use Rattle.format.specs.Commit.{Item}
 use Rattle.format.specs.Stores.{entriesLength}
 use Rattle.format.specs.Entries.{entryBody, itemsOf, entryItem, entryRule, inBuffer, entryHolds, Judged, judge, bad, good}
 use Rattle.format.specs.declared.Entry.{Entry}

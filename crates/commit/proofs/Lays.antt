@@ -5,10 +5,10 @@ use mathlib.Core.Bool.{Bool, true, false, cond}
 use mathlib.Core.List.{List, [], _∷_, _++_}
 use Prim.Native.Nat.{ℕ, suc, _≤_}
 use Rattle.format.specs.Word.{toBe32, toLe32, xor}
-use Rattle.format.specs.Tag.{mkTag}
+use Rattle.format.specs.Tag.{mkTag, tagOf}
 use Rattle.format.specs.Crc.{crc}
 use Rattle.format.specs.Regular.{countAfter}
-use Rattle.format.specs.Commit.{tagOf, Item, commitBytes}
+use Rattle.format.specs.Commit.{Item, commitBytes}
 use Rattle.format.specs.Entries.{itemsOf, entryItem, entryRule, entryHolds, judge, bad, good}
 use Rattle.format.specs.Writer.{blockAt}
 use Rattle.format.specs.declared.Entry.{Entry}

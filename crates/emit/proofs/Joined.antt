@@ -9,13 +9,13 @@ use native.Mathlib.Omega.{arith}
 use lib.ListN.{length}
 use borrow.Author.Tests.{eqb-false}
 use Rattle.format.specs.Word.{toBe32, toLe32, xor}
-use Rattle.format.specs.Tag.{tagSize, tagDelete, tagLength}
+use Rattle.format.specs.Tag.{tagSize, tagDelete, tagLength, tagOf}
 use Rattle.format.specs.Kind.{typeCreate, typeTail, typeHardTail, noSlot}
 use Rattle.format.specs.Crc.{crc}
 use Rattle.format.specs.Walk.{Event}
 use Rattle.format.specs.Record.{noTail, tailOf, splitOf}
 use Rattle.format.specs.Directory.{classes, Load, Slot, dirOf, moveOf}
-use Rattle.format.specs.Commit.{Item, tagOf, commitBytes}
+use Rattle.format.specs.Commit.{Item, commitBytes}
 use Rattle.format.specs.Stores.{entriesLength, coincides}
 use Rattle.format.specs.Compaction.{classItems, slotItems, dirItems, isNoTail, tailItems, moveItems, compactionItems}
 use Rattle.format.specs.declared.LfsPair.{LfsPair}

@@ -24,7 +24,8 @@ use Rattle.theory.specs.Accepted.{regular-log, regular-count}
 use Rattle.theory.specs.Move.{lastMove}
 use Rattle.theory.specs.Gathered.{log-inside, directory-find, move-last}
 use Rattle.gather.specs.Seat.{loadIn, Gatherable, Gathered}
-use Rattle.emit.specs.Emitted.{Standing, emits, slotIn, Source, Read}
+use Rattle.gather.specs.Slots.{slotIn}
+use Rattle.emit.specs.Emitted.{Standing, emits, Source, Read}
 use Rattle.emit.specs.declared.Emit.{Emit}
 use Rattle.emit.proofs.Joined.{emits-app, dir-within, tail-within}
 

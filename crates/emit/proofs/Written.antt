@@ -12,11 +12,11 @@ use lib.Seq.{drop-cons, drop-drop}
 use lib.Dec.{eqb}
 use borrow.Author.Tests.{ne-eqb, eqb-false}
 use Rattle.format.specs.Word.{toBe32, toLe32, xor}
-use Rattle.format.specs.Tag.{tagType3, tagSize, removalSize, tagDelete, tagLength, mkTag}
+use Rattle.format.specs.Tag.{tagType3, tagSize, removalSize, tagDelete, tagLength, mkTag, tagOf}
 use Rattle.format.specs.Kind.{typeCreate, typeTail, typeHardTail, noSlot}
 use Rattle.format.specs.Crc.{crc}
 use Rattle.format.specs.Directory.{classes, Load, Slot, empty}
-use Rattle.format.specs.Commit.{Item, tagOf}
+use Rattle.format.specs.Commit.{Item}
 use Rattle.format.specs.Compaction.{classItems, slotItems, dirItems, isNoTail, tailItems}
 use Rattle.format.specs.declared.LfsPair.{LfsPair}
 use Rattle.format.proofs.Tags.{length-size}

@@ -6,17 +6,17 @@ use mathlib.Core.List.{List, [], _∷_, _++_}
 use Prim.Native.Nat.{ℕ, _+_, _^_, _≤_, _<_}
 use lib.ListN.{length, getD}
 use Rattle.format.specs.Word.{toBe32, xor}
-use Rattle.format.specs.Tag.{tagLength}
+use Rattle.format.specs.Tag.{tagLength, tagOf}
 use Rattle.format.specs.Kind.{typeCreate}
 use Rattle.format.specs.Crc.{crc}
 use Rattle.format.specs.Log.{log, logEnd, logEndTag}
 use Rattle.format.specs.Record.{noTail, tailOf, splitOf}
 use Rattle.format.specs.Regular.{Regular}
-use Rattle.format.specs.Directory.{classes, Slot, dirOf}
-use Rattle.format.specs.Commit.{Item, tagOf}
+use Rattle.format.specs.Directory.{classes, dirOf}
+use Rattle.format.specs.Commit.{Item}
 use Rattle.format.specs.declared.LfsMdir.{LfsMdir}
 use Rattle.lay.specs.Laid.{Laid, laid, putsOf}
-use Rattle.gather.specs.Seat.{loadIn, Inside}
+use Rattle.gather.specs.Seat.{Inside}
 use Rattle.emit.specs.declared.Emit.{Emit}
 
 -- where the writing stands, with the block that is written
@@ -41,12 +41,9 @@ unfoldable pub emits : Standing → List Item → Standing
 emits s [] = s
 emits s (i ∷ is) = emits (emitted s i) is
 
--- the create of an id, and a slot as its seats hold it
+-- the create of an id
 abbrev pub createItem : ℕ → Item
 createItem id = record { tag = tagOf typeCreate id 0; body = [] }
-
-abbrev pub slotIn : List ℕ → List ℕ → Slot
-slotIn b seats c = loadIn b (getD seats c 0)
 
 -- a seat in the block, an id that fits a tag, and an end that a word still counts
 pub record Seated (b : List ℕ) (e : Emit) (id seat : ℕ) : Type 0 where

@@ -8,9 +8,8 @@ use lib.Bits.{bitXor, xor-shr, xor-mod, xor-comm, xor-self}
 use lib.Dec.{eqb}
 use borrow.Author.Tests.{eq-eqb, ne-eqb}
 use Rattle.format.specs.Word.{be32, toBe32, xor, allOnes}
-use Rattle.format.specs.Tag.{tagType1, tagType2, tagType3, tagChunk, tagId, tagSize, removalSize, tagLength, tagFlipped}
+use Rattle.format.specs.Tag.{tagType1, tagType2, tagType3, tagChunk, tagId, tagSize, removalSize, tagLength, tagFlipped, tagOf}
 use Rattle.format.specs.Kind.{typeCheck, isCheck}
-use Rattle.format.specs.Commit.{tagOf}
 use Rattle.format.proofs.Xor.{xor-cancel}
 use Rattle.format.proofs.Words.{be32-toBe32, xor-undo}
 

@@ -1,17 +1,13 @@
 -- Document 01, The added writer: the bytes of a commit, and how the walk meets them. Assumes nothing.
 use mathlib.Core.Bool.{Bool, true, false, _&&_}
 use mathlib.Core.List.{List, [], _∷_, _++_}
-use Prim.Native.Nat.{ℕ, _+_, _*_, _^_}
+use Prim.Native.Nat.{ℕ}
 use Rattle.format.specs.Word.{toBe32, toLe32, xor}
-use Rattle.format.specs.Tag.{tagType3, tagId, tagSize}
+use Rattle.format.specs.Tag.{tagType3, tagId, tagSize, tagOf}
 use Rattle.format.specs.Kind.{typeCheck, noSlot}
 use Rattle.format.specs.Crc.{crc}
 use Rattle.format.specs.Walk.{Event, ent}
 use Rattle.format.specs.Regular.{ruleOf, ruleHolds, countAfter}
-
--- The tag of a type of 11 bits, an id and a size of 10 bits each. LFS_MKTAG is the same there (`mkTag-sum` of proofs/Words.antt).
-unfoldable pub tagOf : ℕ → ℕ → ℕ → ℕ
-tagOf type id size = type * 2 ^ 20 + id * 2 ^ 10 + size
 
 -- "then a check tag 0x500, id 1,023", of a size that the padding decides
 abbrev pub checkTag : ℕ → ℕ

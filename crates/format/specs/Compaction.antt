@@ -15,7 +15,8 @@ use Rattle.format.specs.Record.{noTail, tailOf, splitOf}
 use Rattle.format.specs.Fetch.{fetchOf}
 use Rattle.format.specs.Regular.{Regular}
 use Rattle.format.specs.Directory.{classes, Load, Slot, dirOf, moveOf}
-use Rattle.format.specs.Commit.{Item, tagOf, checkTag}
+use Rattle.format.specs.Tag.{tagOf}
+use Rattle.format.specs.Commit.{Item, checkTag}
 use Rattle.format.specs.Stores.{entriesLength, coincides, compacting}
 use Rattle.format.specs.Writer.{checkLength, roundedEnd, checkSize, blockAt, isSecond, Images, images, committedAs}
 use Rattle.format.specs.declared.Geometry.{Geometry}

@@ -5,9 +5,9 @@ use mathlib.Core.List.{List, [], _∷_, map}
 use Prim.Native.Nat.{ℕ, suc, _+_}
 use lib.ListN.{length, take, drop}
 use lib.Dec.{leb, eqb}
-use Rattle.format.specs.Tag.{removalSize}
+use Rattle.format.specs.Tag.{removalSize, tagOf}
 use Rattle.format.specs.Regular.{Rule, ruleOf, ruleHolds, countAfter}
-use Rattle.format.specs.Commit.{tagOf, Item}
+use Rattle.format.specs.Commit.{Item}
 use Rattle.format.specs.declared.Entry.{Entry}
 
 -- "1,023 for removal with no data": no other rule than a user attribute's passes this length.

@@ -7,10 +7,9 @@ use lib.Bits.{bitAnd}
 use lib.Dec.{leb, eqb}
 use lib.IntN.{ℤ, pos, negsuc}
 use Rattle.format.specs.Word.{plus32, minus32}
-use Rattle.format.specs.Tag.{tagSplice, tagId, tagDelete}
+use Rattle.format.specs.Tag.{tagSplice, tagId, tagDelete, tagOf}
 use Rattle.format.specs.Kind.{isSplice, typeCreate}
 use Rattle.format.specs.Back.{Met}
-use Rattle.format.specs.Commit.{tagOf}
 
 -- No entry; or the tag that matched, where it stands, and the difference there. "The answer is the tag plus the difference."
 pub data Found : Type 0 where

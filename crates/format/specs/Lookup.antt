@@ -6,9 +6,8 @@ use Prim.Native.Nat.{ℕ, _+_, _-_, _%_, _^_, min}
 use lib.ListN.{length, take, drop, replicate}
 use lib.Dec.{leb, ltb, eqb}
 use Rattle.format.specs.Word.{le32, plus32, minus32}
-use Rattle.format.specs.Tag.{tagType3, tagId, tagSize}
+use Rattle.format.specs.Tag.{tagType3, tagId, tagSize, tagOf}
 use Rattle.format.specs.Kind.{typeDirectory, typeDirStruct, typeInlineStruct, typeCtzStruct, typeName, typeMove, noSlot}
-use Rattle.format.specs.Commit.{tagOf}
 use Rattle.format.specs.Record.{pairIn}
 use Rattle.format.specs.Pair.{pairSync}
 use Rattle.format.specs.Gstate.{gstateHasMoveHere, gstateXor}

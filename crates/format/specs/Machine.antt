@@ -10,7 +10,7 @@ use Rattle.format.specs.Kind.{typeName, typeDirStruct, typeUserAttr, typ
 use Rattle.format.specs.Walk.{Event}
 use Rattle.format.specs.Record.{noTail, tailOf, splitOf}
 use Rattle.format.specs.Directory.{Slot, Load, empty, applyAll, acts, dirOf, moveOf}
-use Rattle.format.specs.Commit.{tagOf}
+use Rattle.format.specs.Tag.{tagOf}
 use Rattle.format.specs.Look.{maskType1, maskType3, maskMove}
 use Rattle.format.specs.declared.LfsPair.{LfsPair}
 use Rattle.format.specs.declared.Refusal.the-variants.{NoEntry}

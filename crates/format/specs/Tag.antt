@@ -58,3 +58,7 @@ mkTag type id size = bitOr (bitOr (type * 2 ^ 20 % 2 ^ 32) (id * 2 ^ 10 % 2 ^ 32
 -- LFS_MKTAG_IF: the tag where the condition holds, and else the tag of LFS_FROM_NOOP, which is 0.
 abbrev pub mkTagIf : Bool → ℕ → ℕ → ℕ → ℕ
 mkTagIf c type id size = cond c (mkTag type id size) (mkTag 0 0 0)
+
+-- The tag of a type of 11 bits, an id and a size of 10 bits each. LFS_MKTAG is the same there (`mkTag-sum` of proofs/Words.antt).
+unfoldable pub tagOf : ℕ → ℕ → ℕ → ℕ
+tagOf type id size = type * 2 ^ 20 + id * 2 ^ 10 + size

@@ -8,8 +8,7 @@ use lib.Dec.{leb}
 use lib.ListN.{length}
 use borrow.Author.Tests.{not-true, not-false}
 use Rattle.format.specs.Word.{plus32}
-use Rattle.format.specs.Tag.{mkTag}
-use Rattle.format.specs.Commit.{tagOf}
+use Rattle.format.specs.Tag.{mkTag, tagOf}
 use Rattle.format.specs.Gstate.{gstateXor}
 use Rattle.format.specs.Look.{Found, found}
 use Rattle.format.specs.Lookup.{recordFits, blockOf, searched, sliceEnd, sliceAnswer, sliceBuffer, blankBuffer, gstateIn, moveMask, moveKey, moveAnswer, moveState, getgstateOf, getgstateState}

@@ -8,7 +8,7 @@ use Prim.Native.Nat.{ℕ, zero, suc}
 use lib.ListN.{replicate}
 use Rattle.format.specs.Crc.{crc, crcByte, crcBits, crcBit}
 use Rattle.format.specs.Word.{be32, le32, toBe32, toLe32, xor}
-use Rattle.format.specs.Tag.{tagLength, tagFlipped}
+use Rattle.format.specs.Tag.{tagLength, tagFlipped, tagOf}
 use Rattle.format.specs.Walk.{readBehind, classOf, bodyLength, walkIn, walkFrom, walk}
 use Rattle.format.specs.Log.{committed, log, eventLength, span, tagAfter, stoppedStraight}
 use Rattle.format.specs.Record.{counted, countOf, tailOf, splitOf, forwardOf, seedOf}
@@ -18,7 +18,7 @@ use Rattle.format.specs.Back.{backs, back}
 use Rattle.format.specs.Look.{maskType3, asIds, splicedAt, wlook}
 use Rattle.format.specs.Lookup.{recordFits, searched, getsliceFits, getsliceBuffer}
 use Rattle.format.specs.Regular.{ruleOf, ruleHolds, countAfter, regularFrom, Regular}
-use Rattle.format.specs.Commit.{tagOf, commitBytes, written}
+use Rattle.format.specs.Commit.{commitBytes, written}
 use Rattle.format.specs.Stores.{erased, allErased, fill, entriesLength, appending, coincides, compactBytes, compacting}
 use Rattle.format.specs.Entries.{entryBody, judge, itemsOf}
 use Rattle.format.specs.Directory.{empty, upd, dir, apply, applyAll, act, acts, dirOf, moveOf}

@@ -3,7 +3,8 @@ use mathlib.Core.Path.{_≡_}
 use Prim.Native.Nat.{ℕ, _+_, _-_, _%_, _≤_}
 use native.Mathlib.Nat.{div-add-mod', mod-lt}
 use native.Mathlib.Omega.{arith}
-use Rattle.format.specs.Commit.{tagOf, checkTag}
+use Rattle.format.specs.Tag.{tagOf}
+use Rattle.format.specs.Commit.{checkTag}
 use Rattle.format.specs.Writer.{checkLength, roundedEnd, checkSize}
 use Rattle.room.specs.Tests.{Prog}
 

@@ -11,12 +11,12 @@ use lib.Seq.{drop-at}
 use lib.Dec.{eqb}
 use borrow.Author.Tests.{eqb-true, ne-eqb}
 use Rattle.format.specs.Word.{le32, toLe32, allOnes}
-use Rattle.format.specs.Tag.{tagType3, tagChunk, tagId, tagSize, removalSize}
+use Rattle.format.specs.Tag.{tagType3, tagChunk, tagId, tagSize, removalSize, tagOf}
 use Rattle.format.specs.Kind.{typeCreate, typeTail, typeHardTail, typeMove, noSlot, isTail}
 use Rattle.format.specs.Walk.{Event, chk}
 use Rattle.format.specs.Record.{pairIn, noTail, tailOf, splitOf}
 use Rattle.format.specs.Regular.{ruleOf, ruleHolds, countAfter}
-use Rattle.format.specs.Commit.{Item, tagOf, commitSum, written, itemsHold}
+use Rattle.format.specs.Commit.{Item, commitSum, written, itemsHold}
 use Rattle.format.specs.Directory.{Act, mk, rm, put, skip, Load, Slot, act, moveOf}
 use Rattle.format.specs.Compaction.{isNoTail, tailItems, moveItems}
 use Rattle.format.specs.declared.LfsPair.{LfsPair}

@@ -9,12 +9,12 @@ use native.Mathlib.Omega.{arith}
 use lib.ListN.{length}
 use lib.Dec.{eqb}
 use borrow.Author.Tests.{eqb-true, ne-eqb, eq-eqb}
-use Rattle.format.specs.Tag.{tagType3, tagId, tagSize, removalSize, tagLength}
+use Rattle.format.specs.Tag.{tagType3, tagId, tagSize, removalSize, tagLength, tagOf}
 use Rattle.format.specs.Kind.{typeCreate, typeMove, noSlot, isWide}
 use Rattle.format.specs.Walk.{Event, bodyLength, ent, chk, inv}
 use Rattle.format.specs.Log.{log}
 use Rattle.format.specs.Regular.{Rule, ruleOf, between, ruleHolds, countAfter, regularFrom, Regular}
-use Rattle.format.specs.Commit.{tagOf, Item, commitSum, written}
+use Rattle.format.specs.Commit.{Item, commitSum, written}
 use Rattle.format.specs.Directory.{Load, Slot, Act, mk, rm, put, skip, loadOf, moveOf, isMove}
 use Rattle.format.proofs.Tags.{length-size, of-type3, of-size}
 use Rattle.theory.specs.Steps.{both-true}

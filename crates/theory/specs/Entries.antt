@@ -3,9 +3,9 @@ use mathlib.Core.Path.{_≡_}
 use mathlib.Core.List.{List}
 use Prim.Native.Nat.{ℕ, _^_, _≤_, _<_}
 use native.Mathlib.Omega.{arith}
-use Rattle.format.specs.Tag.{removalSize, tagFlipped}
+use Rattle.format.specs.Tag.{removalSize, tagFlipped, tagOf}
 use Rattle.format.specs.Kind.{typeCheck, noSlot}
-use Rattle.format.specs.Commit.{tagOf, checkTag}
+use Rattle.format.specs.Commit.{checkTag}
 use Rattle.format.specs.Directory.{skip, act}
 use Rattle.format.proofs.Tags.{of-valid, of-type2, of-length, of-type3}
 use Rattle.theory.specs.Decode.{GoodCheck}

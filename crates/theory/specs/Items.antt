@@ -8,10 +8,10 @@ use Prim.Native.Nat.{ℕ, zero, suc, _+_, _-_, _^_, _≤_, _<_}
 use native.Mathlib.Omega.{arith}
 use lib.ListN.{length}
 use borrow.Author.Tests.{ne-eqb}
-use Rattle.format.specs.Tag.{tagType3, tagChunk, tagId, removalSize}
+use Rattle.format.specs.Tag.{tagType3, tagChunk, tagId, removalSize, tagOf}
 use Rattle.format.specs.Kind.{typeDirStruct, typeUserAttr, typeCreate, typeDelete, typeCheck, typeMove, noSlot, isWide}
 use Rattle.format.specs.Regular.{ruleOf, ruleHolds}
-use Rattle.format.specs.Commit.{tagOf, Item}
+use Rattle.format.specs.Commit.{Item}
 use Rattle.format.specs.Directory.{Act, mk, rm, put, skip, Load, loadOf, act}
 use Rattle.format.proofs.Tags.{of-valid, of-type3, of-length, of-size, of-id, of-chunk}
 use Rattle.theory.specs.Steps.{not-true}

@@ -7,9 +7,9 @@ use native.Mathlib.Omega.{arith}
 use lib.ListN.{length, take, drop, length-take, length-drop}
 use lib.Dec.{leb}
 use borrow.Author.Tests.{leb-true}
-use Rattle.format.specs.Tag.{tagType3, tagId, tagSize}
+use Rattle.format.specs.Tag.{tagType3, tagId, tagSize, tagOf}
 use Rattle.format.specs.Regular.{ruleOf, ruleHolds, countAfter}
-use Rattle.format.specs.Commit.{tagOf, itemsHold}
+use Rattle.format.specs.Commit.{itemsHold}
 use Rattle.format.specs.Entries.{isRemoval, entryBody, itemsOf, entryItem, entryRule, inBuffer, entryHolds, judge, bad, good}
 use Rattle.format.specs.declared.Entry.{Entry}
 use Rattle.format.proofs.Tags.{of-type3}

@@ -11,9 +11,8 @@ use lib.Bits.{bitAnd}
 use lib.Dec.{eqb, leb}
 use borrow.Author.Tests.{eqb-true, eq-eqb, eqb-false, ne-eqb, leb-true, leb-false}
 use Rattle.format.specs.Word.{plus32, minus32}
-use Rattle.format.specs.Tag.{tagType1, tagType3, tagSplice, tagId, tagSize, tagDelete, tagLength}
+use Rattle.format.specs.Tag.{tagType1, tagType3, tagSplice, tagId, tagSize, tagDelete, tagLength, tagOf}
 use Rattle.format.specs.Kind.{typeSplice, typeCreate, typeDelete, isSplice}
-use Rattle.format.specs.Commit.{tagOf}
 use Rattle.format.specs.Back.{Met}
 use Rattle.format.specs.Look.{Found, asIds, splicedAt, wlook, noEntry, found}
 use Rattle.format.specs.Directory.{Load, Act, mk, rm, put, skip, dir, apply, empty, upd, loadOf, act}

@@ -7,10 +7,10 @@ use native.Mathlib.Omega.{arith}
 use lib.ListN.{length}
 use lib.Dec.{leb, eqb, ltb}
 use borrow.Author.Tests.{leb-true, eqb-true, ltb-true}
-use Rattle.format.specs.Tag.{tagType3, tagId, tagSize, removalSize, tagLength}
+use Rattle.format.specs.Tag.{tagType3, tagId, tagSize, removalSize, tagLength, tagOf}
 use Rattle.format.specs.Kind.{noSlot}
 use Rattle.format.specs.Regular.{Rule, ruleOf, between, ruleHolds, create, delete, name, inlined, eight, attribute, tail, move, forward, bad}
-use Rattle.format.specs.Commit.{tagOf, Item}
+use Rattle.format.specs.Commit.{Item}
 use Rattle.format.proofs.Tags.{of-type3, of-id, of-size, of-valid}
 use Rattle.theory.specs.Steps.{both-true}
 use Rattle.theory.specs.Directory.{mostSlots}

@@ -9,13 +9,12 @@ use lib.ListN.{take, drop}
 use lib.Dec.{leb, eqb}
 use borrow.Author.Tests.{eqb-true}
 use Rattle.format.specs.Word.{be32, allOnes, minus32}
-use Rattle.format.specs.Tag.{tagType3, tagId, tagSize, tagDelete, tagLength}
+use Rattle.format.specs.Tag.{tagType3, tagId, tagSize, tagDelete, tagLength, tagOf}
 use Rattle.format.specs.Kind.{typeMove, noSlot, isCheck}
 use Rattle.format.specs.Crc.{crc}
 use Rattle.format.specs.Walk.{Event, walkFrom, walk, ent, chk, inv}
 use Rattle.format.specs.Log.{committed, log, logEnd, logEndTag}
 use Rattle.format.specs.Regular.{Rule, between, ruleOf, ruleHolds, countAfter, regularFrom, Regular}
-use Rattle.format.specs.Commit.{tagOf}
 use Rattle.format.specs.Back.{Met, hop, back, places}
 use Rattle.format.specs.Look.{maskMove, splicedAt, wlook, noEntry, found}
 use Rattle.format.specs.Directory.{isMove}

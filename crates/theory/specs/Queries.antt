@@ -9,9 +9,8 @@ use lib.Bits.{bitAnd, and-block, and-mask, and-high}
 use lib.Pow.{split}
 use lib.Dec.{eqb}
 use borrow.Author.Tests.{eq-eqb, eqb-true, ne-eqb, eqb-false}
-use Rattle.format.specs.Tag.{tagType1, tagType3, tagChunk, tagId}
+use Rattle.format.specs.Tag.{tagType1, tagType3, tagChunk, tagId, tagOf}
 use Rattle.format.specs.Kind.{typeName, typeDirStruct, typeUserAttr, typeCreate, typeDelete, isName}
-use Rattle.format.specs.Commit.{tagOf}
 use Rattle.format.specs.Look.{maskType1, maskType3}
 use Rattle.format.specs.Directory.{Act, put, mk, rm, skip, act, isStruct, isAttr, loadOf}
 use Rattle.format.proofs.Tags.{of-type1, of-id, of-type3}

@@ -9,11 +9,10 @@ use native.Mathlib.Omega.{arith}
 use lib.ListN.{length}
 use lib.Dec.{eqb, leb, ltb}
 use borrow.Author.Tests.{eqb-true, leb-true, ltb-true, eqb-false}
-use Rattle.format.specs.Tag.{tagType3, tagChunk, tagId, tagSize, removalSize, tagDelete, tagLength}
+use Rattle.format.specs.Tag.{tagType3, tagChunk, tagId, tagSize, removalSize, tagDelete, tagLength, tagOf}
 use Rattle.format.specs.Kind.{typeFile, typeDirectory, typeSuperblock, typeDirStruct, typeInlineStruct, typeCtzStruct, typeUserAttr, typeSplice, typeCreate, typeDelete, typeCheck, typeForward, typeTail, typeHardTail, typeMove, noSlot, isCheck, isWide}
 use Rattle.format.specs.Walk.{bodyLength}
 use Rattle.format.specs.Regular.{Rule, ruleOf, between, ruleHolds, countAfter, create, delete, name, inlined, eight, attribute, tail, move, forward, bad}
-use Rattle.format.specs.Commit.{tagOf}
 use Rattle.format.specs.Directory.{put, skip, empty, mk, rm, act, loadOf}
 use Rattle.format.proofs.Tags.{length-size, of-fields}
 use Rattle.theory.specs.Steps.{both-true, not-true}

@@ -9,12 +9,11 @@ use native.Mathlib.Omega.{arith}
 use lib.ListN.{take, drop, length, getD}
 use lib.Dec.{leb}
 use Rattle.format.specs.Word.{be32, allOnes, minus32}
-use Rattle.format.specs.Tag.{tagLength, tagFlipped}
+use Rattle.format.specs.Tag.{tagLength, tagFlipped, tagOf}
 use Rattle.format.specs.Kind.{isSplice, isCheck}
 use Rattle.format.specs.Crc.{crc}
 use Rattle.format.specs.Walk.{Event, walkFrom, walk, ent, chk, inv}
 use Rattle.format.specs.Log.{committed, log, tagAfter, logEnd, logEndTag}
-use Rattle.format.specs.Commit.{tagOf}
 use Rattle.format.specs.Back.{Met, hop, back, places}
 use Rattle.format.specs.Look.{wlook}
 use Rattle.format.specs.Directory.{Act, dir, Load, empty, act, acts, dirOf}

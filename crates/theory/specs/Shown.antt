@@ -19,7 +19,7 @@ use Rattle.format.specs.Back.{back}
 use Rattle.format.specs.Look.{wlook}
 use Rattle.format.specs.Lookup.{recordFits, blockOf, hasIds, searchedFrom, searched, longestBuffer, getsliceFits, getsliceOf, getsliceBuffer}
 use Rattle.format.specs.Regular.{Regular}
-use Rattle.format.specs.Commit.{tagOf}
+use Rattle.format.specs.Tag.{tagOf}
 use Rattle.format.specs.Directory.{dirOf}
 use Rattle.format.specs.Writer.{blockAt, isSecond}
 use Rattle.format.specs.declared.Geometry.{Geometry}

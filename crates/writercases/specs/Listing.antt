@@ -6,14 +6,14 @@ use Prim.Native.Nat.{ℕ}
 use lib.ListN.{take}
 use Rattle.format.specs.Crc.{crc, crcByte, crcBits, crcBit}
 use Rattle.format.specs.Word.{be32, le32, toBe32, toLe32, xor}
-use Rattle.format.specs.Tag.{tagLength, tagFlipped}
+use Rattle.format.specs.Tag.{tagLength, tagFlipped, tagOf}
 use Rattle.format.specs.Walk.{readBehind, classOf, bodyLength, walkIn, walkFrom, walk}
 use Rattle.format.specs.Log.{committed, log, eventLength, span, tagAfter, stoppedStraight}
 use Rattle.format.specs.Record.{counted, countOf, noTail, tailOf, splitOf, forwardOf, seedOf}
 use Rattle.format.specs.View.{rank, view}
 use Rattle.format.specs.Fetch.{geometryFits, pairFits, tooHigh, erasedOf, mdirOf, fetchOf}
 use Rattle.format.specs.Regular.{ruleOf, ruleHolds, countAfter, regularFrom, Regular}
-use Rattle.format.specs.Commit.{tagOf, commitBytes}
+use Rattle.format.specs.Commit.{commitBytes}
 use Rattle.format.specs.Stores.{erased, allErased, fill, entriesLength, appending, coincides}
 use Rattle.format.specs.Entries.{entryBody, judge}
 use Rattle.format.specs.Writer.{roundedEnd, checkSize, commitFits, roomClean, placed, appended, verdictOf, Images, images, unlimited, commitImages, commitOf, commitStoresOf}

@@ -5,7 +5,8 @@ use native.Mathlib.Omega.{arith}
 use lib.ListN.{length}
 use Rattle.format.specs.Directory.{classes}
 use Rattle.format.specs.Compaction.{slotItems}
-use Rattle.emit.specs.Emitted.{standing, emits, slotIn}
+use Rattle.gather.specs.Slots.{slotIn}
+use Rattle.emit.specs.Emitted.{standing, emits}
 use Rattle.emit.proofs.Joined.{entry-within, class-within}
 use Rattle.emit.proofs.Written.{slot-created, slot-class, slot-done}
 use borrow.Author.Needs.{needs}

@@ -7,7 +7,8 @@ use borrow.Author.Needs.{needs}
 use Rattle.format.specs.Log.{log}
 use Rattle.format.specs.Directory.{dirOf}
 use Rattle.format.specs.Compaction.{dirItems}
-use Rattle.emit.specs.Emitted.{standing, emits, slotIn}
+use Rattle.gather.specs.Slots.{slotIn}
+use Rattle.emit.specs.Emitted.{standing, emits}
 use Rattle.emit.proofs.Joined.{slot-within}
 use Rattle.emit.proofs.Written.{dir-slot, dir-done}
 use Rattle.emit.proofs.Sourced.{slots-few, slot-gathers, slot-holds, dir-more, dir-end}

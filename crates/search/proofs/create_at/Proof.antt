@@ -1,8 +1,7 @@
 -- `search::create_at` meets its contract: of these fields LFS_MKTAG is their sum. Assumes nothing.
 use mathlib.Core.Path.{_∙_}
 use native.Mathlib.Omega.{arith}
-use Rattle.format.specs.Tag.{tagId}
-use Rattle.format.specs.Commit.{tagOf}
+use Rattle.format.specs.Tag.{tagId, tagOf}
 use Rattle.format.proofs.Words.{mkTag-sum}
 use borrow.Author.Needs.{needs}
 use Rattle.search.proofs.create_at.Statement.{statement}
