@@ -1,0 +1,152 @@
+/* restart.c: a controller's restart. It reads a metadata pair, finds every instruction's payload and deadline, hangs the instructions on a timer
+ * wheel and prints them in the order in which they come due; then those that lack a deadline or a payload, so that none is dropped in silence.
+ *
+ *     restart FILE     FILE has both blocks of the pair, one behind the other. Exits 2 if it is no such file, 1 if its pair is refused.
+ *
+ * No heap: all that it needs stands below, for the largest pair that there is. */
+#include "lanolin.h"
+
+#include <stdio.h>
+#include <stdlib.h>
+#include <string.h>
+
+enum { PROG_SIZE = 16, MOST_BLOCK = 32768, MOST_SLOTS = 1023, MOST_NAME = 1022 };
+enum { BUCKETS = 64, NONE = 0xffff };
+
+/* What is looked up for a slot: any name and any struct, by the type's upper three bits; the deadline, user attribute 0x74, by all of them. */
+enum { BY_CLASS = 0x700ffc00, NAME = 0x000, STRUCT = 0x200 };
+enum { BY_TYPE = 0x7ffffc00, DEADLINE = 0x374 };
+
+/* What is found. */
+enum { DIRECTORY = 0x002, SUPERBLOCK = 0x0ff, INLINE_STRUCT = 0x201, CTZ_STRUCT = 0x202 };
+
+typedef struct {
+    bool payload, attribute;  /* whether there is one */
+    uint32_t length;          /* the payload's, in bytes */
+    uint32_t attribute_size;  /* a deadline has four bytes; with any other number it is none */
+    uint32_t deadline;        /* in seconds */
+    uint16_t next;            /* the slot behind this one in its bucket */
+} slot_t;
+
+static uint8_t image[2 * MOST_BLOCK + 1]; /* one byte more: a longer file is seen */
+static lanolin_geometry g;
+static lanolin_mdir dir;
+static slot_t slots[MOST_SLOTS];
+static uint16_t wheel[BUCKETS]; /* the first slot of each bucket */
+
+static void give_up(int status, const char *what, const char *why) {
+    fprintf(stderr, "%s: %s\n", what, why);
+    exit(status);
+}
+
+/* Fetch's three refusals: it gives no other. */
+static const char *why(int32_t refusal) {
+    if (refusal == -22) return "refused, -22: a block has 128 to 32,768 bytes, a multiple of 16";
+    if (refusal == -84) return "refused, -84: neither block has a valid commit";
+    return "refused, -2: more than 1,023 slots";
+}
+
+static void read_pair(const char *file) {
+    FILE *f = fopen(file, "rb");
+    if (!f) give_up(2, file, "can't be opened");
+    size_t size = fread(image, 1, sizeof image, f);
+    if (ferror(f)) give_up(2, file, "can't be read");
+    fclose(f);
+    if (size == 0 || size % 2 || size > 2 * MOST_BLOCK) give_up(2, file, "not two blocks of equal size, of 32,768 bytes at most");
+    g = (lanolin_geometry){.block_size = (uint32_t)size / 2, .prog_size = PROG_SIZE};
+
+    lanolin_fetched fetched = lanolin_fetch(g, image, g.block_size, image + g.block_size, g.block_size, 0, 1, 0, 0);
+    if (fetched.result != 0) give_up(1, file, why(fetched.result));
+    dir = fetched.dir;
+}
+
+/* The newest entry of a slot: its tag, and its first bytes. The global state is zero, no pending move: one pair alone can't tell. A controller
+ * with several pairs XORs the move states of all of them (lanolin_getgstate) and hands in the sum. */
+static bool look(uint32_t mask, uint32_t type, uint16_t id, uint8_t *buffer, size_t size, uint32_t *tag) {
+    lanolin_got got = lanolin_getslice(g, image, g.block_size, image + g.block_size, g.block_size, 0, 1, dir, (lanolin_gstate){0}, mask,
+                                       lanolin_mktag(type, id, 0), 0, buffer, size);
+    *tag = got.tag;
+    /* -2 is "no entry". With the record that fetch gave no other refusal comes; if one did, to go on would be to lose an instruction. */
+    if (got.result != 0 && got.result != -2) give_up(1, "lookup", "refused");
+    return got.result == 0;
+}
+
+/* Reads what the slot has. Directories and the superblock are no instructions; they stay without payload and attribute. */
+static void read_slot(uint16_t id) {
+    slot_t *slot = &slots[id];
+    uint8_t data[8] = {0};
+    uint32_t tag;
+    if (look(BY_CLASS, NAME, id, data, sizeof data, &tag)) {
+        uint32_t type = lanolin_tag_type3(tag);
+        if (type == DIRECTORY || type == SUPERBLOCK) return;
+    }
+    if (look(BY_CLASS, STRUCT, id, data, sizeof data, &tag)) {
+        uint32_t type = lanolin_tag_type3(tag), size = lanolin_tag_size(tag);
+        slot->payload = type == CTZ_STRUCT || (type == INLINE_STRUCT && size > 0);
+        slot->length = type == CTZ_STRUCT ? lanolin_le32_at(data, 8, 4).value : size; /* a CTZ struct: last block, then length */
+    }
+    if (look(BY_TYPE, DEADLINE, id, data, sizeof data, &tag)) {
+        slot->attribute = true;
+        slot->attribute_size = lanolin_tag_size(tag);
+        slot->deadline = lanolin_le32_at(data, 8, 0).value;
+    }
+}
+
+static bool has_deadline(const slot_t *slot) { return slot->attribute && slot->attribute_size == 4; }
+
+/* A slot's bucket is its deadline modulo their number, and each bucket has its earliest first: a tick looks at one head. Equal deadlines share a
+ * bucket and keep the order of their slots. */
+static void hang(uint16_t id) {
+    uint16_t *link = &wheel[slots[id].deadline % BUCKETS];
+    while (*link != NONE && slots[*link].deadline <= slots[id].deadline) link = &slots[*link].next;
+    slots[id].next = *link;
+    *link = id;
+}
+
+/* Takes the next one to come due off the wheel. It may be years off, so no tick is counted: it's the earliest of the heads. */
+static uint16_t next_due(void) {
+    uint16_t *first = &wheel[0];
+    for (int b = 1; b < BUCKETS; b++)
+        if (*first == NONE || (wheel[b] != NONE && slots[wheel[b]].deadline < slots[*first].deadline)) first = &wheel[b];
+    uint16_t id = *first;
+    if (id != NONE) *first = slots[id].next;
+    return id;
+}
+
+static void print_name(uint16_t id) {
+    static uint8_t name[MOST_NAME];
+    uint32_t tag;
+    bool found = look(BY_CLASS, NAME, id, name, sizeof name, &tag);
+    if (!found) printf("-");
+    for (uint32_t i = 0; found && i < lanolin_tag_size(tag); i++)
+        printf(name[i] >= 0x21 && name[i] <= 0x7e && name[i] != '\\' ? "%c" : "\\x%02x", name[i]);
+}
+
+static void print_slot(const char *mark, uint16_t id) {
+    const slot_t *slot = &slots[id];
+    printf("%s %u ", mark, id);
+    print_name(id);
+    if (slot->payload) printf(" payload %lu", (unsigned long)slot->length);
+    else printf(" payload -");
+    if (has_deadline(slot)) printf(" deadline %lu\n", (unsigned long)slot->deadline);
+    else if (slot->attribute) printf(" deadline of %lu bytes\n", (unsigned long)slot->attribute_size);
+    else printf(" deadline -\n");
+}
+
+int main(int argc, char **argv) {
+    if (argc != 2) return fprintf(stderr, "usage: restart FILE   (both blocks of a pair, as in samples/q212.pair)\n"), 2;
+    read_pair(argv[1]);
+    memset(wheel, 0xff, sizeof wheel); /* NONE everywhere */
+    for (uint16_t id = 0; id < dir.count; id++) {
+        read_slot(id);
+        if (slots[id].payload && has_deadline(&slots[id])) hang(id);
+    }
+    for (uint16_t id = next_due(); id != NONE; id = next_due()) print_slot("due", id);
+    for (uint16_t id = 0; id < dir.count; id++)
+        if (slots[id].payload && !has_deadline(&slots[id])) print_slot("NO DEADLINE", id);
+    for (uint16_t id = 0; id < dir.count; id++)
+        if (!slots[id].payload && slots[id].attribute) print_slot("NO PAYLOAD", id);
+    /* a hard tail: the rest of the directory is in another pair */
+    if (dir.split) printf("goes on in blocks %lu and %lu\n", (unsigned long)dir.tail[0], (unsigned long)dir.tail[1]);
+    return 0;
+}

@@ -1,0 +1,64 @@
+"""A writer of metadata blocks, from document 01 alone: commits appended, and blocks written anew. Nothing is taken from the port.
+
+The scripts beside it make their images with it.
+"""
+import zlib
+
+CREATE, FILE, INLINE, CTZ, ATTR, DELETE, SOFT, HARD, MOVE = 0x401, 0x001, 0x201, 0x202, 0x374, 0x4FF, 0x600, 0x601, 0x7FF
+
+
+def checksum(data):
+    """The register over the bytes from 0xffffffff, with no final inversion."""
+    return zlib.crc32(data) ^ 0xFFFFFFFF
+
+
+def tag(kind, id, size):
+    return kind << 20 | id << 10 | size
+
+
+def check_size(prog, at):
+    """The least size of 4 or more for which a check tag at `at` ends its commit on a multiple of the program size."""
+    size = 4
+    while (at + 4 + size) % prog:
+        size += 1
+    return size
+
+
+def commit_bytes(prog, at, start, previous, entries):
+    """The stored bytes of a commit whose first byte stands at `at`; `start` is checksummed before it (the revision)."""
+    data = b""
+    for this, body in entries:
+        data += (this ^ previous).to_bytes(4, "big") + body
+        previous = this
+    this = tag(0x500, 1023, check_size(prog, at + len(data)))
+    data += (this ^ previous).to_bytes(4, "big")
+    return data + checksum(start + data).to_bytes(4, "little"), this
+
+
+def block(size, prog, entries, revision=1):
+    """A block with one commit, and its end tag."""
+    start = revision.to_bytes(4, "little")
+    data, last = commit_bytes(prog, 4, start, 0xFFFFFFFF, entries)
+    return (start + data).ljust(size, b"\xff"), end_of(prog, 4 + len(data)), last
+
+
+def end_of(prog, stored):
+    return -(-stored // prog) * prog
+
+
+def entry_tags(entries, data):
+    return [(tag(k, i, n), b"" if n == 1023 else data[o:o + n]) for k, i, o, n in entries]
+
+
+def appended(image, prog, end, last, entries, data, limit):
+    """The image after a commit of `limit` stores (all: None), how many there are, and the end and end tag of the whole."""
+    stored, this = commit_bytes(prog, end, b"", last, entry_tags(entries, data))
+    made = len(stored) if limit is None else min(limit, len(stored))
+    return image[:end] + stored[:made] + image[end + made:], made, end_of(prog, end + len(stored)), this
+
+
+def compacted(size, prog, revision, entries, limit, old):
+    whole, end, this = block(size, prog, entries, revision)
+    stores = 1 + len((revision.to_bytes(4, "little") + commit_bytes(prog, 4, revision.to_bytes(4, "little"), 0xFFFFFFFF, entries)[0]))
+    made = stores if limit is None else min(limit, stores)
+    return (old if made == 0 else whole[:made - 1].ljust(size, b"\xff")), made, end, this
