@@ -82,13 +82,13 @@ NEW = log(
     [(CREATE, 5, b""), (FILE, 5, b"q215"), (INLINE, 5, b"move to 12 C"), (ATTR, 5, seconds(60)),
      (CREATE, 6, b""), (FILE, 6, b"q216"), (INLINE, 6, b"lower"), (ATTR, 6, seconds(5400))],
     [(ATTR, 5, None), (INLINE, 6, b"")],
-    # as late as q214; a deadline of the wrong size; an empty file
-    [(CREATE, 7, b""), (FILE, 7, b"q217 b"), (INLINE, 7, b"go"), (ATTR, 7, seconds(86400)),
+    # as late as q214, under a name that is no plain text; a deadline of the wrong size; an empty file
+    [(CREATE, 7, b""), (FILE, 7, b"q217 \\\xb5"), (INLINE, 7, b"go"), (ATTR, 7, seconds(86400)),
      (CREATE, 8, b""), (FILE, 8, b"q218"), (INLINE, 8, b"stop"), (ATTR, 8, b"\x3c\x00"),
      (CREATE, 9, b""), (FILE, 9, b"note"), (INLINE, 9, b"")])
 save("instructions.pair", OLD, NEW)
 HELD = [(2, b"q212", 3, 90000), (3, b"q213", 6, 3600), (4, b"q214", 4096, 86400), (5, b"q215", 12, "-"), (6, b"q216", "-", 5400),
-        (7, b"q217 b", 2, 86400), (8, b"q218", 4, "of 2 bytes"), (9, b"note", "-", "-")]
+        (7, b"q217 \\\xb5", 2, 86400), (8, b"q218", 4, "of 2 bytes"), (9, b"note", "-", "-")]
 
 with open(os.path.join(HERE, "..", "examples", "restart.expected"), "w") as f:
     f.write("\n".join(shown(Q212_HELD) + shown(HELD, tail=(4, 5))) + "\n")

@@ -39,11 +39,12 @@ static void give_up(int status, const char *what, const char *why) {
     exit(status);
 }
 
-/* Fetch's three refusals: it gives no other. */
+/* Fetch's three refusals. It's proved that it gives no other. */
 static const char *why(int32_t refusal) {
     if (refusal == -22) return "refused, -22: a block has 128 to 32,768 bytes, a multiple of 16";
     if (refusal == -84) return "refused, -84: neither block has a valid commit";
-    return "refused, -2: more than 1,023 slots";
+    if (refusal == -2) return "refused, -2: more than 1,023 slots";
+    return "no answer of fetch's: the archive and lanolin.h don't belong together";
 }
 
 static void read_pair(const char *file) {

@@ -1,0 +1,145 @@
+//! The archive's calls, and all of this crate's `unsafe`.
+//!
+//! `include/lanolin.h` names the caller's duties: a pointer is valid for its
+//! count, lent buffers do not overlap, a bool is 0 or 1. Slices, exclusive
+//! borrows and `bool` are these three, so each function here is safe, whatever
+//! it is given; an empty slice's pointer is valid for count 0.
+//!
+//! The comparison with the unchanged Rust has declarations of its own
+//! (`oracle/src/port`), on purpose: it reads a `bool` as a byte and passes null
+//! pointers, so as to see what these declarations take for granted.
+//!
+//! Assumes that the archive keeps to the shapes of the header: the linker sees
+//! names only. The tests' runs are what checks it.
+
+use crate::{Entry, Geometry, Gstate, Record};
+
+/// `lanolin_fetched`.
+#[repr(C)]
+pub struct Fetched {
+    pub result: i32,
+    pub record: Record,
+    pub seed: u32,
+}
+
+/// `lanolin_got`.
+#[repr(C)]
+pub struct Got {
+    pub result: i32,
+    pub tag: u32,
+}
+
+/// `lanolin_committed`.
+#[repr(C)]
+pub struct Committed {
+    pub result: i32,
+    pub index: u32,
+    pub record: Record,
+    pub seed: u32,
+}
+
+#[rustfmt::skip]
+extern "C" {
+    fn lanolin_fetch(
+        geometry: Geometry, b0: *const u8, b0_len: usize, b1: *const u8, b1_len: usize,
+        n0: u32, n1: u32, block_count: u32, seed: u32,
+    ) -> Fetched;
+    fn lanolin_getslice(
+        geometry: Geometry, b0: *const u8, b0_len: usize, b1: *const u8, b1_len: usize,
+        n0: u32, n1: u32, dir: Record, gdisk: Gstate,
+        gmask: u32, gtag: u32, goff: u32, buffer: *mut u8, gsize: usize,
+    ) -> Got;
+    fn lanolin_getgstate(
+        geometry: Geometry, b0: *const u8, b0_len: usize, b1: *const u8, b1_len: usize,
+        n0: u32, n1: u32, dir: Record, gdisk: Gstate, gstate: *mut Gstate,
+    ) -> i32;
+    fn lanolin_commit(
+        geometry: Geometry, b0: *mut u8, b0_len: usize, b1: *mut u8, b1_len: usize,
+        n0: u32, n1: u32, block_count: u32, seed: u32,
+        entries: *const Entry, entries_len: usize, data: *const u8, data_len: usize,
+    ) -> Committed;
+    fn lanolin_compact(
+        geometry: Geometry, b0: *mut u8, b0_len: usize, b1: *mut u8, b1_len: usize,
+        n0: u32, n1: u32, block_count: u32, seed: u32,
+    ) -> Committed;
+    fn lanolin_mktag(type_: u32, id: u32, size: u32) -> u32;
+    fn lanolin_tag_type3(tag: u32) -> u32;
+    fn lanolin_tag_id(tag: u32) -> u32;
+    fn lanolin_tag_size(tag: u32) -> u32;
+}
+
+pub fn fetch(pair: &crate::Pair, block_count: u32, seed: u32) -> Fetched {
+    let (g, [b0, b1], [n0, n1]) = (pair.geometry, pair.images, pair.numbers);
+    let (p0, l0, p1, l1) = (b0.as_ptr(), b0.len(), b1.as_ptr(), b1.len());
+    // SAFETY: the images are valid for their lengths; any number is answered.
+    unsafe { lanolin_fetch(g, p0, l0, p1, l1, n0, n1, block_count, seed) }
+}
+
+pub fn get_slice(
+    pair: &crate::Pair,
+    record: Record,
+    gdisk: Gstate,
+    mask: u32,
+    key: u32,
+    offset: u32,
+    buffer: &mut [u8],
+) -> Got {
+    let (g, [b0, b1], [n0, n1]) = (pair.geometry, pair.images, pair.numbers);
+    let (p0, l0, p1, l1) = (b0.as_ptr(), b0.len(), b1.as_ptr(), b1.len());
+    let (p, l) = (buffer.as_mut_ptr(), buffer.len());
+    // SAFETY: images and buffer are valid for their lengths, and the buffer is
+    // lent exclusively.
+    unsafe {
+        lanolin_getslice(
+            g, p0, l0, p1, l1, n0, n1, record, gdisk, mask, key, offset, p, l,
+        )
+    }
+}
+
+pub fn get_gstate(pair: &crate::Pair, record: Record, gdisk: Gstate, state: &mut Gstate) -> i32 {
+    let (g, [b0, b1], [n0, n1]) = (pair.geometry, pair.images, pair.numbers);
+    let (p0, l0, p1, l1) = (b0.as_ptr(), b0.len(), b1.as_ptr(), b1.len());
+    // SAFETY: the images are valid for their lengths; the state is lent
+    // exclusively.
+    unsafe { lanolin_getgstate(g, p0, l0, p1, l1, n0, n1, record, gdisk, state) }
+}
+
+pub fn commit(
+    pair: &mut crate::PairMut,
+    block_count: u32,
+    seed: u32,
+    entries: &[Entry],
+    data: &[u8],
+) -> Committed {
+    let (g, [b0, b1], [n0, n1]) = (pair.geometry, &mut pair.images, pair.numbers);
+    let (p0, l0, p1, l1) = (b0.as_mut_ptr(), b0.len(), b1.as_mut_ptr(), b1.len());
+    let (e, el, d, dl) = (entries.as_ptr(), entries.len(), data.as_ptr(), data.len());
+    // SAFETY: every slice is valid for its length; the images are lent
+    // exclusively, so that none of the four overlaps another.
+    unsafe { lanolin_commit(g, p0, l0, p1, l1, n0, n1, block_count, seed, e, el, d, dl) }
+}
+
+pub fn compact(pair: &mut crate::PairMut, block_count: u32, seed: u32) -> Committed {
+    let (g, [b0, b1], [n0, n1]) = (pair.geometry, &mut pair.images, pair.numbers);
+    let (p0, l0, p1, l1) = (b0.as_mut_ptr(), b0.len(), b1.as_mut_ptr(), b1.len());
+    // SAFETY: as for `commit`.
+    unsafe { lanolin_compact(g, p0, l0, p1, l1, n0, n1, block_count, seed) }
+}
+
+pub fn mktag(type_: u32, id: u32, size: u32) -> u32 {
+    // SAFETY: numbers alone, and any number is answered; here and in the next
+    // three.
+    unsafe { lanolin_mktag(type_, id, size) }
+}
+
+pub fn tag_type3(tag: u32) -> u32 {
+    unsafe { lanolin_tag_type3(tag) }
+}
+
+pub fn tag_id(tag: u32) -> u32 {
+    unsafe { lanolin_tag_id(tag) }
+}
+
+pub fn tag_size(tag: u32) -> u32 {
+    unsafe { lanolin_tag_size(tag) }
+}

@@ -1,0 +1,334 @@
+//! The wrapper on document 01's listing pair, and on pairs a step from it. What
+//! is expected comes from document 01 and from the writer `samples/writer.py`,
+//! which the port has no part in.
+//!
+//! Each field of each answer is compared: a declaration that is not the header's
+//! shows here.
+
+use lanolin::{Entry, Fetched, Geometry, Gstate, Pair, PairMut, Record, Refusal, Tag};
+
+const LISTING: &[u8; 256] = include_bytes!("../../../samples/q212.pair");
+/// A name alone, of id 1,023 or 1,022, so that the count is one more, and no
+/// create before it (`samples/make_edges.py`).
+const CROWDED: &[u8; 256] = include_bytes!("../../../crates/edges/data/count-1024");
+const IRREGULAR: &[u8; 256] = include_bytes!("../../../crates/edges/data/count-1023");
+const GEOMETRY: Geometry = Geometry {
+    block_size: 128,
+    prog_size: 16,
+};
+const NO_TAIL: [u32; 2] = [0xffffffff; 2];
+const NO_MOVE: Gstate = Gstate {
+    tag: 0,
+    pair: [0; 2],
+};
+
+/// Document 01: rev 1, block 0, end 48, count 1, tail none, erased no.
+const LISTED: Record = Record {
+    pair: [0, 1],
+    rev: 1,
+    off: 48,
+    etag: 0x500ffc0d,
+    count: 1,
+    erased: false,
+    split: false,
+    tail: NO_TAIL,
+};
+
+/// A new deadline, 100 seconds, and the bytes of its commit behind the listing.
+const DEADLINE: Entry = entry(0x374, 0, 0, 4);
+const SECONDS: [u8; 4] = [100, 0, 0, 0];
+const LAID: [u8; 16] = 0x674ffc09_64000000_674ffc00_c58e1c0a_u128.to_be_bytes();
+
+const fn entry(type_: u16, id: u16, off: u32, len: u32) -> Entry {
+    Entry {
+        type_,
+        id,
+        off,
+        len,
+    }
+}
+
+fn pair(bytes: &[u8; 256]) -> Pair<'_> {
+    let (b0, b1) = bytes.split_at(128);
+    Pair {
+        geometry: GEOMETRY,
+        images: [b0, b1],
+        numbers: [0, 1],
+    }
+}
+
+fn pair_mut(bytes: &mut [u8; 256]) -> PairMut<'_> {
+    let (b0, b1) = bytes.split_at_mut(128);
+    PairMut {
+        geometry: GEOMETRY,
+        images: [b0, b1],
+        numbers: [0, 1],
+    }
+}
+
+/// Tag and data of the entry of slot 0 that a type finds; the data's buffer
+/// begins as 0xa5 everywhere.
+fn look(
+    bytes: &[u8; 256],
+    record: Record,
+    mask: u32,
+    type_: u32,
+) -> (Result<Tag, Refusal>, [u8; 6]) {
+    let mut buffer = [0xa5; 6];
+    let key = Tag::new(type_, 0, 0);
+    let answer = pair(bytes).get_slice(record, NO_MOVE, mask, key, 0, &mut buffer);
+    (answer, buffer)
+}
+
+#[test]
+fn fetch_reads_the_listing() {
+    // The seed: the register from 0 over the checksum's bytes 47 38 e4 4d.
+    let found = Fetched {
+        record: LISTED,
+        seed: 0x1ec4df69,
+    };
+    assert_eq!(pair(LISTING).fetch(0, 0), Ok(found));
+    assert_eq!(pair(LISTING).fetch(2, 0), Ok(found));
+}
+
+/// The record of a pair with blocks of 512 bytes.
+fn fetched(bytes: &[u8; 1024], numbers: [u32; 2]) -> Record {
+    let (b0, b1) = bytes.split_at(512);
+    let geometry = Geometry {
+        block_size: 512,
+        ..GEOMETRY
+    };
+    let images = [b0, b1];
+    let answer = Pair {
+        geometry,
+        images,
+        numbers,
+    }
+    .fetch(0, 0);
+    answer.unwrap().record
+}
+
+#[test]
+fn fetch_reads_the_split_mark_and_the_tail() {
+    let record = fetched(include_bytes!("../../../samples/instructions.pair"), [8, 9]);
+    assert_eq!((record.pair, record.rev, record.count), ([9, 8], 7, 10));
+    assert_eq!(
+        (record.erased, record.split, record.tail),
+        (false, true, [4, 5])
+    );
+}
+
+#[test]
+fn fetch_reads_the_erased_mark() {
+    // A pair that a real littlefs wrote; its line in samples/real/shown.txt.
+    let record = fetched(
+        include_bytes!("../../../samples/real/attrs-512-0-1.pair"),
+        [0, 1],
+    );
+    let shown = Record {
+        pair: [1, 0],
+        rev: 4,
+        off: 256,
+        etag: 1343224836,
+        count: 5,
+        erased: true,
+        split: false,
+        tail: [2, 3],
+    };
+    assert_eq!(record, shown);
+}
+
+#[test]
+fn lookups_find_name_payload_and_deadline() {
+    let looked = |mask, type_| look(LISTING, LISTED, mask, type_);
+    assert_eq!(
+        looked(0x700ffc00, 0x000),
+        (Ok(Tag::new(0x001, 0, 4)), *b"q212\0\0")
+    );
+    assert_eq!(
+        looked(0x700ffc00, 0x200),
+        (Ok(Tag::new(0x201, 0, 3)), *b"abc\0\0\0")
+    );
+    assert_eq!(
+        looked(0x7ffffc00, 0x374),
+        (Ok(Tag::new(0x374, 0, 4)), *b"\x90\x5f\x01\0\0\0")
+    );
+    let tag = Tag(0x37400004 | 7 << 10);
+    assert_eq!((tag.type3(), tag.id(), tag.size()), (0x374, 7, 4));
+}
+
+#[test]
+fn refused_lookups_leave_the_buffer() {
+    let untouched = [0xa5; 6];
+    let looked = |record, type_| look(LISTING, record, 0x7ffffc00, type_);
+    assert_eq!(looked(LISTED, 0x375), (Err(Refusal::NoEntry), untouched));
+    // A record of another pair.
+    let other = Record {
+        pair: [0, 2],
+        ..LISTED
+    };
+    assert_eq!(looked(other, 0x374), (Err(Refusal::Invalid), untouched));
+    // Start plus length past the block.
+    let mut buffer = untouched;
+    let key = Tag::new(0x374, 0, 0);
+    let answer = pair(LISTING).get_slice(LISTED, NO_MOVE, 0x7ffffc00, key, 128, &mut buffer);
+    assert_eq!((answer, buffer), (Err(Refusal::Corrupt), untouched));
+}
+
+#[test]
+fn a_pending_move_hides_its_entry() {
+    let gdisk = Gstate {
+        tag: Tag::new(0x4ff, 0, 0).0,
+        pair: [0, 1],
+    };
+    let answer = pair(LISTING).get_slice(LISTED, gdisk, 0x700ffc00, Tag::new(0, 0, 0), 0, &mut []);
+    assert_eq!(answer, Err(Refusal::NoEntry));
+}
+
+#[test]
+fn commit_lays_a_new_deadline() {
+    let mut bytes = *LISTING;
+    let answer = pair_mut(&mut bytes).commit(0, 0, &[DEADLINE], &SECONDS);
+    let record = Record {
+        off: 64,
+        etag: 0x500ffc04,
+        ..LISTED
+    };
+    let seed = 0x39f87950;
+    assert_eq!(answer, Ok(Fetched { record, seed }));
+    let mut laid = *LISTING;
+    laid[48..64].copy_from_slice(&LAID);
+    assert_eq!(bytes, laid);
+    assert_eq!(
+        look(&bytes, record, 0x7ffffc00, 0x374).1,
+        *b"\x64\0\0\0\0\0"
+    );
+    // The images of the same value, read through the value itself.
+    assert_eq!(pair_mut(&mut bytes).as_pair().fetch(0, 0), answer);
+}
+
+#[test]
+fn a_committed_move_state_is_xored() {
+    let mut bytes = *LISTING;
+    let words = *b"\x01\0\0\0\x02\0\0\0\x03\0\0\0";
+    let answer = pair_mut(&mut bytes).commit(0, 0, &[entry(0x7ff, 1023, 0, 12)], &words);
+    let mut state = Gstate {
+        tag: 1 << 8,
+        pair: [0, 3],
+    };
+    let record = answer.unwrap().record;
+    assert_eq!(pair(&bytes).get_gstate(record, NO_MOVE, &mut state), Ok(()));
+    let sum = Gstate {
+        tag: 1 << 8 | 1,
+        pair: [2, 0],
+    };
+    assert_eq!(state, sum);
+    // None in the listing: the state stays.
+    assert_eq!(
+        pair(LISTING).get_gstate(LISTED, NO_MOVE, &mut state),
+        Ok(())
+    );
+    assert_eq!(state, sum);
+}
+
+#[test]
+fn compaction_writes_the_other_block() {
+    let mut bytes = *LISTING;
+    bytes[128..].fill(0x55);
+    let answer = pair_mut(&mut bytes).compact(0, 0).unwrap();
+    let record = Record {
+        pair: [1, 0],
+        rev: 2,
+        ..LISTED
+    };
+    assert_eq!(answer.record, record);
+    // The same entries under revision 2, with its checksum; erased behind it.
+    let mut renewed = [0xff; 128];
+    renewed[..39].copy_from_slice(&LISTING[..39]);
+    renewed[0] = 2;
+    renewed[35..39].copy_from_slice(&[0x5e, 0x06, 0x37, 0xc6]);
+    assert_eq!(bytes[..128], LISTING[..128]);
+    assert_eq!(bytes[128..], renewed);
+    assert_eq!(pair(&bytes).fetch(0, 0), Ok(answer));
+}
+
+/// A commit that is refused, and leaves both images as they were.
+fn refused(bytes: &[u8; 256], entries: &[Entry], data: &[u8]) -> Refusal {
+    let mut altered = *bytes;
+    let answer = pair_mut(&mut altered).commit(0, 7, entries, data);
+    assert_eq!(&altered, bytes);
+    answer.unwrap_err()
+}
+
+#[test]
+fn refused_commits_leave_the_images() {
+    let mut unclean = *LISTING;
+    unclean[127] = 0;
+    let one = [DEADLINE];
+    let bad = [entry(0x401, 1, 0, 0), entry(0x001, 1, 1, 4)]; // passes the data
+    let large = [entry(0x201, 0, 0, 69)]; // 68 would end at the block's end
+    let chance = [0x3e, 0xaa, 0xbb, 0x6d]; // as in samples/writes/cases
+    let cases = [
+        (refused(LISTING, &one, &[0; 65537]), Refusal::Invalid, -22),
+        (refused(&[0xff; 256], &one, &SECONDS), Refusal::Corrupt, -84),
+        (refused(IRREGULAR, &one, &SECONDS), Refusal::Irregular, -202),
+        (refused(LISTING, &bad, &SECONDS), Refusal::BadEntry(1), -201),
+        (refused(LISTING, &large, &[0; 69]), Refusal::NoSpace, -28),
+        (refused(&unclean, &one, &SECONDS), Refusal::Unclean, -203),
+        (refused(LISTING, &one, &chance), Refusal::Coincidence, -204),
+    ];
+    for (answer, refusal, number) in cases {
+        assert_eq!((answer, answer.number()), (refusal, number));
+    }
+}
+
+#[test]
+fn too_many_slots_come_with_the_record() {
+    let Err(refusal @ Refusal::TooMany(read)) = pair(CROWDED).fetch(0, 7) else {
+        panic!("a count of 1,024 is refused");
+    };
+    assert_eq!(refusal.number(), -2);
+    let Record {
+        rev, off, count, ..
+    } = read.record;
+    assert_eq!((rev, off, count), (1, 32, 1024));
+    // The seed as read is that of fetch, and not the one given.
+    assert_ne!(read.seed, 7);
+    assert_eq!(refused(CROWDED, &[DEADLINE], &SECONDS), refusal);
+}
+
+#[test]
+fn a_refused_compaction_leaves_the_images() {
+    let mut bytes = *IRREGULAR;
+    let answer = pair_mut(&mut bytes).compact(0, 0);
+    assert_eq!((answer, &bytes), (Err(Refusal::Irregular), IRREGULAR));
+}
+
+#[test]
+fn broken_sizes_and_numbers_are_invalid() {
+    let good = pair(LISTING);
+    let [b0, b1] = good.images;
+    let geometry = Geometry {
+        prog_size: 3,
+        ..GEOMETRY
+    };
+    let broken = [
+        Pair { geometry, ..good },
+        Pair {
+            numbers: [1, 1],
+            ..good
+        },
+        Pair {
+            images: [b0, &b1[1..]],
+            ..good
+        },
+        Pair {
+            images: [&[], &[]],
+            ..good
+        },
+    ];
+    for pair in broken {
+        assert_eq!(pair.fetch(0, 0), Err(Refusal::Invalid));
+    }
+    assert_eq!(good.fetch(1, 0), Err(Refusal::Corrupt)); // number 1 is too high
+}
