@@ -1,7 +1,7 @@
 -- What each function of the emission adds: an entry, a class, a slot, the directory, the tail. Assumes nothing.
 use mathlib.Core.Path.{_≡_, refl, sym, ap, ap₂, _∙_}
 use mathlib.Core.Bool.{Bool, true, false, cond}
-use mathlib.Core.Option.{Option, none, some}
+use mathlib.Core.Option.{Option}
 use mathlib.Core.List.{List, [], _∷_, _++_}
 use Prim.Native.Nat.{ℕ, zero, suc, _+_, _-_, _^_, _≤_, _<_}
 use native.Mathlib.Numerals.{add-one}
@@ -9,7 +9,6 @@ use native.Mathlib.Omega.{arith}
 use lib.Bits.{bitXor}
 use lib.ListN.{length, drop, getD, length-take, length-drop, drop-of-length-le}
 use lib.Seq.{drop-cons, drop-drop}
-use lib.Dec.{eqb}
 use borrow.Author.Tests.{ne-eqb, eqb-false}
 use Rattle.format.specs.Word.{toBe32, toLe32, xor}
 use Rattle.format.specs.Tag.{tagType3, tagSize, removalSize, tagDelete, tagLength, mkTag, tagOf}
@@ -26,6 +25,7 @@ use Rattle.lay.specs.Laid.{Laid, putsOf, bodyOf}
 use Rattle.lay.proofs.Puts.{puts-app}
 use Rattle.gather.specs.Seat.{seatTag, seatPlace, loadIn, Inside}
 use Rattle.gather.proofs.Turn.{load-free}
+use Rattle.gather.proofs.Loads.{load-removed, load-made}
 use Rattle.emit.specs.Emitted.{Standing, emitted, emits, createItem}
 use Rattle.emit.proofs.Joined.{emits-app}
 
@@ -74,21 +74,9 @@ module _ (b : List ℕ) (id v : ℕ) (s : Standing) where
   unfolding emits
   class-free h = rw (h, load-free b 0 refl)
 
-  load-removed : tagDelete t ≡ true → loadIn b v ≡ none
-  unfolding loadIn
-  load-removed h = rw h (go (eqb v 0))
-    where
-      go : (z : Bool) → cond {A = Option Load} z none none ≡ none
-      go true = refl
-      go false = refl
-
   pub class-removed : (x : Bool) → x ≡ tagDelete t → x ≡ true → s ≡ emits s (classItems id (loadIn b v))
   unfolding emits
-  class-removed x ex h = rw (load-removed (sym ex ∙ h))
-
-  load-made : (v ≡ 0 → ⊥) → tagDelete t ≡ false → loadIn b v ≡ some (record { type = tagType3 t; bytes = bytes })
-  unfolding loadIn
-  load-made n h = rw (ne-eqb v 0 n, h)
+  class-removed x ex h = rw (load-removed b v (sym ex ∙ h))
 
   bytes-length : (tagSize t ≡ removalSize → ⊥) → Inside b v → length bytes ≡ tagSize t
   bytes-length n inside =
@@ -105,7 +93,7 @@ module _ (b : List ℕ) (id v : ℕ) (s : Standing) where
       let body : bodyOf b (seatPlace v + 4) z ≡ bytes = body-behind b t (seatPlace v) z size ez in
       let tag : k ≡ tagOf (tagType3 t) id (length bytes) =
       made-tag k y id z ek (omega arith) low (omega arith) ∙ ap₂ (λ (p q : ℕ). tagOf p id q) ey (ez ∙ sym (bytes-length size inside)) in
-      er ∙ ap₂ (λ (p : ℕ) (q : List ℕ). emitted s (record { tag = p; body = q })) tag body ∙ rw (load-made n gone)
+      er ∙ ap₂ (λ (p : ℕ) (q : List ℕ). emitted s (record { tag = p; body = q })) tag body ∙ rw (load-made b v n gone)
 
 -- ---- a slot
 no-body : (dat : List ℕ) → bodyOf dat 0 0 ≡ []

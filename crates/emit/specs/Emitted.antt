@@ -1,22 +1,22 @@
 -- Entries written one after the other: the stores, the end, the previous tag and the checksum run along. Assumes nothing.
 use mathlib.Core.Path.{_≡_}
 use mathlib.Core.Logic.{_≢_}
-use mathlib.Core.Bool.{true, false}
+use mathlib.Core.Bool.{false}
 use mathlib.Core.List.{List, [], _∷_, _++_}
 use Prim.Native.Nat.{ℕ, _+_, _^_, _≤_, _<_}
-use lib.ListN.{length, getD}
+use lib.ListN.{getD}
 use Rattle.format.specs.Word.{toBe32, xor}
 use Rattle.format.specs.Tag.{tagLength, tagOf}
 use Rattle.format.specs.Kind.{typeCreate}
 use Rattle.format.specs.Crc.{crc}
-use Rattle.format.specs.Log.{log, logEnd, logEndTag}
+use Rattle.format.specs.Log.{log}
 use Rattle.format.specs.Record.{noTail, tailOf, splitOf}
-use Rattle.format.specs.Regular.{Regular}
-use Rattle.format.specs.Directory.{classes, dirOf}
+use Rattle.format.specs.Directory.{classes}
 use Rattle.format.specs.Commit.{Item}
 use Rattle.format.specs.declared.LfsMdir.{LfsMdir}
 use Rattle.lay.specs.Laid.{Laid, laid, putsOf}
 use Rattle.gather.specs.Seat.{Inside}
+use Rattle.gather.specs.Slots.{Slots}
 use Rattle.emit.specs.declared.Emit.{Emit}
 
 -- where the writing stands, with the block that is written
@@ -58,13 +58,8 @@ pub record SlotSeated (b : List ℕ) (e : Emit) (id : ℕ) (seats : List ℕ) : 
 
 -- a block with a regular log, its end, end tag and number of slots
 pub record Source (b : List ℕ) (e : Emit) (end etag count : ℕ) : Type 0 where
-  pub word : 4 ≤ length b
-  pub most : length b ≤ 2 ^ 16
+  pub slots : Slots b end etag count
   pub some : log b ≢ []
-  pub regular : Regular (log b) ≡ true
-  pub ends : end ≡ logEnd (log b)
-  pub endTag : etag ≡ logEndTag (log b)
-  pub count′ : count ≡ length (dirOf (log b))
   pub small : e .end ≤ 16
 
 -- the same of the block's record

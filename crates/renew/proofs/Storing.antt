@@ -87,13 +87,8 @@ unfolding begins
 reads-all b dir rev run r regular =
     record {
       source = record {
-        word = r .word;
-        most = r .most;
+        slots = record { word = r .word; most = r .most; regular = regular; ends = r .ends; endTag = r .endTag; count′ = r .count′ ∙ slots-counted b regular };
         some = r .some;
-        regular = regular;
-        ends = r .ends;
-        endTag = r .endTag;
-        count′ = r .count′ ∙ slots-counted b regular;
         small = omega arith;
       };
       split′ = r .split′;

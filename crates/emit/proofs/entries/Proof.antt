@@ -1,6 +1,7 @@
 -- `emit::entries` meets its contract: the slots, the tail, the move state. Assumes nothing.
 use native.Mathlib.Omega.{arith}
-use Rattle.emit.proofs.Sourced.{slot-gathers, slots-within, entries-within, entries-done}
+use Rattle.gather.proofs.Slots.{slot-gathers}
+use Rattle.emit.proofs.Sourced.{slots-within, entries-within, entries-done}
 use borrow.Author.Needs.{needs}
 use Rattle.emit.proofs.entries.Statement.{statement}
 use Rattle.emit.proofs.entries.Tie as tie
@@ -9,7 +10,7 @@ tail-requires : tie.Need-tail-requires
 tail-requires c κs = omega (arith, slots-within _ _ _ (c .before .before .before .before .before .before .before .before .before .before .pre) _ _ (c .before .before .before .slots .ensures), c .before .before .before .before .before .before .before .before .before .before .pre .source .small)
 
 newest-move-requires : tie.Need-newest-move-requires
-newest-move-requires c κs = slot-gathers _ _ _ _ _ (c .before .before .before .before .before .before .before .before .before .before .before .before .before .before .pre .source) 0 (omega arith)
+newest-move-requires c κs = slot-gathers _ _ _ _ (c .before .before .before .before .before .before .before .before .before .before .before .before .before .before .pre .source .slots) 0 (omega arith)
 
 class-entry-requires : tie.Need-class-entry-requires
 class-entry-requires c κs = record { inside = c .newest-move .ensures .1; slot = omega arith; small = omega (arith, entries-within _ _ _ (c .before .before .before .before .before .before .before .before .before .before .before .before .before .before .before .pre) _ _ (c .before .before .before .before .before .before .before .before .slots .ensures) _ (c .before .before .before .before .tail .ensures), c .before .before .before .before .before .before .before .before .before .before .before .before .before .before .before .pre .source .small) }

@@ -11,7 +11,7 @@ use Rattle.gather.specs.Slots.{slotIn}
 use Rattle.emit.specs.Emitted.{standing, emits}
 use Rattle.emit.proofs.Joined.{slot-within}
 use Rattle.emit.proofs.Written.{dir-slot, dir-done}
-use Rattle.emit.proofs.Sourced.{slots-few, slot-gathers, slot-holds, dir-more, dir-end}
+use Rattle.gather.proofs.Slots.{slots-few, slot-gathers, slot-holds, slots-more, slots-end}
 use Rattle.emit.proofs.slots.Statement.{statement}
 use Rattle.emit.proofs.slots.Tie as tie
 
@@ -27,16 +27,16 @@ loop-holds : tie.Need-loop-holds Inv-loop μ-loop
 loop-holds c = (omega arith, omega (arith, c .before .before .pre .small), refl, refl)
 
 gather-requires : tie.Need-gather-requires Inv-loop μ-loop
-gather-requires c κs = slot-gathers _ _ _ _ _ (c .before .before .before .before .pre) _ (omega arith)
+gather-requires c κs = slot-gathers _ _ _ _ (c .before .before .before .before .pre .slots) _ (omega arith)
 
 slot-requires : tie.Need-slot-requires Inv-loop μ-loop
-slot-requires c κs = record { inside = c .before .before .gather .ensures .inside; slot = omega (arith, slots-few _ _ _ _ _ (c .before .before .before .before .before .before .before .pre)); small = omega (arith, slots-few _ _ _ _ _ (c .before .before .before .before .before .before .before .pre)) }
+slot-requires c κs = record { inside = c .before .before .gather .ensures .inside; slot = omega (arith, slots-few _ _ _ _ (c .before .before .before .before .before .before .before .pre .slots)); small = omega (arith, slots-few _ _ _ _ (c .before .before .before .before .before .before .before .pre .slots)) }
 
 loop-again : tie.Need-loop-again Inv-loop μ-loop
-loop-again c = (omega arith, omega (arith, slot-within _ _ (c .before .before .before .before .before .before .before .loop .id) (slotIn (c .before .before .before .before .before .before .before .before .before .before .args .old .now) (c .before .before .before .before .before .gather .result)) (c .before .before .slot .ensures)), search needs, dir-slot _ _ _ _ _ _ (dir-more (c .before .before .before .before .before .before .before .before .before .before .pre) (c .before .before .before .before .before .before .loop-test .taken)) (slot-holds _ _ _ _ _ (c .before .before .before .before .before .before .before .before .before .before .pre) _ _ (c .before .before .before .before .before .before .loop-test .taken) (c .before .before .before .before .before .gather .ensures)) (c .before .before .before .before .before .before .before .loop .inv .3) (c .before .before .slot .ensures))
+loop-again c = (omega arith, omega (arith, slot-within _ _ (c .before .before .before .before .before .before .before .loop .id) (slotIn (c .before .before .before .before .before .before .before .before .before .before .args .old .now) (c .before .before .before .before .before .gather .result)) (c .before .before .slot .ensures)), search needs, dir-slot _ _ _ _ _ _ (slots-more _ _ _ _ (c .before .before .before .before .before .before .before .before .before .before .pre .slots) _ (c .before .before .before .before .before .before .loop-test .taken)) (slot-holds _ _ _ _ (c .before .before .before .before .before .before .before .before .before .before .pre .slots) _ _ (c .before .before .before .before .before .before .loop-test .taken) (c .before .before .before .before .before .gather .ensures)) (c .before .before .before .before .before .before .before .loop .inv .3) (c .before .before .slot .ensures))
 
 returns : tie.Need-returns Inv-loop μ-loop
-returns c = dir-done _ _ _ (c .before .loop .id) (dir-end (c .before .before .before .before .pre) (c .loop-test .left)) (c .before .loop .inv .3)
+returns c = dir-done _ _ _ (c .before .loop .id) (slots-end _ _ _ _ (c .before .before .before .before .pre .slots) _ (c .loop-test .left)) (c .before .loop .inv .3)
 
 pub slots-spec : {M : Type 1} → statement M
 slots-spec =
