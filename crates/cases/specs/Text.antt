@@ -1,7 +1,6 @@
--- Document 01's listing, whole: its two images give its text. Assumes nothing.
+-- Document 01's listing, whole: its two images give its text. And refusals, and a name with escapes. Assumes nothing.
 use mathlib.Core.Path.{_≡_, refl}
-use mathlib.Core.List.{List, _++_}
-use Prim.Native.Nat.{ℕ}
+use mathlib.Core.List.{[], _∷_, _++_}
 use Rattle.format.specs.Word.{be32, le32, toLe32, xor}
 use Rattle.format.specs.Tag.{tagLength, tagFlipped}
 use Rattle.format.specs.Crc.{crc, crcByte, crcBits, crcBit}
@@ -12,9 +11,27 @@ use Rattle.format.specs.View.{rank, view}
 use Rattle.format.specs.Fetch.{geometryFits, pairFits, tooHigh, erasedOf, mdirOf, fetchOf}
 use Rattle.format.specs.Regular.{ruleOf, ruleHolds, countAfter, regularFrom, Regular}
 use Rattle.format.specs.Directory.{empty, upd, apply, dir, act, acts, dirOf}
-use Rattle.format.specs.Listing.{ascii, hexDigit, decimalIn, hexBytes, isPlain, nameByte, nameBytes, numberLine, tailLine, erasedLine, recordLines, nameFields, structFields, slotLine, attrLine, attrLines, slotLines, refusedLine, dirLines, imagesText, listingOf}
+use Rattle.format.specs.Listing.{ascii, hexDigit, decimalIn, decimal, hexBytes, isPlain, nameByte, nameBytes, numberLine, tailLine, erasedLine, recordLines, nameFields, structFields, slotLine, attrLine, attrLines, slotLines, refusedLine, dirLines, imagesText, listingOf}
 use Rattle.cases.specs.Listing.{blank, listing}
 
 pub text : listingOf (listing ++ blank 128) ≡ ascii "rev 1\nblock 0\nend 48\ncount 1\ntail none\nerased no\nslot 0 001 q212 201 3\nattr 0 374 905f0100\n"
 unfolding listingOf imagesText dirLines refusedLine slotLines attrLines attrLine slotLine structFields nameFields recordLines erasedLine tailLine numberLine nameBytes nameByte isPlain hexBytes decimalIn hexDigit dirOf acts act dir apply upd empty Regular regularFrom ruleOf ruleHolds countAfter fetchOf mdirOf erasedOf tooHigh pairFits geometryFits view rank seedOf forwardOf splitOf tailOf countOf counted stoppedStraight tagAfter span eventLength log committed walk walkFrom walkIn classOf readBehind bodyLength tagFlipped tagLength be32 le32 toLe32 xor crc crcByte crcBits crcBit
 text = refl
+
+-- erased flash: no valid commit; an odd length, an empty input, halves that are no block
+pub refusals : (listingOf (blank 256) ≡ ascii "refused -84\n")
+    × (listingOf (listing ++ blank 127) ≡ ascii "refused -22\n")
+    × (listingOf [] ≡ ascii "refused -22\n")
+    × (listingOf (blank 224) ≡ ascii "refused -22\n")
+unfolding listingOf imagesText dirLines refusedLine slotLines attrLines attrLine slotLine structFields nameFields recordLines erasedLine tailLine numberLine nameBytes nameByte isPlain hexBytes decimalIn hexDigit dirOf acts act dir apply upd empty Regular regularFrom ruleOf ruleHolds countAfter fetchOf mdirOf erasedOf tooHigh pairFits geometryFits view rank seedOf forwardOf splitOf tailOf countOf counted stoppedStraight tagAfter span eventLength log committed walk walkFrom walkIn classOf readBehind bodyLength tagFlipped tagLength be32 le32 toLe32 xor crc crcByte crcBits crcBit
+refusals = (refl, refl, refl, refl)
+
+-- a space, `!`, a backslash, `~`, 0x7f, 0xff and 0
+pub escapes : nameBytes (0x20 ∷ 0x21 ∷ 0x5c ∷ 0x7e ∷ 0x7f ∷ 0xff ∷ 0x00 ∷ []) ≡ ascii "\\x20!\\x5c~\\x7f\\xff\\x00"
+unfolding nameBytes nameByte isPlain hexDigit
+escapes = refl
+
+-- the greatest word, and zero
+pub decimals : (decimal 4_294_967_295 ≡ ascii "4294967295") × (decimal 0 ≡ ascii "0") × (decimal 1_010 ≡ ascii "1010")
+unfolding decimalIn
+decimals = (refl, refl, refl)

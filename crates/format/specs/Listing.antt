@@ -38,7 +38,7 @@ decimalDigit n = 48 + n % 10
 unfoldable pub hexDigit : ℕ → ℕ
 hexDigit n = cond (ltb (n % 16) 10) (48 + n % 16) (87 + n % 16)
 
--- a number of at most k decimal digits, with no zero in front
+-- a number of at most k digits in decimal, with no zero in front
 unfoldable pub decimalIn : ℕ → ℕ → List ℕ
 decimalIn zero n = []
 decimalIn (suc k) n = cond (ltb n 10) (decimalDigit n ∷ []) (decimalIn k (n / 10) ++ (decimalDigit n ∷ []))
@@ -58,7 +58,7 @@ hexBytes (b ∷ bs) = hexByte b ++ hexBytes bs
 abbrev pub hexType : ℕ → List ℕ
 hexType t = hexDigit (t / 2 ^ 8) ∷ hexDigit (t / 2 ^ 4) ∷ hexDigit t ∷ []
 
--- "Name bytes outside 0x21 to 0x7e, and the backslash, print as \xHH."
+-- "Name bytes outside 0x21 to 0x7e, and the backslash, print as \xHH": the others as they are.
 unfoldable pub isPlain : ℕ → Bool
 isPlain b = leb 0x21 b && leb b 0x7e && not (eqb b 0x5c)
 
@@ -93,7 +93,7 @@ recordLines m =
     ++ (tailLine (m .split) (m .tail) ++ erasedLine (m .erased)))))
 
 -- ---- the directory
--- "Slot: id, name type, name, struct type, struct length; a missing part prints `-` per field."
+-- "Slot: id, name type, name, struct type, struct length; a missing part prints `-` per field." Each field stands behind a space.
 unfoldable pub nameFields : Option Load → List ℕ
 nameFields none = ascii " - -"
 nameFields (some v) = ascii " " ++ (hexType (v .type) ++ (ascii " " ++ nameBytes (v .bytes)))

@@ -3,7 +3,7 @@ use mathlib.Core.Path.{_≡_, refl, sym, ap, _∙_}
 use mathlib.Core.Bool.{Bool, true, false, not, cond}
 use mathlib.Core.Option.{Option, none, some}
 use mathlib.Core.List.{List, [], _∷_, _++_}
-use Prim.Native.Nat.{ℕ, _+_, _-_, _≤_}
+use Prim.Native.Nat.{ℕ, _+_, _-_}
 use native.Mathlib.Omega.{arith}
 use lib.ListN.{length, take, drop, length-drop}
 use lib.Seq.{drop-drop, length-take-le}
@@ -12,7 +12,6 @@ use Rattle.format.specs.Tag.{tagType3, tagSize, removalSize, tagDelete, tagLeng
 use Rattle.format.specs.Directory.{Load}
 use Rattle.format.specs.Listing.{ascii, decimal, hexType, hexBytes, nameBytes, numberLine, nameFields, structFields, attrData, attrLine}
 use Rattle.format.proofs.Tags.{length-size}
-use Rattle.theory.specs.Lookup.{bytesAt}
 use Rattle.text.specs.Put.{Text, putsOf}
 use Rattle.text.proofs.Joined.{puts-none, join}
 use Rattle.gather.specs.Seat.{seatTag, seatPlace, loadIn, Inside}

@@ -1,11 +1,11 @@
 // The listing of a metadata pair: document 01's text of the record, the slots and their user attributes, or of the refusal. It is written to a lent
 // buffer as far as there is room; the answer is the length of the whole text. Any bytes may be listed.
 ghost use mathlib.Core.Path.{_≡_};
-ghost use Prim.Native.Nat.{_+_, _^_, _<_};
+ghost use Prim.Native.Nat.{_^_};
 ghost use lib.ListN.{length};
 ghost use Rattle.format.specs.Log.{log};
 ghost use Rattle.format.specs.Directory.{dirOf};
-ghost use Rattle.format.specs.Listing.{tailKind, tailLine, erasedLine, recordLines, nameFields, structFields, attrData, attrLine, attrLines, slotLine, slotLines, refusedLine, dirLines, imagesText, listingOf, writtenTo};
+ghost use Rattle.format.specs.Listing.{tailKind, tailLine, erasedLine, recordLines, nameFields, structFields, attrData, attrLine, attrLines, slotLines, refusedLine, dirLines, imagesText, listingOf, writtenTo};
 ghost use Rattle.text.specs.Put.{text, putsOf};
 ghost use Rattle.gather.specs.Seat.{loadIn, Inside};
 ghost use Rattle.gather.specs.Slots.{Slots, slotIn};
