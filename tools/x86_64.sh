@@ -2,7 +2,7 @@
 # compiler and no more. On another machine it takes Debian's cross compiler and emulator, and for cargo a standard library for x86-64.
 #
 #   x86_cc, x86_cargo   the compiler and cargo, for x86-64
-#   x86_run             runs an x86-64 program
+#   x86_run, emulator   runs an x86-64 program, and what it runs under
 #   host_cargo          cargo for this machine, for what asks the port nothing: under the emulator it takes some twenty times as long
 #   some, unjudged      what the oracle and the benchmark are told: how much of the random inputs to take, and that times mean nothing
 
@@ -11,7 +11,7 @@ if [ "$(uname -m)" = x86_64 ]; then
   x86_cargo() { cargo "$@"; }
   x86_run() { "$@"; }
   host_cargo() { cargo "$@"; }
-  some=() unjudged=()
+  emulator='' some=() unjudged=()
   return
 fi
 
