@@ -137,22 +137,27 @@ refusedLine r = ascii "refused " ++ (integer (refusalNumber r) ++ ascii "\n")
 unfoldable pub dirLines : List ℕ → List ℕ
 dirLines b = cond (Regular (log b)) (slotLines 0 (dirOf (log b))) (refusedLine Irregular)
 
-abbrev pub fetchedText : List ℕ → List ℕ → Fetched → List ℕ
-fetchedText b0 b1 (Refused r) = refusedLine r
-fetchedText b0 b1 (Found m s) = recordLines m ++ dirLines (blockAt (isSecond 0 m) b0 b1)
+-- the record, and the directory behind it
+unfoldable pub blockText : LfsMdir → List ℕ → List ℕ
+blockText m b = recordLines m ++ dirLines b
 
--- "block size is half the length, program size 16, numbers 0 and 1, block count 0, seed 0"
-abbrev pub listingGeometry : ℕ → Geometry
-listingGeometry size = record { «block_size» = size; «prog_size» = 16 }
+-- what fetch answers for an input: "block size is half the length, program size 16, numbers 0 and 1, block count 0, seed 0; an odd length or one
+-- above 65,536 is -22"
+abbrev pub inputGeometry : ℕ → Geometry
+inputGeometry size = record { «block_size» = size; «prog_size» = 16 }
 
-unfoldable pub imagesText : ℕ → List ℕ → List ℕ → List ℕ
-imagesText size b0 b1 = fetchedText b0 b1 (fetchOf (listingGeometry size) b0 b1 0 1 0 0)
+unfoldable pub fetchInput : List ℕ → Fetched
+fetchInput input =
+    cond (eqb (length input % 2) 1 || ltb 65_536 (length input)) (Refused Invalid)
+    (fetchOf (inputGeometry (length input / 2)) (take (length input / 2) input) (drop (length input / 2) input) 0 1 0 0)
 
--- "an odd length or one above 65,536 is -22"
-unfoldable pub listingOf : List ℕ → List ℕ
-listingOf pair =
-    cond (eqb (length pair % 2) 1 || ltb 65_536 (length pair)) (refusedLine Invalid)
-    (imagesText (length pair / 2) (take (length pair / 2) pair) (drop (length pair / 2) pair))
+-- the text of what fetch answered: a refusal's line, or what `shows` says of the record and of the block that answers
+abbrev pub fetchedText : (LfsMdir → List ℕ → List ℕ) → List ℕ → Fetched → List ℕ
+fetchedText shows input (Refused r) = refusedLine r
+fetchedText shows input (Found m s) = shows m (blockAt (isSecond 0 m) (take (length input / 2) input) (drop (length input / 2) input))
+
+abbrev pub listingOf : List ℕ → List ℕ
+listingOf input = fetchedText blockText input (fetchInput input)
 
 -- what is left in a buffer that the text was written to: the text as far as there is room, and behind it what was there
 abbrev pub writtenTo : List ℕ → List ℕ → List ℕ

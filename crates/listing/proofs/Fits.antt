@@ -15,7 +15,7 @@ use Rattle.format.specs.Regular.{Regular}
 use Rattle.format.specs.Directory.{Load, Slot, dirOf}
 use Rattle.format.specs.Writer.{blockAt, isSecond}
 use Rattle.format.specs.Compaction.{isNoTail}
-use Rattle.format.specs.Listing.{ascii, decimalDigit, decimalIn, decimal, hexByte, hexBytes, hexType, isPlain, nameByte, nameBytes, numberLine, tailKind, tailLine, erasedLine, recordLines, nameFields, structFields, slotLine, attrData, attrLine, attrLines, slotLines, integer, refusedLine, dirLines, fetchedText, listingGeometry, imagesText, listingOf}
+use Rattle.format.specs.Listing.{ascii, decimalDigit, decimalIn, decimal, hexByte, hexBytes, hexType, isPlain, nameByte, nameBytes, numberLine, tailKind, tailLine, erasedLine, recordLines, nameFields, structFields, slotLine, attrData, attrLine, attrLines, slotLines, integer, refusedLine, dirLines, blockText, fetchInput, fetchedText, listingOf}
 use Rattle.format.specs.declared.LfsPair.{LfsPair}
 use Rattle.format.specs.declared.LfsMdir.{LfsMdir}
 use Rattle.format.specs.declared.Refusal.{Refusal}
@@ -27,7 +27,7 @@ use Rattle.theory.specs.Accepted.{regular-loads}
 use Rattle.theory.specs.Compaction.{slots-few}
 
 -- ---- numbers and bytes
-decimal-short : (k n : ℕ) → length (decimalIn k n) ≤ k
+pub decimal-short : (k n : ℕ) → length (decimalIn k n) ≤ k
 unfolding decimalIn
 decimal-short zero n = omega arith
 decimal-short (suc k) n = go (ltb n 10) (decimal-short k (n / 10))
@@ -49,12 +49,12 @@ name-byte-short b = go (isPlain b)
     go true = omega arith
     go false = omega arith
 
-name-length : (l : List ℕ) → length (nameBytes l) ≤ 4 * length l
+pub name-length : (l : List ℕ) → length (nameBytes l) ≤ 4 * length l
 unfolding nameBytes
 name-length [] = omega arith
 name-length (b ∷ l) = omega (arith, length-append (nameByte b) (nameBytes l), name-byte-short b, name-length l)
 
-number-short : (label : List ℕ) (n : ℕ) → length (numberLine label n) ≤ length label + 11
+pub number-short : (label : List ℕ) (n : ℕ) → length (numberLine label n) ≤ length label + 11
 unfolding numberLine
 number-short label n =
     omega (arith, length-append label (decimal n ++ ascii "\n"), length-append (decimal n) (ascii "\n"), decimal-short 10 n)
@@ -91,12 +91,12 @@ integer-short : (z : ℤ) → length (integer z) ≤ 11
 integer-short (pos n) = omega (arith, decimal-short 10 n)
 integer-short (negsuc n) = omega (arith, decimal-short 10 (suc n))
 
-refused-short : (r : Refusal) → length (refusedLine r) ≤ 20
+pub refused-short : (r : Refusal) → length (refusedLine r) ≤ 20
 unfolding refusedLine
 refused-short r = omega (arith, length-append (integer (refusalNumber r)) (ascii "\n"), integer-short (refusalNumber r))
 
 -- ---- a slot whose loads are short
-abbrev Short : Option Load → Type 0
+abbrev pub Short : Option Load → Type 0
 Short none = Unit {0}
 Short (some v) = length (v .bytes) ≤ 1_022
 
@@ -122,7 +122,7 @@ attr-short id (some v) h =
     let T : List ℕ = ascii " " ++ (hexType (v .type) ++ (ascii " " ++ D)) in
     omega (arith, length-append (decimal id) T, length-append (attrData (v .bytes)) (ascii "\n"), decimal-short 10 id, data-short (v .bytes) h)
 
-slot-loads : (s : Slot) → OkSlot s → (c : ℕ) → Short (s c)
+pub slot-loads : (s : Slot) → OkSlot s → (c : ℕ) → Short (s c)
 slot-loads s ok c = go (s c) refl
   where
     go : (o : Option Load) → s c ≡ o → Short o
@@ -158,19 +158,14 @@ dir-short b = go (Regular (log b)) refl
     go true e = omega (arith, slots-short (dirOf (log b)) 0 (ok-dirOf (log b) (regular-loads b (log b) refl e)), slots-few b e)
     go false e = omega (arith, refused-short Irregular)
 
-fetched-short : (b0 b1 : List ℕ) (f : Fetched) → length (fetchedText b0 b1 f) ≤ 546_327_132
-fetched-short b0 b1 (fetched.Refused r) = omega (arith, refused-short r)
-fetched-short b0 b1 (fetched.Found m s) =
-    let x : List ℕ = blockAt (isSecond 0 m) b0 b1 in
-    omega (arith, length-append (recordLines m) (dirLines x), record-short m, dir-short x)
+block-short : (m : LfsMdir) (b : List ℕ) → length (blockText m b) ≤ 546_327_132
+unfolding blockText
+block-short m b = omega (arith, length-append (recordLines m) (dirLines b), record-short m, dir-short b)
 
-pub listing-short : (pair : List ℕ) → length (listingOf pair) < 2 ^ 32
-unfolding listingOf imagesText
-listing-short pair = go (eqb (length pair % 2) 1 || ltb 65_536 (length pair))
-  where
-    half : ℕ
-    half = length pair / 2
+-- a text is short if what is said of each block is
+pub fetched-short : (shows : LfsMdir → List ℕ → List ℕ) → ((m : LfsMdir) (b : List ℕ) → length (shows m b) < 2 ^ 32) → (input : List ℕ) (f : Fetched) → length (fetchedText shows input f) < 2 ^ 32
+fetched-short shows h input (fetched.Refused r) = omega (arith, refused-short r)
+fetched-short shows h input (fetched.Found m s) = h m (blockAt (isSecond 0 m) (take (length input / 2) input) (drop (length input / 2) input))
 
-    go : (x : Bool) → length (cond x (refusedLine Invalid) (fetchedText (take half pair) (drop half pair) (fetchOf (listingGeometry half) (take half pair) (drop half pair) 0 1 0 0))) < 2 ^ 32
-    go true = omega (arith, refused-short Invalid)
-    go false = omega (arith, fetched-short (take half pair) (drop half pair) (fetchOf (listingGeometry half) (take half pair) (drop half pair) 0 1 0 0))
+pub listing-short : (input : List ℕ) → length (listingOf input) < 2 ^ 32
+listing-short input = fetched-short blockText (λ m b. omega (arith, block-short m b)) input (fetchInput input)

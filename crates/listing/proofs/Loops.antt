@@ -42,6 +42,27 @@ slot-done s t1 t2 t3 t4 r id slot e1 e2 e3 e4 er =
     (join s t1 t4 (ascii "slot ") (decimal id ++ F) e1 (join t1 t2 t4 (decimal id) F e2 (join t2 t3 t4 (nameFields (slot 0)) (structFields (slot 1)) e3 e4)))
     er
 
+-- ---- a loop over slots: f shows one of them, F all from an id on
+pub record Shown (F : ℕ → List Slot → List ℕ) (f : ℕ → Slot → List ℕ) : Type 0 where
+  pub next : (id : ℕ) (s : Slot) (D : List Slot) → F id (s ∷ D) ≡ f id s ++ F (suc id) D
+  pub none : (id : ℕ) → F id [] ≡ []
+  pub same : (id : ℕ) (s t : Slot) → ((k : ℕ) → k < classes → s k ≡ t k) → f id s ≡ f id t
+
+module _ (F : ℕ → List Slot → List ℕ) (f : ℕ → Slot → List ℕ) (law : Shown F f) where
+  -- one slot more: a is where all slots end, r stands behind the slot id, whose seats hold what the directory has there
+  pub slots-next : (a s r : Text) (D : List Slot) (id : ℕ) (slot : Slot) → id < length D → ((k : ℕ) → k < classes → slot k ≡ getD D id empty k)
+      → a ≡ putsOf s (F id (drop id D)) → r ≡ putsOf s (f id slot) → a ≡ putsOf r (F (id + 1) (drop (id + 1) D))
+  slots-next a s r D id slot h same ea er =
+      let R : List ℕ = F (id + 1) (drop (id + 1) D) in
+      let held : Slot = getD D id empty in
+      let e : F id (drop id D) ≡ f id slot ++ R =
+      ap (F id) (drop-cons D id empty h) ∙ law .next id held (drop (suc id) D)
+      ∙ rw (add-one id) (ap (λ (l : List ℕ). l ++ F (suc id) (drop (suc id) D)) (sym (law .same id slot held same))) in
+      ea ∙ ap (putsOf s) e ∙ sym (puts-app (f id slot) R s) ∙ ap (λ (z : Text). putsOf z R) (sym er)
+
+  pub slots-done : (a s : Text) (D : List Slot) (id : ℕ) → length D ≤ id → a ≡ putsOf s (F id (drop id D)) → s ≡ a
+  slots-done a s D id h ea = puts-none s ∙ sym (ea ∙ ap (putsOf s) (ap (F id) (drop-of-length-le D {i = id} h) ∙ law .none id))
+
 -- ---- slots that hold the same are shown the same
 attrs-same : (n c id : ℕ) (s t : Slot) → ((k : ℕ) → k < c + n → s k ≡ t k) → attrLines n c id s ≡ attrLines n c id t
 unfolding attrLines
@@ -55,19 +76,13 @@ text-same id s t h =
     ap₂ _++_ (ap₂ (λ (x y : Option Load). ascii "slot " ++ (decimal id ++ (nameFields x ++ structFields y))) (h 0 (omega arith)) (h 1 (omega arith)))
     (attrs-same (2 ^ 8) 2 id s t (λ k l. h k (omega arith)))
 
--- ---- one slot more: a is where all slots end, r stands behind the slot id, whose seats hold what the directory has there
-pub slots-next : (a s r : Text) (D : List Slot) (id : ℕ) (slot : Slot) → id < length D → ((k : ℕ) → k < classes → slot k ≡ getD D id empty k)
-    → a ≡ putsOf s (slotLines id (drop id D)) → r ≡ putsOf s (slotText id slot) → a ≡ putsOf r (slotLines (id + 1) (drop (id + 1) D))
+lines-next : (id : ℕ) (s : Slot) (D : List Slot) → slotLines id (s ∷ D) ≡ slotText id s ++ slotLines (suc id) D
 unfolding slotLines
-slots-next a s r D id slot h same ea er =
-    let R : List ℕ = slotLines (id + 1) (drop (id + 1) D) in
-    let held : Slot = getD D id empty in
-    let e : slotLines id (drop id D) ≡ slotText id slot ++ R =
-    ap (slotLines id) (drop-cons D id empty h)
-    ∙ rw (add-one id) (sym (append-assoc (slotLine id held) (attrLines (2 ^ 8) 2 id held) (slotLines (suc id) (drop (suc id) D)))
-    ∙ ap (λ (l : List ℕ). l ++ slotLines (suc id) (drop (suc id) D)) (sym (text-same id slot held same))) in
-    ea ∙ ap (putsOf s) e ∙ sym (puts-app (slotText id slot) R s) ∙ ap (λ (z : Text). putsOf z R) (sym er)
+lines-next id s D = sym (append-assoc (slotLine id s) (attrLines (2 ^ 8) 2 id s) (slotLines (suc id) D))
 
-pub slots-done : (a s : Text) (D : List Slot) (id : ℕ) → length D ≤ id → a ≡ putsOf s (slotLines id (drop id D)) → s ≡ a
+lines-none : (id : ℕ) → slotLines id [] ≡ []
 unfolding slotLines
-slots-done a s D id h ea = puts-none s ∙ sym (ea ∙ rw (drop-of-length-le D {i = id} h))
+lines-none id = refl
+
+pub slots-shown : Shown slotLines slotText
+slots-shown = record { next = lines-next; none = lines-none; same = text-same }

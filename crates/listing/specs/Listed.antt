@@ -9,7 +9,7 @@ use lib.ListN.{length, getD, take, drop}
 use Rattle.format.specs.Log.{log, logEnd, logEndTag}
 use Rattle.format.specs.Record.{countOf}
 use Rattle.format.specs.Directory.{classes, Load, Slot}
-use Rattle.format.specs.Listing.{recordLines, slotLine, attrLines, dirLines}
+use Rattle.format.specs.Listing.{slotLine, attrLines}
 use Rattle.format.specs.Answer.{refusalNumber}
 use Rattle.format.specs.declared.LfsMdir.{LfsMdir}
 use Rattle.format.specs.declared.Refusal.{Refusal}
@@ -33,10 +33,6 @@ AllInside b seats = (c : ℕ) → c < classes → Inside b (getD seats c 0)
 -- a slot's line and those of its user attributes
 abbrev pub slotText : ℕ → Slot → List ℕ
 slotText id s = slotLine id s ++ attrLines (2 ^ 8) 2 id s
-
--- the whole text of a block and its record
-abbrev pub blockText : List ℕ → LfsMdir → List ℕ
-blockText b m = recordLines m ++ dirLines b
 
 -- the record of the block, as far as the listing walks by it
 pub record Listable (b : List ℕ) (m : LfsMdir) : Type 0 where

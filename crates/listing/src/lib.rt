@@ -5,11 +5,11 @@ ghost use Prim.Native.Nat.{_^_};
 ghost use lib.ListN.{length};
 ghost use Rattle.format.specs.Log.{log};
 ghost use Rattle.format.specs.Directory.{dirOf};
-ghost use Rattle.format.specs.Listing.{tailKind, tailLine, erasedLine, recordLines, nameFields, structFields, attrData, attrLine, attrLines, slotLines, refusedLine, dirLines, imagesText, listingOf, writtenTo};
+ghost use Rattle.format.specs.Listing.{tailKind, tailLine, erasedLine, recordLines, nameFields, structFields, attrData, attrLine, attrLines, slotLine, slotLines, refusedLine, blockText, fetchInput, listingOf, writtenTo};
 ghost use Rattle.text.specs.Put.{text, putsOf};
 ghost use Rattle.gather.specs.Seat.{loadIn, Inside};
 ghost use Rattle.gather.specs.Slots.{Slots, slotIn};
-ghost use Rattle.listing.specs.Listed.{Stands, AllInside, slotText, blockText, Listable, Numbers};
+ghost use Rattle.listing.specs.Listed.{Stands, AllInside, slotText, Listable, Numbers};
 use format::Fetched;
 use format::Geometry;
 use format::LfsMdir;
@@ -29,7 +29,7 @@ pub struct Held {
 }
 
 // Nothing at a free seat, and nothing for a removal.
-fn part(seat: u64) -> Held
+pub fn part(seat: u64) -> Held
     ensures { λ r. ⌜ Stands seat r ⌝ }
 {
     let nothing = Held {
@@ -222,7 +222,7 @@ fn number_of(r: Refusal) -> u32
 }
 
 // "A refusal prints `refused` and its number": all of them are below 0.
-fn refused(out: &mut [u8], at: u32, r: Refusal) -> u32
+pub fn refused(out: &mut [u8], at: u32, r: Refusal) -> u32
     ensures { λ n. ⌜ text n (now (out .exit)) ≡ putsOf (text at (now (out .entry))) (refusedLine r) ⌝ }
 {
     let number = number_of(r);
@@ -232,7 +232,7 @@ fn refused(out: &mut [u8], at: u32, r: Refusal) -> u32
 // "for -202 after the erased line"
 fn block_text(out: &mut [u8], b: &[u8], m: LfsMdir) -> u32
     requires { ⌜ Listable (now b) m ⌝ }
-    ensures { λ r. ⌜ text r (now (out .exit)) ≡ putsOf (text 0 (now (out .entry))) (blockText (now (b .entry)) m) ⌝ }
+    ensures { λ r. ⌜ text r (now (out .exit)) ≡ putsOf (text 0 (now (out .entry))) (blockText m (now (b .entry))) ⌝ }
 {
     let n = record_lines(out, 0, m);
     if !regular::lfs_dir_regular(b) {
@@ -241,39 +241,40 @@ fn block_text(out: &mut [u8], b: &[u8], m: LfsMdir) -> u32
     slot_lines(out, n, b, m.off as usize, m.etag, m.count as u32)
 }
 
-// Both images: "program size 16, numbers 0 and 1, block count 0, seed 0".
-fn images_text(out: &mut [u8], b0: &[u8], b1: &[u8], size: u32) -> u32
-    ensures { λ r. ⌜ text r (now (out .exit)) ≡ putsOf (text 0 (now (out .entry))) (imagesText size (now (b0 .entry)) (now (b1 .entry))) ⌝ }
+// What fetch answers for both images, one behind the other: "block size is half the length, program size 16, numbers 0 and 1, block count 0, seed 0;
+// an odd length or one above 65,536 is -22".
+pub fn fetch_input(input: &[u8]) -> Fetched
+    ensures { λ r. ⌜ r ≡ fetchInput (now (input .entry)) ⌝ }
 {
+    let n = input.len();
+    if n % 2 == 1 {
+        return Fetched::Refused(Refusal::Invalid);
+    }
+    if 65_536 < n {
+        return Fetched::Refused(Refusal::Invalid);
+    }
+    let half = n / 2;
     let g = Geometry {
-        block_size: size,
+        block_size: half as u32,
         prog_size: 16,
     };
-    match fetch::lfs_dir_fetch(g, b0, b1, 0, 1, 0, 0) {
+    fetch::lfs_dir_fetch(g, &input[0..half], &input[half..], 0, 1, 0, 0)
+}
+
+pub fn lfs_dir_list(input: &[u8], out: &mut [u8]) -> u32
+    ensures { λ r. ⌜ r ≡ length (listingOf (now (input .entry))) ⌝ }
+    ensures { λ _. ⌜ now (out .exit) ≡ writtenTo (now (out .entry)) (listingOf (now (input .entry))) ⌝ }
+{
+    let half = input.len() / 2;
+    match fetch_input(input) {
         Fetched::Refused(r) => refused(out, 0, r),
         Fetched::Found(m, _) => {
             let pair = m.pair;
             if pair.n0 == 0 {
-                block_text(out, b0, m)
+                block_text(out, &input[0..half], m)
             } else {
-                block_text(out, b1, m)
+                block_text(out, &input[half..], m)
             }
         }
     }
-}
-
-// "block size is half the length ..; an odd length or one above 65,536 is -22"
-pub fn lfs_dir_list(pair: &[u8], out: &mut [u8]) -> u32
-    ensures { λ r. ⌜ r ≡ length (listingOf (now (pair .entry))) ⌝ }
-    ensures { λ _. ⌜ now (out .exit) ≡ writtenTo (now (out .entry)) (listingOf (now (pair .entry))) ⌝ }
-{
-    let n = pair.len();
-    if n % 2 == 1 {
-        return refused(out, 0, Refusal::Invalid);
-    }
-    if 65_536 < n {
-        return refused(out, 0, Refusal::Invalid);
-    }
-    let half = n / 2;
-    images_text(out, &pair[0..half], &pair[half..], half as u32)
 }

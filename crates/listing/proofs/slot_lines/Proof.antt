@@ -9,7 +9,7 @@ use Rattle.format.specs.Directory.{dirOf}
 use Rattle.format.specs.Listing.{slotLines}
 use Rattle.text.specs.Put.{text, putsOf}
 use Rattle.gather.proofs.Slots.{slot-gathers, slot-holds, slots-more, slots-end}
-use Rattle.listing.proofs.Loops.{slots-next, slots-done}
+use Rattle.listing.proofs.Loops.{slots-next, slots-done, slots-shown}
 use Rattle.listing.proofs.slot_lines.Statement.{statement}
 use Rattle.listing.proofs.slot_lines.Tie as tie
 
@@ -31,13 +31,13 @@ slot-text-requires : tie.Need-slot-text-requires Inv-loop μ-loop
 slot-text-requires c κs = c .before .before .gather .ensures .inside
 
 loop-again : tie.Need-loop-again Inv-loop μ-loop
-loop-again c = (omega arith, search needs, slots-next _ _ _ _ _ _ (slots-more _ _ _ _ (c .before .before .before .before .before .before .before .before .before .before .pre) _ (c .before .before .before .before .before .before .loop-test .taken)) (slot-holds _ _ _ _ (c .before .before .before .before .before .before .before .before .before .before .pre) _ _ (c .before .before .before .before .before .before .loop-test .taken) (c .before .before .before .before .before .gather .ensures)) (c .before .before .before .before .before .before .before .loop .inv .2) (c .before .before .slot-text .ensures))
+loop-again c = (omega arith, search needs, slots-next _ _ slots-shown _ _ _ _ _ _ (slots-more _ _ _ _ (c .before .before .before .before .before .before .before .before .before .before .pre) _ (c .before .before .before .before .before .before .loop-test .taken)) (slot-holds _ _ _ _ (c .before .before .before .before .before .before .before .before .before .before .pre) _ _ (c .before .before .before .before .before .before .loop-test .taken) (c .before .before .before .before .before .gather .ensures)) (c .before .before .before .before .before .before .before .loop .inv .2) (c .before .before .slot-text .ensures))
 
 same-length : tie.Need-same-length Inv-loop μ-loop
 same-length c = c .before .loop .inv .1
 
 returns : tie.Need-returns Inv-loop μ-loop
-returns c = slots-done _ _ _ (c .before .loop .id) (slots-end _ _ _ _ (c .before .before .before .before .pre) _ (c .loop-test .left)) (c .before .loop .inv .2)
+returns c = slots-done _ _ slots-shown _ _ _ (c .before .loop .id) (slots-end _ _ _ _ (c .before .before .before .before .pre) _ (c .loop-test .left)) (c .before .loop .inv .2)
 
 pub slot-lines-spec : {M : Type 1} → statement M
 slot-lines-spec =
