@@ -36,3 +36,4 @@ pub mod Machine
 pub mod Stopped
 -- The listing's text.
 pub mod Listing
+pub mod Audit
