@@ -1,20 +1,6 @@
 // Document 01's listing program: both images of a pair on standard input, one behind the other, the text on standard output. 65,537 bytes are read, so
 // that a longer input is told from one of 65,536.
-use libc::STDERR_FILENO;
 use libc::STDIN_FILENO;
-use libc::STDOUT_FILENO;
-
-// A text of n bytes, or nothing of it where the buffer had no room for all.
-fn print(text: &[u8], n: usize) {
-    if text.len() < n {
-        io::write_all(
-            STDERR_FILENO,
-            b"the text is longer than the program's buffer\n",
-        );
-        return;
-    }
-    io::write_all(STDOUT_FILENO, &text[..n]);
-}
 
 // The buffer has room for every text. An entry of 4 + n bytes shows at most 4 * (4 + n): a byte of a name shows four, an empty user attribute of
 // four bytes a line of 16. Only a create, of four bytes, shows 18, and there are at most 1,023 slots. So a block of 32,768 bytes shows less than
@@ -22,7 +8,7 @@ fn print(text: &[u8], n: usize) {
 fn show(pair: &[u8]) {
     let mut text = [0u8; 134_000];
     let n = listing::lfs_dir_list(pair, &mut text);
-    print(&text, n as usize);
+    print::whole(&text, n as usize);
 }
 
 fn main() {
