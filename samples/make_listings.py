@@ -1,5 +1,5 @@
 #!/usr/bin/env python3
-"""Writes samples/listings/cases and samples/listings/expected: inputs of the listing program, and the text that each must give.
+"""Writes samples/listings/cases, inputs of the programs list and auditor, and the text that each must give: expected and audited.
 
 What is expected is worked out here from document 01 alone, by a walk, a directory and a rendering of its own; nothing is taken from the port.
 A case is one line, `NAME BYTES`, the bytes as runs of hex (aa*9 is aa nine times), joined by commas, - for none. What is expected of it is a line
@@ -112,21 +112,28 @@ def shown(name):
     return "".join(chr(b) if 0x21 <= b <= 0x7E and b != 0x5C else f"\\x{b:02x}" for b in name)
 
 
-def listing(data):
+def fetched(data):
+    """The number of the block that answers and its log, or no number and the refusal's text."""
     half = len(data) // 2
     if len(data) % 2 or len(data) > 65536 or not 128 <= half <= 32768 or half % PROG:
-        return "refused -22\n"
+        return None, "refused -22\n"
     logs = [Log(data[:half]), Log(data[half:])]
     difference = (logs[1].revision - logs[0].revision) % 2 ** 32
     order = (1, 0) if 0 < difference < 1 << 31 else (0, 1)
     found = [n for n in order if logs[n].ends is not None]
     if not found:
-        return "refused -84\n"
-    log = logs[found[0]]
-    if log.count > 1023:
-        return "refused -2\n"
+        return None, "refused -84\n"
+    if logs[found[0]].count > 1023:
+        return None, "refused -2\n"
+    return found[0], logs[found[0]]
+
+
+def listing(data):
+    number, log = fetched(data)
+    if number is None:
+        return log
     tail = "none" if not log.split and log.tail == (0xFFFFFFFF,) * 2 else f"{'hard' if log.split else 'soft'} {log.tail[0]} {log.tail[1]}"
-    lines = [f"rev {log.revision}", f"block {found[0]}", f"end {log.ends}", f"count {log.count}", f"tail {tail}", f"erased {'yes' if log.erased() else 'no'}"]
+    lines = [f"rev {log.revision}", f"block {number}", f"end {log.ends}", f"count {log.count}", f"tail {tail}", f"erased {'yes' if log.erased() else 'no'}"]
     slots = log.slots()
     if slots is None:
         lines.append("refused -202")
@@ -136,6 +143,27 @@ def listing(data):
         for type in sorted(k for k in slot if isinstance(k, int)):
             lines.append(f"attr {id} {type:03x} {slot[type].hex() or '-'}")
     return "\n".join(lines) + "\n"
+
+
+# ---- the audit's text
+def audit(data):
+    """The slots that have a payload and no deadline, or a deadline and no payload; directories and superblocks are not looked at."""
+    number, log = fetched(data)
+    if number is None:
+        return log
+    slots = log.slots()
+    if slots is None:
+        return "refused -202\n"
+    lines, late, bare = [], 0, 0
+    for id, slot in enumerate(slots):
+        type, name = slot.get("name", (FILE, b""))
+        struct, content = slot.get("struct", (None, b""))
+        payload, deadline = struct == CTZ or (struct == INLINE and content != b""), 0x374 in slot
+        if type in (DIR, SUPER) or payload == deadline:
+            continue
+        lines.append(f"slot {id} {shown(name) or '-'} no {'deadline' if payload else 'payload'}")
+        late, bare = late + payload, bare + deadline
+    return "\n".join(lines + [f"payload without deadline {late}", f"deadline without payload {bare}", f"slots {len(slots)}"]) + "\n"
 
 
 # ---- inputs
@@ -176,19 +204,19 @@ def runs(data):
     return ",".join(parts) or "-"
 
 
-CASES, EXPECTED = [], []
+CASES, EXPECTED, AUDITED = [], [], []
 
 
-def case(name, data, want=None):
-    """`want` is the text written out by hand, where there is one: the rendering must agree with it."""
-    text = listing(data)
-    assert want is None or text == want, (name, text)
+def case(name, data, want=None, lacks=None):
+    """`want` and `lacks` are the texts of listing and audit written out by hand, where there are any: the renderings must agree with them."""
     CASES.append(f"{name} {runs(data)}")
-    EXPECTED.append(f"== {name}\n" + (text if len(text) <= 2000 else f"{len(text)} bytes, CRC-32 {zlib.crc32(text.encode()):08x}\n"))
+    for text, given, texts in ((listing(data), want, EXPECTED), (audit(data), lacks, AUDITED)):
+        assert given is None or text == given, (name, text)
+        texts.append(f"== {name}\n" + (text if len(text) <= 2000 else f"{len(text)} bytes, CRC-32 {zlib.crc32(text.encode()):08x}\n"))
 
 
-def pair(name, first, want=None, second=None):
-    case(name, first + (b"\xff" * len(first) if second is None else second), want)
+def pair(name, first, want=None, second=None, lacks=None):
+    case(name, first + (b"\xff" * len(first) if second is None else second), want, lacks)
 
 
 SLOT = [entry(CREATE, 0), entry(FILE, 0, b"q212"), entry(INLINE, 0, b"abc"), entry(0x374, 0, b"\x90\x5f\x01\x00")]
@@ -326,8 +354,72 @@ for k in range(120):
     size = random.choice((256, 400, 512))
     case(f"random-{k}", history(size, random.randrange(3)) + history(size, random.randrange(3)))
 
+# ---- the audit: what it must say, written out by hand
+def totals(late, bare, slots):
+    return f"payload without deadline {late}\ndeadline without payload {bare}\nslots {slots}\n"
+
+
+def audited(name, first, lacks, second=None):
+    pair("audit-" + name, first, None, second, lacks)
+
+
+def slot(id, name, *entries):
+    return [entry(CREATE, id)] + ([entry(FILE, id, name)] if name else []) + [entry(type, id, data) for type, data in entries]
+
+
+ABC, DUE, FAR = (INLINE, b"abc"), (0x374, b"\x90\x5f\x01\x00"), (CTZ, bytes(8))
+audited("nothing-missing", block(128, [SLOT]), totals(0, 0, 1))
+audited("no-slots", block(128, [[]]), totals(0, 0, 0))
+# the 212: payload and deadline in separate commits, and a restart between the two
+separate = block(128, [slot(0, b"q212", ABC), [entry(DUE[0], 0, DUE[1])]])
+audited("separate-commits", separate, totals(0, 0, 1))
+audited("separate-commits-cut", separate[:40] + b"\xff" * 88, "slot 0 q212 no deadline\n" + totals(1, 0, 1))
+audited("deadline-first-cut", block(128, [slot(0, b"q212", DUE)]), "slot 0 q212 no payload\n" + totals(0, 1, 1))
+audited("one-of-each", block(256, [slot(0, b"a", ABC) + slot(1, b"b", ABC, DUE) + slot(2, b"c", DUE) + slot(3, b"d")]),
+        "slot 0 a no deadline\nslot 2 c no payload\n" + totals(1, 1, 4))
+audited("212-of-them", block(16384, [[e for i in range(300) for e in slot(i, b"q%d" % i, *((ABC,) if i < 212 else (ABC, DUE)))]]),
+        "".join(f"slot {i} q{i} no deadline\n" for i in range(212)) + totals(212, 0, 300))
+# an attribute removed is none, one set again is one; an empty one counts; 0x375 and 0x373 are others
+audited("deadline-removed", block(128, [SLOT, [entry(0x374, 0, removal=True)]]), "slot 0 q212 no deadline\n" + totals(1, 0, 1))
+audited("deadline-set-again", block(128, [SLOT, [entry(0x374, 0, removal=True)], [entry(0x374, 0, b"\x07")]]), totals(0, 0, 1))
+audited("deadline-empty", block(128, [slot(0, b"e", ABC, (0x374, b""))]), totals(0, 0, 1))
+audited("other-attributes", block(128, [slot(0, b"o", ABC, (0x373, b"\x01"), (0x375, b"\x01"))]), "slot 0 o no deadline\n" + totals(1, 0, 1))
+# payloads: an empty inline file is none, a CTZ list is one, a directory's struct is none
+audited("empty-inline-deadline", block(128, [slot(0, b"e", (INLINE, b""), DUE)]), "slot 0 e no payload\n" + totals(0, 1, 1))
+audited("empty-inline-alone", block(128, [slot(0, b"e", (INLINE, b""))]), totals(0, 0, 1))
+audited("one-byte-inline", block(128, [slot(0, b"e", (INLINE, b"x"))]), "slot 0 e no deadline\n" + totals(1, 0, 1))
+audited("ctz", block(128, [slot(0, b"big", FAR)]), "slot 0 big no deadline\n" + totals(1, 0, 1))
+audited("ctz-deadline", block(128, [slot(0, b"big", FAR, DUE)]), totals(0, 0, 1))
+audited("directory-struct", block(128, [slot(0, b"f", (0x200, bytes(8)), DUE)]), "slot 0 f no payload\n" + totals(0, 1, 1))
+audited("emptied", block(128, [SLOT, [entry(INLINE, 0)]]), "slot 0 q212 no payload\n" + totals(0, 1, 1))
+# what is no instruction, and a slot with no name, which is one
+audited("directory-and-superblock", block(256, [[entry(CREATE, 0), entry(SUPER, 0, b"littlefs"), entry(INLINE, 0, bytes(24)),
+                                                 entry(CREATE, 1), entry(DIR, 1, b"d"), entry(INLINE, 1, b"abc"), entry(CREATE, 2), entry(DIR, 2, b"t"), entry(0x374, 2, b"")]]), totals(0, 0, 3))
+audited("renamed-a-directory", block(128, [slot(0, b"f", ABC), [entry(DIR, 0, b"f")]]), totals(0, 0, 1))
+audited("no-name", block(128, [slot(0, b"", ABC) + slot(1, b"", DUE) + slot(2, b"")]), "slot 0 - no deadline\nslot 1 - no payload\n" + totals(1, 1, 3))
+audited("name-escapes", block(128, [slot(0, b"a b\\\xff", ABC)]), "slot 0 a\\x20b\\x5c\\xff no deadline\n" + totals(1, 0, 1))
+audited("slot-deleted", block(256, [slot(0, b"a", ABC) + slot(1, b"b", ABC), [entry(DELETE, 0)]]), "slot 0 b no deadline\n" + totals(1, 0, 1))
+audited("second-block", block(128, [SLOT], 4), "slot 0 q no deadline\n" + totals(1, 0, 1), block(128, [slot(0, b"q", ABC)], 5))
+audited("irregular", block(128, [[entry(FILE, 5, b"a")]]), "refused -202\n")
+audited("torn", block(128, [SLOT], break_sum=True), "refused -84\n")
+case("audit-odd", (block(128, [SLOT]) + b"\xff" * 128)[:255], None, "refused -22\n")
+# long texts: the most lines, and the longest names
+audited("full-of-lines", block(32768, [[e for i in range(1023) for e in slot(i, b"\n" * 19, (0x374, b""))]]), None)
+audited("full-of-names", block(32768, [[e for i in range(31) for e in slot(i, b"\x80" * 1022, DUE)]]), None)
+
+for k in range(60):
+    entries, count = [], random.randrange(1, 9)
+    for id in range(count):
+        entries.append(entry(CREATE, id))
+        parts = [entry(random.choice((FILE, FILE, FILE, DIR, SUPER)), id, b"n%d" % id), entry(INLINE, id, random.choice((b"", b"x"))), entry(random.choice((0x200, CTZ)), id, bytes(8)),
+                 entry(0x374, id, random.choice((b"", b"t"))), entry(0x374, id, removal=True), entry(0x375, id)]
+        entries += random.sample(parts, random.randrange(5))
+    if random.random() < 0.5:
+        entries.append(entry(DELETE, random.randrange(count)))
+    pair(f"audit-random-{k}", block(512, [entries]))
+
 os.makedirs(HERE, exist_ok=True)
-for name, text in (("cases", "\n".join(CASES) + "\n"), ("expected", "".join(EXPECTED))):
+for name, text in (("cases", "\n".join(CASES) + "\n"), ("expected", "".join(EXPECTED)), ("audited", "".join(AUDITED))):
     with open(os.path.join(HERE, name), "w") as f:
         f.write(text)
 print(f"{len(CASES)} cases")

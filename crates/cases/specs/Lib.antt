@@ -4,3 +4,4 @@ pub mod Walks
 pub mod Rules
 pub mod Pairs
 pub mod Text
+pub mod Audit

@@ -22,13 +22,13 @@ abbrev pub blank : ℕ → List ℕ
 blank n = replicate n 0xff
 
 -- the names and data
-abbrev q212 : List ℕ
+abbrev pub q212 : List ℕ
 q212 = 0x71 ∷ 0x32 ∷ 0x31 ∷ 0x32 ∷ []
 
-abbrev abc : List ℕ
+abbrev pub abc : List ℕ
 abc = 0x61 ∷ 0x62 ∷ 0x63 ∷ []
 
-abbrev deadline : List ℕ
+abbrev pub deadline : List ℕ
 deadline = 0x90 ∷ 0x5f ∷ 0x01 ∷ 0x00 ∷ []
 
 -- "first 128 bytes, revision 1, raw tags 0xbfefffff, 0x40000004 + "q212", 0x20000007 + "abc", 0x17500007 + 90 5f 01 00, 0x674ffc09,
