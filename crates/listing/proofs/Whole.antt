@@ -1,5 +1,5 @@
 -- The lines of a record, a refusal, a block and a pair. Assumes nothing.
-use mathlib.Core.Path.{_≡_, refl, sym, ap, ap₂, _∙_}
+use mathlib.Core.Path.{_≡_, sym, ap, ap₂, _∙_}
 use mathlib.Core.Bool.{Bool, true, false, not, cond, _||_}
 use mathlib.Core.List.{List, _++_}
 use Prim.Native.Nat.{ℕ, zero, suc, _-_, _/_, _%_, _≤_, _<_}
@@ -16,11 +16,12 @@ use Rattle.format.specs.Regular.{Regular}
 use Rattle.format.specs.Directory.{dirOf}
 use Rattle.format.specs.Writer.{blockAt, isSecond}
 use Rattle.format.specs.Compaction.{isNoTail}
-use Rattle.format.specs.Listing.{ascii, decimal, integer, numberLine, tailKind, tailLine, erasedLine, recordLines, slotLines, refusedLine, dirLines, blockText, inputGeometry, fetchInput, fetchedText}
+use Rattle.format.specs.Listing.{ascii, decimal, numberLine, tailKind, tailLine, erasedLine, recordLines, slotLines, refusedLine, dirLines, blockText, inputGeometry, fetchInput, fetchedText}
 use Rattle.format.specs.declared.LfsPair.{LfsPair}
 use Rattle.format.specs.declared.LfsMdir.{LfsMdir}
 use Rattle.format.specs.declared.Refusal.{Refusal}
 use Rattle.format.specs.declared.Refusal.the-variants.{Invalid, Irregular}
+use Rattle.format.specs.declared.Fetched.{Fetched}
 use Rattle.format.specs.declared.Fetched.the-variants as fetched
 use Rattle.theory.specs.Reading.{Sized, found-sized, found-reads}
 use Rattle.theory.specs.Compaction.{slots-counted}

@@ -5,7 +5,7 @@ ghost use Prim.Native.Nat.{_^_};
 ghost use lib.ListN.{length};
 ghost use Rattle.format.specs.Log.{log};
 ghost use Rattle.format.specs.Directory.{dirOf};
-ghost use Rattle.format.specs.Listing.{tailKind, tailLine, erasedLine, recordLines, nameFields, structFields, attrData, attrLine, attrLines, slotLine, slotLines, refusedLine, blockText, fetchInput, listingOf, writtenTo};
+ghost use Rattle.format.specs.Listing.{tailKind, tailLine, erasedLine, recordLines, nameFields, structFields, attrData, attrLine, attrLines, slotLines, refusedLine, blockText, fetchInput, listingOf, writtenTo};
 ghost use Rattle.text.specs.Put.{text, putsOf};
 ghost use Rattle.gather.specs.Seat.{loadIn, Inside};
 ghost use Rattle.gather.specs.Slots.{Slots, slotIn};
