@@ -10,6 +10,8 @@ import os
 import random
 import zlib
 
+from writer import runs
+
 ROOT = os.path.dirname(os.path.abspath(__file__))
 HERE = os.path.join(ROOT, "listings")
 CREATE, FILE, DIR, SUPER, INLINE, CTZ, DELETE = 0x401, 0x001, 0x002, 0x0FF, 0x201, 0x202, 0x4FF
@@ -185,23 +187,6 @@ def block(size, commits, revision=1, check=CHECK, sizes=None, break_sum=False):
         data = data.ljust(len(data) - 4 + (sizes[k] if sizes else least), b"\xff")
         previous, start = word ^ (check & 1) << 31, len(data)
     return data.ljust(size, b"\xff")[:size]
-
-
-def runs(data):
-    """Bytes as text: hex, with runs of eight and more as aa*n."""
-    parts, i = [], 0
-    while i < len(data):
-        j = i
-        while j < len(data) and data[j] == data[i]:
-            j += 1
-        if j - i >= 8:
-            parts.append(f"{data[i]:02x}*{j - i}")
-        elif parts and "*" not in parts[-1]:
-            parts[-1] += data[i:j].hex()
-        else:
-            parts.append(data[i:j].hex())
-        i = j
-    return ",".join(parts) or "-"
 
 
 CASES, EXPECTED, AUDITED = [], [], []

@@ -9,28 +9,9 @@ type:id:off:len*times, all joined by commas, - for none. Run by hand when the se
 import os
 import zlib
 
-from writer import (ATTR, CREATE, DELETE, FILE, HARD, INLINE, MOVE, SOFT, appended, block, check_size, checksum, compacted, tag)
+from writer import (ATTR, CREATE, DELETE, FILE, HARD, INLINE, MOVE, SOFT, appended, block, check_size, checksum, compacted, runs, tag)
 
 HERE = os.path.join(os.path.dirname(os.path.abspath(__file__)), "writes")
-
-
-def runs(data):
-    """Bytes as text: hex, with runs of eight and more as aa*n."""
-    parts, i = [], 0
-    while i < len(data):
-        j = i
-        while j < len(data) and data[j] == data[i]:
-            j += 1
-        if j - i >= 8:
-            parts.append(f"{data[i]:02x}*{j - i}")
-        else:
-            text = data[i:j].hex()
-            if parts and "*" not in parts[-1]:
-                parts[-1] += text
-            else:
-                parts.append(text)
-        i = j
-    return ",".join(parts) or "-"
 
 
 def entry_text(entries):

@@ -62,3 +62,22 @@ def compacted(size, prog, revision, entries, limit, old):
     stores = 1 + len((revision.to_bytes(4, "little") + commit_bytes(prog, 4, revision.to_bytes(4, "little"), 0xFFFFFFFF, entries)[0]))
     made = stores if limit is None else min(limit, stores)
     return (old if made == 0 else whole[:made - 1].ljust(size, b"\xff")), made, end, this
+
+
+def runs(data):
+    """Bytes as text: hex, with runs of eight and more as aa*n."""
+    parts, i = [], 0
+    while i < len(data):
+        j = i
+        while j < len(data) and data[j] == data[i]:
+            j += 1
+        if j - i >= 8:
+            parts.append(f"{data[i]:02x}*{j - i}")
+        else:
+            text = data[i:j].hex()
+            if parts and "*" not in parts[-1]:
+                parts[-1] += text
+            else:
+                parts.append(text)
+        i = j
+    return ",".join(parts) or "-"

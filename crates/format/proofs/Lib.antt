@@ -15,3 +15,5 @@ pub mod Parts
 pub mod Walk
 pub mod Classes
 pub mod Back
+-- The order of a commit's refusals.
+pub mod Refusals

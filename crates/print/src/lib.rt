@@ -1,15 +1,21 @@
 // A text on standard output, for the programs that show one.
+ghost use mathlib.Core.Path.{_≡_};
+ghost use lib.ListN.{length};
+ghost use lib.Dec.{leb};
 use libc::STDERR_FILENO;
 use libc::STDOUT_FILENO;
 
-// A text of n bytes, or nothing of it where the buffer had no room for all.
-pub fn whole(text: &[u8], n: usize) {
+// A text of n bytes, or nothing of it where the buffer had no room for all: whether it had.
+pub fn whole(text: &[u8], n: usize) -> bool
+    ensures { λ r. ⌜ r ≡ leb n (length (now (text .entry))) ⌝ }
+{
     if text.len() < n {
         io::write_all(
             STDERR_FILENO,
             b"the text is longer than the program's buffer\n",
         );
-        return;
+        return false;
     }
     io::write_all(STDOUT_FILENO, &text[..n]);
+    true
 }

@@ -1,13 +1,16 @@
 -- Demand 3 on document 01's listing pair, by computation: a commit of a new deadline for q212, and a compaction, each stopped after every number of
 -- its stores. And that both are accepted, so that the theorems of Stopped.antt speak of them. Assumes nothing.
 use mathlib.Core.Path.{_≡_, refl}
-use mathlib.Core.Bool.{false}
+use mathlib.Core.Bool.{Bool, true, false, _&&_}
 use mathlib.Core.Option.{some}
 use mathlib.Core.List.{List, [], _∷_, _++_, map}
-use Prim.Native.Nat.{ℕ, zero, suc}
+use Prim.Native.Nat.{ℕ, zero, suc, _^_}
+use native.Mathlib.Omega.{arith}
+use lib.Dec.{ltb}
+use borrow.Author.Tests.{ltb-true}
 use lib.ListN.{replicate}
 use Rattle.format.specs.Crc.{crc, crcByte, crcBits, crcBit}
-use Rattle.format.specs.Word.{be32, le32, toBe32, toLe32, xor}
+use Rattle.format.specs.Word.{be32, le32, toBe32, toLe32, xor, allOnes}
 use Rattle.format.specs.Tag.{tagLength, tagFlipped, tagOf}
 use Rattle.format.specs.Walk.{readBehind, classOf, bodyLength, walkIn, walkFrom, walk}
 use Rattle.format.specs.Log.{committed, log, eventLength, span, tagAfter, stoppedStraight}
@@ -25,13 +28,14 @@ use Rattle.format.specs.Directory.{empty, upd, dir, apply, applyAll, act, acts,
 use Rattle.format.specs.Writer.{unlimited, roundedEnd, checkSize, commitFits, roomClean, placed, appended, accepted, verdictOf, Images, commitImages}
 use Rattle.format.specs.Compaction.{slotItems, dirItems, compactionItems, placedAnew, compactable, compactAccepted, compactVerdict, compactImages}
 use Rattle.format.specs.Machine.{machineOf, ran, asked, name, attribute}
-use Rattle.format.specs.Stopped.{Stopped}
+use Rattle.format.specs.Stopped.{Bytes, Stopped}
 use Rattle.format.specs.declared.Geometry.{Geometry}
 use Rattle.format.specs.declared.LfsGstate.{LfsGstate}
 use Rattle.format.specs.declared.Entry.{Entry}
 use Rattle.format.specs.declared.Fetched.{Fetched}
 use Rattle.format.specs.declared.Fetched.the-variants as fetched
-use Rattle.promises.specs.Stopped.{commit-stopped}
+use Rattle.theory.specs.Steps.{both-true}
+use Rattle.promises.specs.Stopped.{commit-stopped, compact-stopped}
 
 abbrev geometry : Geometry
 geometry = record { «block_size» = 128; «prog_size» = 16 }
@@ -118,3 +122,24 @@ pub holds-the-hour : (asked (ran (machineOf (log first)) (written (itemsOf hour 
     × (asked (ran (machineOf (log first)) (written (itemsOf hour (deadline ∷ [])) [])) (name 0) ≡ some (record { type = 0x001; bytes = 0x71 ∷ 0x32 ∷ 0x31 ∷ 0x32 ∷ [] }))
 unfolding written dirOf dir acts act apply applyAll upd empty log committed walk walkFrom walkIn classOf readBehind bodyLength tagLength tagFlipped be32 le32 xor crc crcByte crcBits crcBit entryBody tagOf
 holds-the-hour = (refl, refl)
+
+-- and of the compaction: the images are bytes, and the finished pair holds what the old one did
+pub allBytes : List ℕ → Bool
+allBytes [] = true
+allBytes (b ∷ l) = ltb b (2 ^ 8) && allBytes l
+
+bytes-of : (l : List ℕ) → allBytes l ≡ true → Bytes l
+unfolding allBytes
+bytes-of [] h i = omega arith
+bytes-of (b ∷ l) h zero = ltb-true b (2 ^ 8) (both-true (ltb b (2 ^ 8)) (allBytes l) h .0)
+bytes-of (b ∷ l) h (suc i) = bytes-of l (both-true (ltb b (2 ^ 8)) (allBytes l) h .1) i
+
+are-bytes : (allBytes first ≡ true) × (allBytes second ≡ true)
+unfolding allBytes
+are-bytes = (refl, refl)
+
+pub compaction-example : (n : ℕ)
+    → Stopped geometry 0 1 0 0 first second (compactImages geometry first second 0 1 0 0 n .b0) (compactImages geometry first second 0 1 0 0 n .b1)
+    (compactImages geometry first second 0 1 0 0 allOnes .b0) (compactImages geometry first second 0 1 0 0 allOnes .b1) (machineOf (log first)) (machineOf (log first))
+compaction-example n =
+    compact-stopped geometry first second 0 1 0 0 n (bytes-of first (are-bytes .0)) (bytes-of second (are-bytes .1)) false 2 (compactionItems (log first)) 13 takes-compaction

@@ -13,7 +13,8 @@ use Rattle.format.specs.Record.{countOf, seedOf}
 use Rattle.format.specs.View.{View, none, at, view}
 use Rattle.format.specs.Fetch.{pairFits, tooHigh, mdirOf, fewEnough, viewed, fetchOf}
 use Rattle.format.specs.Look.{Found, noEntry, found}
-use Rattle.format.specs.Lookup.{blockOf, searched, sliceAnswer, sliceEnd, getsliceFits, getsliceOf, getFits, getOf}
+use Rattle.format.specs.Bytes.{inside, putAnswer}
+use Rattle.format.specs.Lookup.{recordFits, moveMask, moveKey, moveAnswer, getgstateOf, blockOf, searched, sliceAnswer, sliceEnd, getsliceFits, getsliceOf, getFits, getOf}
 use Rattle.format.specs.Tag.{tagSize}
 use Rattle.format.specs.Word.{le32, toLe32, allOnes, plus32}
 use Rattle.format.specs.Crc.{crc}
@@ -24,7 +25,7 @@ use Rattle.format.specs.Entries.{itemsOf, Judged, bad, good, judge}
 use Rattle.format.specs.Log.{log, logEnd, logEndTag}
 use Rattle.format.specs.Writer.{roundedEnd, checkSize, checkAt, commitFits, roomClean, blockAt, isSecond, Verdict, refused, accepted, placed, appended, judgedBy, fetchedThen, verdictOf, Images, unlimited, committedAs, answerOf, commitImages, commitOf}
 use Rattle.format.specs.Compaction.{compactionItems, CompactVerdict, compactRefused, compactAccepted, compactCheckAt, placedAnew, compactable, compactFetched, compactVerdict, compactAnswer, compactImages, compactOf}
-use Rattle.format.specs.Answer.{fetchedResult, fetchedMdir, fetchedSeed, gotResult, gotTag, committedResult, committedMdir, committedSeed, committedIndex, storedResult, storedMade, storedIndex}
+use Rattle.format.specs.Answer.{fetchedResult, fetchedMdir, fetchedSeed, gotResult, gotTag, alteredResult, wordResult, wordValue, committedResult, committedMdir, committedSeed, committedIndex, storedResult, storedMade, storedIndex}
 use Rattle.format.specs.declared.Geometry.{Geometry}
 use Rattle.format.specs.declared.Entry.{Entry}
 use Rattle.format.specs.declared.LfsMdir.{LfsMdir}
@@ -35,6 +36,11 @@ use Rattle.format.specs.declared.Fetched.{Fetched}
 use Rattle.format.specs.declared.Fetched.the-variants as fetched
 use Rattle.format.specs.declared.Got.{Got}
 use Rattle.format.specs.declared.Got.the-variants as got
+use Rattle.format.specs.declared.Altered.{Altered}
+use Rattle.format.specs.declared.Altered.the-variants as altered
+use Rattle.format.specs.declared.Word.{Word}
+use Rattle.format.specs.declared.Word.the-variants as word
+use Rattle.format.specs.declared.Informed.{Informed}
 use Rattle.format.specs.declared.Committed.{Committed}
 use Rattle.format.specs.declared.Committed.the-variants as committed
 use Rattle.format.specs.declared.Stored.{Stored}
@@ -185,6 +191,49 @@ stored-determined two (stored.Refused Unclean) h = refl
 stored-determined two (stored.Refused Coincidence) h = refl
 stored-determined two (stored.Refused NoEntry) h = cc
 
+-- ---- an altered buffer or state, a word that was read, an info: -22, -84 and, of an info, -2 for "no entry"
+abbrev pub alteredFrom : ℤ → Altered
+alteredFrom number = cond (accepts number) altered.Done (altered.Refused (refusalFrom NoEntry number 0))
+
+abbrev pub alteredPossible : Altered → Bool
+alteredPossible altered.Done = true
+alteredPossible (altered.Refused r) = ofLookup r
+
+pub altered-determined : (f : Altered) → alteredPossible f ≡ true → alteredFrom (alteredResult f) ≡ f
+altered-determined altered.Done h = refl
+altered-determined (altered.Refused Invalid) h = refl
+altered-determined (altered.Refused Corrupt) h = refl
+altered-determined (altered.Refused NoEntry) h = refl
+altered-determined (altered.Refused (TooMany m s)) h = cc
+altered-determined (altered.Refused (BadEntry i)) h = cc
+altered-determined (altered.Refused Irregular) h = cc
+altered-determined (altered.Refused NoSpace) h = cc
+altered-determined (altered.Refused Unclean) h = cc
+altered-determined (altered.Refused Coincidence) h = cc
+
+abbrev pub wordFrom : ℤ → ℕ → Word
+wordFrom number v = cond (accepts number) (word.Is v) (word.Refused (refusalFrom NoEntry number 0))
+
+abbrev pub wordPossible : Word → Bool
+wordPossible (word.Is v) = true
+wordPossible (word.Refused r) = ofLookup r
+
+pub word-determined : (f : Word) → wordPossible f ≡ true → wordFrom (wordResult f) (wordValue f) ≡ f
+word-determined (word.Is v) h = refl
+word-determined (word.Refused Invalid) h = refl
+word-determined (word.Refused Corrupt) h = refl
+word-determined (word.Refused NoEntry) h = refl
+word-determined (word.Refused (TooMany m s)) h = cc
+word-determined (word.Refused (BadEntry i)) h = cc
+word-determined (word.Refused Irregular) h = cc
+word-determined (word.Refused NoSpace) h = cc
+word-determined (word.Refused Unclean) h = cc
+word-determined (word.Refused Coincidence) h = cc
+
+-- an info comes with all its fields, so only its answer is to be told from a number
+pub informed-determined : (f : Informed) → alteredPossible (f .answer) ≡ true → _≡_ {A = Informed} (record { answer = alteredFrom (alteredResult (f .answer)); info = f .info }) f
+informed-determined f h = rw (altered-determined (f .answer) h)
+
 -- ---- and the calls give no other answers
 few-possible : (m : LfsMdir) (s : ℕ) → fetchedPossible (fewEnough m s) ≡ true
 few-possible m s = go (ltb 1_023 (m .count))
@@ -221,6 +270,18 @@ slice-possible b offset size (found t tagOff diff) = go (leb (sliceEnd t tagOff 
     go true = refl
     go false = refl
 
+altered-behind : (p : Bool) (f : Altered) → alteredPossible f ≡ true → alteredPossible (cond p f (altered.Refused Invalid)) ≡ true
+altered-behind true f h = h
+altered-behind false f h = refl
+
+move-possible : (b : List ℕ) (f : Found) → alteredPossible (moveAnswer b f) ≡ true
+move-possible b noEntry = refl
+move-possible b (found t tagOff diff) = go (leb (sliceEnd t tagOff 0 12) (length b))
+  where
+    go : (p : Bool) → alteredPossible (cond p altered.Done (altered.Refused Corrupt)) ≡ true
+    go true = refl
+    go false = refl
+
 module _ (g : Geometry) (b0 b1 : List ℕ) (n0 n1 : ℕ) (dir : LfsMdir) (gdisk : LfsGstate) (mask key : ℕ) where
   pub getslice-possible : (offset : ℕ) (buffer : List ℕ) → gotPossible (getsliceOf g b0 b1 n0 n1 dir gdisk mask key offset buffer) ≡ true
   unfolding getsliceOf
@@ -230,6 +291,17 @@ module _ (g : Geometry) (b0 b1 : List ℕ) (n0 n1 : ℕ) (dir : LfsMdir) (gdisk 
   pub get-possible : (buffer : List ℕ) → gotPossible (getOf g b0 b1 n0 n1 dir gdisk mask key buffer) ≡ true
   unfolding getOf
   get-possible buffer = behind-test (getFits key buffer) _ (getslice-possible 0 (take (tagSize key) buffer))
+
+  pub getgstate-possible : alteredPossible (getgstateOf g b0 b1 n0 n1 dir gdisk) ≡ true
+  unfolding getgstateOf
+  getgstate-possible = altered-behind (recordFits g (length b0) (length b1) n0 n1 dir) _ (move-possible (blockOf b0 b1 n0 dir) (searched (blockOf b0 b1 n0 dir) dir gdisk moveMask moveKey))
+
+pub put-possible : (s : List ℕ) (off : ℕ) → alteredPossible (putAnswer s off) ≡ true
+put-possible s off = go (inside s off)
+  where
+    go : (p : Bool) → alteredPossible (cond p altered.Done (altered.Refused Corrupt)) ≡ true
+    go true = refl
+    go false = refl
 
 -- ---- writing
 from-fetch : (r : Refusal) → ofFetch r ≡ true → ofWriting r ≡ true
