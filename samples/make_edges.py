@@ -1,12 +1,12 @@
 #!/usr/bin/env python3
-"""Writes the pairs at the edges that the program `edges` fetches (crates/edges/data), and what it must print (crates/edges/stdout).
+"""Writes the pairs at the edges that the program `check_edges` fetches (crates/check_edges/data), and what it must print (crates/check_edges/stdout).
 
 What is expected is worked out here from document 01, beside each pair; nothing is taken from the program. Run by hand when the set changes.
 """
 import os
 import zlib
 
-HERE = os.path.join(os.path.dirname(os.path.abspath(__file__)), "..", "crates", "edges")
+HERE = os.path.join(os.path.dirname(os.path.abspath(__file__)), "..", "crates", "check_edges")
 SIZE = 128
 
 

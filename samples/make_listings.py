@@ -1,5 +1,5 @@
 #!/usr/bin/env python3
-"""Writes samples/listings/cases, inputs of the programs list and auditor, and the text that each must give: expected and audited.
+"""Writes samples/listings/cases, inputs of the programs list and audit, and the text that each must give: expected and audited.
 
 What is expected is worked out here from document 01 alone, by a walk, a directory and a rendering of its own; nothing is taken from the port.
 A case is one line, `NAME BYTES`, the bytes as runs of hex (aa*9 is aa nine times), joined by commas, - for none. What is expected of it is a line

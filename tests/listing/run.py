@@ -1,8 +1,8 @@
 #!/usr/bin/env python3
-"""Runs the listing program, or the auditor, on each case of a file, and shows its texts as samples/make_listings.py writes the expected ones.
+"""Runs the listing program, or the audit, on each case of a file, and shows its texts as samples/make_listings.py writes the expected ones.
 
     tests/listing/run.py samples/listings/cases target/bin/list | diff - samples/listings/expected
-    tests/listing/run.py samples/listings/cases target/bin/auditor | diff - samples/listings/audited
+    tests/listing/run.py samples/listings/cases target/bin/audit | diff - samples/listings/audited
 """
 import subprocess
 import sys

@@ -1,5 +1,6 @@
 pub mod Cases
 pub mod Listing
+pub mod Commits
 pub mod Walks
 pub mod Rules
 pub mod Pairs

@@ -10,8 +10,8 @@ use Rattle.format.specs.Commit.{Item, commitBytes}
 use Rattle.format.specs.Stores.{entriesLength, coincides}
 use Rattle.format.specs.Writer.{allStores}
 use Rattle.format.proofs.Words.{length-toBe32, length-toLe32}
-use Rattle.room.specs.Tests.{meets}
-use Rattle.theory.specs.Made.{AllMade}
+use Rattle.commit_room.specs.Tests.{meets}
+use Rattle.theory.specs.Rules.MadeItem.{AllMade}
 
 unfoldable pub lastTag : ℕ → List Item → ℕ
 lastTag p [] = p

@@ -7,8 +7,8 @@ use lib.ListN.{length}
 use Rattle.format.specs.declared.Geometry.{Geometry}
 use Rattle.format.specs.declared.Entry.{Entry}
 use Rattle.format.specs.declared.Refusal.{Refusal}
-use Rattle.writer.specs.State.{Trio, trio, state, stepOf, decidedOf, sealedOf}
-use Rattle.writer.specs.declared.Phase.the-variants.{Refused}
+use Rattle.commit_steps.specs.State.{Trio, trio, state, stepOf, decidedOf, sealedOf}
+use Rattle.commit_steps.specs.declared.Phase.the-variants.{Refused}
 use Rattle.commit.specs.Passes.{entryAt, stepE, eachOf, passOf, decideT, sealT}
 
 abbrev pub foldE : List ℕ → Trio → List Entry → Trio

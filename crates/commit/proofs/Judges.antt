@@ -18,16 +18,16 @@ use Rattle.format.specs.Entries.{entryBody, itemsOf, entryItem, entryRule, inBu
 use Rattle.format.specs.declared.Entry.{Entry}
 use Rattle.format.specs.declared.Refusal.the-variants.{BadEntry}
 use Rattle.format.proofs.Words.{mkTag-sum}
-use Rattle.theory.specs.Directory.{mostSlots}
-use Rattle.theory.specs.Made.{Fields}
-use Rattle.theory.specs.Judged.{good-entry}
-use Rattle.rules.specs.Rules.{countedAs, countedBy}
-use Rattle.lay.specs.Laid.{bodyOf}
-use Rattle.walk.proofs.Seen.{length-most}
-use Rattle.writer.specs.State.{trio, state, judgedTo, judgedAs, judgedOf, stepOf}
-use Rattle.writer.specs.declared.Judging.{Judging}
-use Rattle.writer.specs.declared.Phase.{Phase}
-use Rattle.writer.specs.declared.Phase.the-variants.{Refused, Judge}
+use Rattle.theory.specs.Directory.Machine.{mostSlots}
+use Rattle.theory.specs.Rules.MadeItem.{Fields}
+use Rattle.theory.specs.Rules.JudgedEntries.{good-entry}
+use Rattle.commit_rules.specs.Rules.{countedAs, countedBy}
+use Rattle.commit_lay.specs.Laid.{bodyOf}
+use Rattle.fetch_walk.proofs.Seen.{length-most}
+use Rattle.commit_steps.specs.State.{trio, state, judgedTo, judgedAs, judgedOf, stepOf}
+use Rattle.commit_steps.specs.declared.Judging.{Judging}
+use Rattle.commit_steps.specs.declared.Phase.{Phase}
+use Rattle.commit_steps.specs.declared.Phase.the-variants.{Refused, Judge}
 use Rattle.commit.proofs.Folded.{foldE, fold-refused}
 use Rattle.commit.proofs.Chained.{lastTag, lastSum}
 

@@ -12,13 +12,13 @@ use Rattle.format.specs.Commit.{Item, commitBytes}
 use Rattle.format.specs.Entries.{itemsOf, entryItem, entryRule, entryHolds, judge, bad, good}
 use Rattle.format.specs.Writer.{blockAt}
 use Rattle.format.specs.declared.Entry.{Entry}
-use Rattle.theory.specs.Directory.{mostSlots}
-use Rattle.theory.specs.Judged.{good-entry, good-bad}
-use Rattle.lay.specs.Laid.{Laid, laid, putsOf}
-use Rattle.lay.proofs.Puts.{puts-app}
-use Rattle.writer.specs.State.{trio, Onto, state, laidTo, laidOf, into, stepOf, checkedOf, sealedOf}
-use Rattle.writer.specs.declared.Laying.{Laying}
-use Rattle.writer.specs.declared.Phase.the-variants.{Lay}
+use Rattle.theory.specs.Directory.Machine.{mostSlots}
+use Rattle.theory.specs.Rules.JudgedEntries.{good-entry, good-bad}
+use Rattle.commit_lay.specs.Laid.{Laid, laid, putsOf}
+use Rattle.commit_lay.proofs.Puts.{puts-app}
+use Rattle.commit_steps.specs.State.{trio, Onto, state, laidTo, laidOf, into, stepOf, checkedOf, sealedOf}
+use Rattle.commit_steps.specs.declared.Laying.{Laying}
+use Rattle.commit_steps.specs.declared.Phase.the-variants.{Lay}
 use Rattle.commit.specs.Passes.{sealT}
 use Rattle.commit.proofs.Folded.{foldE}
 use Rattle.commit.proofs.Chained.{lastTag, lastSum, entriesBytes, checkBytes, bytes-cut}

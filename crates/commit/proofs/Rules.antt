@@ -10,9 +10,9 @@ use Rattle.format.specs.declared.Geometry.{Geometry}
 use Rattle.format.specs.declared.Entry.{Entry}
 use Rattle.format.specs.declared.Committed.{Committed}
 use Rattle.format.specs.declared.Stored.{Stored}
-use Rattle.theory.specs.StoppedCommit.{stopped-commit}
-use Rattle.writer.specs.State.{Trio, trio, begunOf, decidedOf, sealedOf, answeredOf, madeOf}
-use Rattle.writer.specs.declared.State.{State}
+use Rattle.theory.specs.Stopped.Commit.{stopped-commit}
+use Rattle.commit_steps.specs.State.{Trio, trio, begunOf, decidedOf, sealedOf, answeredOf, madeOf}
+use Rattle.commit_steps.specs.declared.State.{State}
 use Rattle.commit.proofs.Whole.{ran}
 use Rattle.commit.specs.Passes.{entryAt, stepE, eachOf, passOf, decideT, sealT, ranOf}
 

@@ -26,22 +26,22 @@ use Rattle.format.specs.declared.Refusal.the-variants.{Invalid, BadEntry, Irreg
 use Rattle.format.specs.declared.Fetched.{Fetched}
 use Rattle.format.specs.declared.Fetched.the-variants as fetched
 use Rattle.format.specs.declared.Stored.the-variants as stored
-use Rattle.theory.specs.Steps.{both-true}
-use Rattle.theory.specs.Directory.{mostSlots}
-use Rattle.theory.specs.Accepted.{regular-count}
-use Rattle.theory.specs.Counts.{regular-slots}
-use Rattle.theory.specs.Made.{AllMade}
-use Rattle.theory.specs.Fetched.{found-answers}
-use Rattle.theory.specs.Judged.{judged-good}
-use Rattle.theory.specs.Verdict.{fits-prog, fits-geometry, rounded}
-use Rattle.lay.specs.Laid.{Laid, laid, putsOf}
-use Rattle.lay.proofs.Pasted.{runAt, puts-paste}
-use Rattle.writer.specs.State.{Trio, trio, state, refusedState, judgingFrom, startedOf, fetchedBy, begunOf, laidTo, into, placedOf, decidedOf, answeredOf, madeOf}
-use Rattle.writer.specs.declared.State.{State}
-use Rattle.writer.specs.declared.Judging.{Judging}
-use Rattle.writer.specs.declared.Laying.{Laying}
-use Rattle.writer.specs.declared.Phase.{Phase}
-use Rattle.writer.specs.declared.Phase.the-variants.{Refused, Judge, Lay}
+use Rattle.theory.specs.Walk.Step.{both-true}
+use Rattle.theory.specs.Directory.Machine.{mostSlots}
+use Rattle.theory.specs.Commit.Tested.{regular-count}
+use Rattle.theory.specs.Rules.FetchCount.{regular-slots}
+use Rattle.theory.specs.Rules.MadeItem.{AllMade}
+use Rattle.theory.specs.Fetch.FoundRecord.{found-answers}
+use Rattle.theory.specs.Rules.JudgedEntries.{judged-good}
+use Rattle.theory.specs.Commit.AcceptedVerdict.{fits-prog, fits-geometry, rounded}
+use Rattle.commit_lay.specs.Laid.{Laid, laid, putsOf}
+use Rattle.commit_lay.proofs.Pasted.{runAt, puts-paste}
+use Rattle.commit_steps.specs.State.{Trio, trio, state, refusedState, judgingFrom, startedOf, fetchedBy, begunOf, laidTo, into, placedOf, decidedOf, answeredOf, madeOf}
+use Rattle.commit_steps.specs.declared.State.{State}
+use Rattle.commit_steps.specs.declared.Judging.{Judging}
+use Rattle.commit_steps.specs.declared.Laying.{Laying}
+use Rattle.commit_steps.specs.declared.Phase.{Phase}
+use Rattle.commit_steps.specs.declared.Phase.the-variants.{Refused, Judge, Lay}
 use Rattle.commit.specs.Passes.{passOf, decideT, sealT, ranOf}
 use Rattle.commit.proofs.Folded.{foldE, pass-fold, laid-refused, decided-refused, all-refused}
 use Rattle.commit.proofs.Chained.{lastTag, lastSum, meets-last, bytes-length}

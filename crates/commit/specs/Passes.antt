@@ -4,8 +4,8 @@ use Prim.Native.Nat.{ℕ, zero, suc}
 use lib.ListN.{length, getD}
 use Rattle.format.specs.declared.Geometry.{Geometry}
 use Rattle.format.specs.declared.Entry.{Entry}
-use Rattle.writer.specs.State.{Trio, trio, stepOf, begunOf, decidedOf, sealedOf}
-use Rattle.writer.specs.declared.State.{State}
+use Rattle.commit_steps.specs.State.{Trio, trio, stepOf, begunOf, decidedOf, sealedOf}
+use Rattle.commit_steps.specs.declared.State.{State}
 
 abbrev pub noEntry : Entry
 noEntry = record { kind = 0; id = 0; off = 0; len = 0 }

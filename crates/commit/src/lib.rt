@@ -1,17 +1,17 @@
 // A commit: "a lent list of entry records (type, id, data offset, length) over a data buffer", appended to the block of a pair that answers. Any
 // blocks, numbers, entries and bytes; a refused call changes nothing. The functions here hold the list of entries and do no more than pass it on:
-// `each` is the one loop over it, run twice, and hands an entry's numbers to `writer::step`. Their proofs are walks that tools/genwalk.py writes.
+// `each` is the one loop over it, run twice, and hands an entry's numbers to `commit_steps::step`. Their proofs are walks that tools/genwalk.py writes.
 ghost use mathlib.Core.Path.{_≡_};
 ghost use lib.ListN.{length};
 ghost use Rattle.format.specs.Writer.{unlimited, commitImages, commitOf, commitStoresOf};
 ghost use Rattle.format.specs.Stopped.{CommitStopped};
-ghost use Rattle.writer.specs.State.{trio};
+ghost use Rattle.commit_steps.specs.State.{trio};
 ghost use Rattle.commit.specs.Passes.{eachOf, ranOf};
+use commit_steps::State;
 use format::Committed;
 use format::Entry;
 use format::Geometry;
 use format::Stored;
-use writer::State;
 
 // One pass over the entries.
 fn each(es: &[Entry], dat: &[u8], b0: &mut [u8], b1: &mut [u8], st: State) -> State
@@ -21,7 +21,7 @@ fn each(es: &[Entry], dat: &[u8], b0: &mut [u8], b1: &mut [u8], st: State) -> St
     let mut i = 0;
     while i < es.len() {
         let e = es[i];
-        s = writer::step(s, dat, b0, b1, e.kind, e.id, e.off, e.len);
+        s = commit_steps::step(s, dat, b0, b1, e.kind, e.id, e.off, e.len);
         i += 1;
     }
     s
@@ -42,11 +42,11 @@ fn run(
 ) -> State
     ensures { λ r. ⌜ trio r (now (b0 .exit)) (now (b1 .exit)) ≡ ranOf g (now (b0 .entry)) (now (b1 .entry)) n0 n1 «block_count» seed (now (entries .entry)) (now (dat .entry)) stores ⌝ }
 {
-    let s0 = writer::begin(g, b0, b1, n0, n1, block_count, seed, entries.len(), dat);
+    let s0 = commit_steps::begin(g, b0, b1, n0, n1, block_count, seed, entries.len(), dat);
     let s1 = each(entries, dat, b0, b1, s0);
-    let s2 = writer::decide(s1, g, b0, b1, stores);
+    let s2 = commit_steps::decide(s1, g, b0, b1, stores);
     let s3 = each(entries, dat, b0, b1, s2);
-    writer::seal(s3, b0, b1)
+    commit_steps::seal(s3, b0, b1)
 }
 
 // "An accepted call answers what fetch gives on the finished pair from the same seed."
@@ -63,9 +63,9 @@ pub fn lfs_dir_commit(
 ) -> Committed
     ensures { λ r. ⌜ (r ≡ commitOf g (now (b0 .entry)) (now (b1 .entry)) n0 n1 «block_count» seed (now (entries .entry)) (now (dat .entry))) × (now (b0 .exit) ≡ commitImages g (now (b0 .entry)) (now (b1 .entry)) n0 n1 «block_count» seed (now (entries .entry)) (now (dat .entry)) unlimited .b0) × (now (b1 .exit) ≡ commitImages g (now (b0 .entry)) (now (b1 .entry)) n0 n1 «block_count» seed (now (entries .entry)) (now (dat .entry)) unlimited .b1) ⌝ }
 {
-    let all = writer::unlimited();
+    let all = commit_steps::unlimited();
     let s = run(g, b0, b1, n0, n1, block_count, seed, entries, dat, all);
-    writer::answer(s, g, b0, b1, n0, n1, block_count, seed)
+    commit_steps::answer(s, g, b0, b1, n0, n1, block_count, seed)
 }
 
 // The same "with a limit of n stores: exactly the first n of demand 3's list are made (all, if n is larger) and the number made is the answer".
@@ -85,5 +85,5 @@ pub fn lfs_dir_commit_stores(
     ensures { λ r. ⌜ (r ≡ commitStoresOf g (now (b0 .entry)) (now (b1 .entry)) n0 n1 «block_count» seed (now (entries .entry)) (now (dat .entry)) stores) × (now (b0 .exit) ≡ commitImages g (now (b0 .entry)) (now (b1 .entry)) n0 n1 «block_count» seed (now (entries .entry)) (now (dat .entry)) stores .b0) × (now (b1 .exit) ≡ commitImages g (now (b0 .entry)) (now (b1 .entry)) n0 n1 «block_count» seed (now (entries .entry)) (now (dat .entry)) stores .b1) × CommitStopped g n0 n1 «block_count» seed (now (b0 .entry)) (now (b1 .entry)) (now (entries .entry)) (now (dat .entry)) (now (b0 .exit)) (now (b1 .exit)) ⌝ }
 {
     let s = run(g, b0, b1, n0, n1, block_count, seed, entries, dat, stores);
-    writer::made(s, stores)
+    commit_steps::made(s, stores)
 }

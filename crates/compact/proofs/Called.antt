@@ -27,9 +27,9 @@ use Rattle.format.specs.declared.Committed.{Committed}
 use Rattle.format.specs.declared.Committed.the-variants as committed
 use Rattle.format.specs.declared.Stored.{Stored}
 use Rattle.format.specs.declared.Stored.the-variants as stored
-use Rattle.theory.specs.Reading.{Sized, found-sized, found-reads}
-use Rattle.theory.specs.StoppedCompaction.{stopped-compaction}
-use Rattle.renew.specs.Renewed.{Renewable, renewedTo}
+use Rattle.theory.specs.Fetch.FoundBlock.{Sized, found-sized, found-reads}
+use Rattle.theory.specs.Stopped.Compaction.{stopped-compaction}
+use Rattle.compact_block.specs.Renewed.{Renewable, renewedTo}
 
 -- ---- a verdict with the place of the block that answers
 abbrev placedAt : Bool → CompactVerdict → CompactVerdict

@@ -31,9 +31,9 @@ pub fn lfs_dir_compact_stores(
         Fetched::Found(dir, _) => {
             let pair = dir.pair;
             if pair.n0 == n0 {
-                renew::renew(g.prog_size, b0, b1, dir, stores)
+                compact_block::renew(g.prog_size, b0, b1, dir, stores)
             } else {
-                renew::renew(g.prog_size, b1, b0, dir, stores)
+                compact_block::renew(g.prog_size, b1, b0, dir, stores)
             }
         }
     }

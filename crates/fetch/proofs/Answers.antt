@@ -18,9 +18,9 @@ use Rattle.format.specs.declared.Fetched.{Fetched}
 use Rattle.format.specs.declared.Fetched.the-variants.{Refused}
 use Rattle.format.proofs.Words.{tagLength-ge}
 use Rattle.sizes.proofs.Sized.{sized}
-use Rattle.walk.specs.Block.{walkedOf}
-use Rattle.walk.specs.declared.Walked.{Walked}
-use Rattle.walk.proofs.Folds.{log-within}
+use Rattle.fetch_walk.specs.Block.{walkedOf}
+use Rattle.fetch_walk.specs.declared.Walked.{Walked}
+use Rattle.fetch_walk.proofs.Folds.{log-within}
 use Rattle.fetch.specs.Read.{Readable, Readables, answerBy, inOrder}
 use Rattle.fetch.proofs.FromWalk.{answer-is}
 

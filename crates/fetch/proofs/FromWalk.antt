@@ -15,8 +15,8 @@ use Rattle.format.specs.Fetch.{forwardFits, erasedOf, mdirOf, fewEnough}
 use Rattle.format.specs.declared.LfsMdir.{LfsMdir}
 use Rattle.format.specs.declared.Refusal.the-variants.{TooMany}
 use Rattle.format.specs.declared.Fetched.the-variants.{Found, Refused}
-use Rattle.walk.specs.Block.{fcrcOf, walkedOf}
-use Rattle.walk.specs.declared.Walked.{Walked}
+use Rattle.fetch_walk.specs.Block.{fcrcOf, walkedOf}
+use Rattle.fetch_walk.specs.declared.Walked.{Walked}
 use Rattle.fetch.specs.Read.{erasedBy, mdirBy, answerBy}
 
 -- ---- the erased mark, from the tests in order

@@ -11,7 +11,7 @@ use Rattle.format.specs.View.{rank}
 use Rattle.format.specs.Fetch.{fewEnough, viewed}
 use Rattle.format.specs.declared.LfsMdir.{LfsMdir}
 use Rattle.format.specs.declared.Fetched.{Fetched}
-use Rattle.walk.specs.declared.Walked.{Walked}
+use Rattle.fetch_walk.specs.declared.Walked.{Walked}
 
 -- the sizes that were tested: no division by zero, room for a revision, and numbers that fit
 pub record Readables (prog : ℕ) (b c : List ℕ) : Type 0 where

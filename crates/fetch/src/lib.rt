@@ -4,12 +4,12 @@ ghost use Prim.Native.Nat.{_<_};
 ghost use Rattle.format.specs.Count.{secondFirst};
 ghost use Rattle.format.specs.Fetch.{fetchOf};
 ghost use Rattle.fetch.specs.Read.{Readable, Readables, erasedBy, mdirBy, answerBy, inOrder};
+use fetch_walk::Walked;
 use format::Fetched;
 use format::Geometry;
 use format::LfsMdir;
 use format::LfsPair;
 use format::Refusal;
-use walk::Walked;
 
 // Where the first tag stands, behind the revision: the end of a log with no commit.
 const LOG_START: usize = 4;
@@ -82,11 +82,11 @@ fn in_order(prog: u32, n: u32, b: &[u8], m: u32, c: &[u8], seed: u32) -> Fetched
     requires { ⌜ Readables prog (now b) (now c) ⌝ }
     ensures { λ r. ⌜ r ≡ inOrder prog n (now (b .entry)) m (now (c .entry)) seed ⌝ }
 {
-    let first = walk::walk_block(b, seed);
+    let first = fetch_walk::walk_block(b, seed);
     if first.taken.off != LOG_START {
         return answer(prog, n, m, b, first);
     }
-    let second = walk::walk_block(c, seed);
+    let second = fetch_walk::walk_block(c, seed);
     if second.taken.off != LOG_START {
         return answer(prog, m, n, c, second);
     }

@@ -8,9 +8,9 @@ use Rattle.format.specs.declared.Geometry.{Geometry}
 use Rattle.format.specs.declared.Entry.{Entry}
 use Rattle.format.specs.declared.Committed.{Committed}
 use Rattle.format.specs.declared.Stored.{Stored}
-use Rattle.answers.specs.Values.{committedOut, storedOut}
-use Rattle.answers.specs.declared.CommittedOut.{CommittedOut}
-use Rattle.answers.specs.declared.StoredOut.{StoredOut}
+use Rattle.lanolin_answers.specs.Values.{committedOut, storedOut}
+use Rattle.lanolin_answers.specs.declared.CommittedOut.{CommittedOut}
+use Rattle.lanolin_answers.specs.declared.StoredOut.{StoredOut}
 
 module _ (b0 b1 : List ℕ) (es : List Entry) (dat : List ℕ) (g : Geometry) (n0 n1 count seed : ℕ) where
   pub commit-glue : (r0 : Committed) (x0 y0 : List ℕ) (r1 : CommittedOut)

@@ -3,8 +3,8 @@
 ghost use mathlib.Core.Path.{_≡_};
 ghost use Rattle.format.specs.Answer.{flagOf};
 ghost use Rattle.format.specs.Gstate.{gstateXor, gstateZero, gstateHasOrphans, gstateOrphans, gstateNeedsSuperblock, gstateHasMove, gstateHasMoveHere};
-use answers::flag;
 use format::LfsGstate;
+use lanolin_answers::flag;
 
 // ---- by value
 

@@ -8,12 +8,12 @@ ghost use Rattle.format.specs.Count.{scmp};
 ghost use Rattle.format.specs.Crc.{crc};
 ghost use Rattle.format.specs.Pair.{pairSwapped, pairNull, pairCmp, pairSync};
 ghost use Rattle.format.specs.Tag.{tagValid, tagType1, tagType2, tagType3, tagChunk, tagSplice, tagId, tagSize, tagDelete, tagLength, mkTag, mkTagIf};
-ghost use Rattle.answers.specs.Values.{wordOut};
-use answers::Value;
-use answers::altered_out;
-use answers::flag;
-use answers::word_out;
+ghost use Rattle.lanolin_answers.specs.Values.{wordOut};
 use format::LfsPair;
+use lanolin_answers::Value;
+use lanolin_answers::altered_out;
+use lanolin_answers::flag;
+use lanolin_answers::word_out;
 
 // ---- the checksum
 

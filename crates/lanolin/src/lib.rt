@@ -1,13 +1,13 @@
 // The C-callable layer: each public call on numbers, slices and one plain struct by value, under a flat name that begins `lanolin_`
 // (docs/DECISIONS.md has the shapes). It is thin: no logic of its own, no `requires`. Results are document 01's numbers: 0, or the refusal.
 ghost use mathlib.Core.Path.{_≡_};
-ghost use Rattle.answers.specs.Values.{committedOut, storedOut};
+ghost use Rattle.lanolin_answers.specs.Values.{committedOut, storedOut};
 ghost use Rattle.format.specs.Writer.{unlimited, commitImages, commitOf, commitStoresOf};
 ghost use Rattle.format.specs.Stopped.{CommitStopped};
-use answers::CommittedOut;
-use answers::StoredOut;
 use format::Entry;
 use format::Geometry;
+use lanolin_answers::CommittedOut;
+use lanolin_answers::StoredOut;
 
 // Tags, the checksum, small arithmetic, words and pairs: on numbers and slices.
 pub mod leaves;
@@ -37,7 +37,7 @@ pub extern "C" fn lanolin_commit(
     ensures { λ r. ⌜ (r ≡ committedOut seed (commitOf g (now (b0 .entry)) (now (b1 .entry)) n0 n1 «block_count» seed (now (entries .entry)) (now (dat .entry)))) × (now (b0 .exit) ≡ commitImages g (now (b0 .entry)) (now (b1 .entry)) n0 n1 «block_count» seed (now (entries .entry)) (now (dat .entry)) unlimited .b0) × (now (b1 .exit) ≡ commitImages g (now (b0 .entry)) (now (b1 .entry)) n0 n1 «block_count» seed (now (entries .entry)) (now (dat .entry)) unlimited .b1) ⌝ }
 {
     let c = commit::lfs_dir_commit(g, b0, b1, n0, n1, block_count, seed, entries, dat);
-    answers::committed_out(seed, c)
+    lanolin_answers::committed_out(seed, c)
 }
 
 #[no_mangle]
@@ -67,5 +67,5 @@ pub extern "C" fn lanolin_commit_stores(
         dat,
         stores,
     );
-    answers::stored_out(s)
+    lanolin_answers::stored_out(s)
 }

@@ -3,17 +3,17 @@ ghost use mathlib.Core.Path.{_≡_};
 ghost use Rattle.format.specs.Answer.{alteredResult};
 ghost use Rattle.format.specs.Fetch.{fetchOf};
 ghost use Rattle.format.specs.Lookup.{getsliceOf, getsliceBuffer, getOf, getBuffer, getinfoOf, getgstateOf, getgstateState};
-ghost use Rattle.answers.specs.Values.{fetchedOut, gotOut, infoOut};
-use answers::FetchedOut;
-use answers::InfoOut;
-use answers::Value;
-use answers::altered_out;
-use answers::fetched_out;
-use answers::got_out;
-use answers::info_out;
+ghost use Rattle.lanolin_answers.specs.Values.{fetchedOut, gotOut, infoOut};
 use format::Geometry;
 use format::LfsGstate;
 use format::LfsMdir;
+use lanolin_answers::FetchedOut;
+use lanolin_answers::InfoOut;
+use lanolin_answers::Value;
+use lanolin_answers::altered_out;
+use lanolin_answers::fetched_out;
+use lanolin_answers::got_out;
+use lanolin_answers::info_out;
 
 #[no_mangle]
 pub extern "C" fn lanolin_fetch(

@@ -3,12 +3,12 @@ ghost use mathlib.Core.Path.{_≡_};
 ghost use Rattle.format.specs.Word.{allOnes};
 ghost use Rattle.format.specs.Compaction.{compactImages, compactOf, compactStoresOf};
 ghost use Rattle.format.specs.Stopped.{CompactStopped};
-ghost use Rattle.answers.specs.Values.{committedOut, storedOut};
-use answers::CommittedOut;
-use answers::StoredOut;
-use answers::committed_out;
-use answers::stored_out;
+ghost use Rattle.lanolin_answers.specs.Values.{committedOut, storedOut};
 use format::Geometry;
+use lanolin_answers::CommittedOut;
+use lanolin_answers::StoredOut;
+use lanolin_answers::committed_out;
+use lanolin_answers::stored_out;
 
 #[no_mangle]
 pub extern "C" fn lanolin_compact(

@@ -7,8 +7,8 @@ use libc::STDIN_FILENO;
 // 4 * 32,768 + 2 * 1,023, and the record's lines have less than 128 bytes.
 fn show(pair: &[u8]) {
     let mut text = [0u8; 134_000];
-    let n = listing::lfs_dir_list(pair, &mut text);
-    print::whole(&text, n as usize);
+    let n = text_listing::lfs_dir_list(pair, &mut text);
+    text_print::whole(&text, n as usize);
 }
 
 fn main() {

@@ -21,7 +21,7 @@ use Rattle.format.specs.declared.Altered.the-variants as altered
 use Rattle.format.specs.declared.Informed.{Informed}
 use Rattle.lookup.specs.Info.{infoNamed}
 use Rattle.lookup.proofs.Records.{both, end-inside}
-use Rattle.search.proofs.Slices.{slice-length}
+use Rattle.lookup_search.proofs.Slices.{slice-length}
 use Rattle.lookup.proofs.Moves.{tag-made}
 
 -- ---- the front and the back of a blank buffer are blank

@@ -22,10 +22,10 @@ use Rattle.format.specs.declared.Got.the-variants as got
 use Rattle.format.specs.declared.Altered.{Altered}
 use Rattle.format.specs.declared.Altered.the-variants as altered
 use Rattle.format.proofs.Words.{mkTag-sum}
-use Rattle.search.specs.Hit.{foundAs}
-use Rattle.search.specs.declared.Hit.{Hit}
-use Rattle.search.specs.declared.Hit.the-variants.{At, Nothing}
-use Rattle.search.proofs.Slices.{of-nothing, of-hit}
+use Rattle.lookup_search.specs.Hit.{foundAs}
+use Rattle.lookup_search.specs.declared.Hit.{Hit}
+use Rattle.lookup_search.specs.declared.Hit.the-variants.{At, Nothing}
+use Rattle.lookup_search.proofs.Slices.{of-nothing, of-hit}
 
 -- the tag that LFS_MKTAG makes of fields that fit
 pub tag-made : (type id size r : ℕ) → type < 2 ^ 12 → id < 2 ^ 10 → size < 2 ^ 10 → r ≡ mkTag type id size → r ≡ tagOf type id size

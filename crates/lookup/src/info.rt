@@ -76,7 +76,7 @@ fn named(b: &[u8], dir: LfsMdir, gdisk: LfsGstate, id: u32, t: u32, name: [u8; 2
     let mut s = [0u8; 8];
     let gmask = tag::lfs_mktag(0x700, ROOT, 0);
     let gtag = tag::lfs_mktag(LFS_TYPE_STRUCT, id, 8);
-    match search::slice::read(b, dir, gdisk, gmask, gtag, 0, &mut s) {
+    match lookup_search::slice::read(b, dir, gdisk, gmask, gtag, 0, &mut s) {
         Got::Refused(r) => refused(r),
         Got::Found(u) => {
             let size = size_of(u, &s);
@@ -101,7 +101,7 @@ pub fn read(b: &[u8], dir: LfsMdir, gdisk: LfsGstate, name_max: u32, id: u32) ->
     let size = name_max as usize + 1;
     let gmask = tag::lfs_mktag(0x780, ROOT, 0);
     let gtag = tag::lfs_mktag(LFS_TYPE_NAME, id, name_max + 1);
-    match search::slice::read(b, dir, gdisk, gmask, gtag, 0, &mut name[..size]) {
+    match lookup_search::slice::read(b, dir, gdisk, gmask, gtag, 0, &mut name[..size]) {
         Got::Refused(r) => refused(r),
         Got::Found(t) => named(b, dir, gdisk, id, t, name),
     }

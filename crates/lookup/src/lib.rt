@@ -42,9 +42,9 @@ pub fn lfs_dir_getslice(
     }
     let pair = dir.pair;
     if pair.n0 == n0 {
-        search::slice::read(b0, dir, gdisk, gmask, gtag, goff, buffer)
+        lookup_search::slice::read(b0, dir, gdisk, gmask, gtag, goff, buffer)
     } else {
-        search::slice::read(b1, dir, gdisk, gmask, gtag, goff, buffer)
+        lookup_search::slice::read(b1, dir, gdisk, gmask, gtag, goff, buffer)
     }
 }
 

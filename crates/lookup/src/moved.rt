@@ -10,7 +10,7 @@ use format::Got;
 use format::LfsGstate;
 use format::LfsMdir;
 use format::LfsPair;
-use search::Hit;
+use lookup_search::Hit;
 
 const LFS_TYPE_MOVESTATE: u32 = 0x7ff;
 
@@ -34,7 +34,7 @@ fn xored_at(b: &[u8], t: u32, at: usize, diff: u32, gstate: LfsGstate) -> GotGst
     ensures { λ r. ⌜ (r .answer ≡ moveAnswer (now (b .entry)) (found t at diff)) × (r .gstate ≡ moveState (now (b .entry)) gstate (found t at diff)) ⌝ }
 {
     let mut d = [0u8; 12];
-    match search::slice::read_at(b, t, at, diff, 0, &mut d) {
+    match lookup_search::slice::read_at(b, t, at, diff, 0, &mut d) {
         Got::Refused(r) => GotGstate {
             answer: Altered::Refused(r),
             gstate: gstate,
@@ -56,7 +56,7 @@ pub fn read(b: &[u8], dir: LfsMdir, gdisk: LfsGstate, gstate: LfsGstate) -> GotG
 {
     let gmask = tag::lfs_mktag(0x7ff, 0, 0);
     let gtag = tag::lfs_mktag(LFS_TYPE_MOVESTATE, 0, 12);
-    match search::newest(b, dir, gdisk, gmask, gtag) {
+    match lookup_search::newest(b, dir, gdisk, gmask, gtag) {
         Hit::Nothing => GotGstate {
             answer: Altered::Done,
             gstate: gstate,

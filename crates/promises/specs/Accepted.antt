@@ -24,8 +24,8 @@ use Rattle.format.specs.declared.LfsMdir.{LfsMdir}
 use Rattle.format.specs.declared.Entry.{Entry}
 use Rattle.format.specs.declared.Refusal.the-variants.{Invalid, Irregular, NoSpace, Unclean, Coincidence}
 use Rattle.format.specs.declared.Fetched.the-variants as fetched
-use Rattle.theory.specs.Verdict.{past, found-then, good-then}
-use Rattle.theory.specs.Compaction as anew
+use Rattle.theory.specs.Commit.AcceptedVerdict.{past, found-then, good-then}
+use Rattle.theory.specs.Compact.AcceptedVerdict as anew
 
 -- ---- a commit
 module _ (g : Geometry) (b0 b1 : List ℕ) (n0 n1 count seed : ℕ) (entries : List Entry) (dat : List ℕ) where

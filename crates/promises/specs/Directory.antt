@@ -15,7 +15,7 @@ use Rattle.format.specs.Stopped.{Shows}
 use Rattle.format.specs.declared.Geometry.{Geometry}
 use Rattle.format.specs.declared.LfsMdir.{LfsMdir}
 use Rattle.format.specs.declared.Fetched.the-variants.{Found}
-use Rattle.theory.specs.Shown.{block-is, shows}
+use Rattle.theory.specs.Stopped.Shown.{block-is, shows}
 
 -- A pair that fetch finds, and whose log is regular, shows the machine of that log: the record's count is its number of slots, its tail is the
 -- record's, and every directory lookup with the record answers what the machine has.

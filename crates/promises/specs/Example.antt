@@ -34,7 +34,7 @@ use Rattle.format.specs.declared.LfsGstate.{LfsGstate}
 use Rattle.format.specs.declared.Entry.{Entry}
 use Rattle.format.specs.declared.Fetched.{Fetched}
 use Rattle.format.specs.declared.Fetched.the-variants as fetched
-use Rattle.theory.specs.Steps.{both-true}
+use Rattle.theory.specs.Walk.Step.{both-true}
 use Rattle.promises.specs.Stopped.{commit-stopped, compact-stopped}
 
 abbrev geometry : Geometry

@@ -16,8 +16,8 @@ use Rattle.format.specs.declared.Entry.{Entry}
 use Rattle.format.specs.declared.Refusal.{Refusal}
 use Rattle.format.specs.declared.Fetched.the-variants as fetched
 use Rattle.format.specs.declared.Committed.the-variants as committed
-use Rattle.theory.specs.StoppedCommit.{stopped-commit, commit-finished}
-use Rattle.theory.specs.StoppedCompaction.{block-bytes, stopped-compaction, compact-finished}
+use Rattle.theory.specs.Stopped.Commit.{stopped-commit, commit-finished}
+use Rattle.theory.specs.Stopped.Compaction.{block-bytes, stopped-compaction, compact-finished}
 
 module _ (g : Geometry) (b0 b1 : List ℕ) (n0 n1 count seed : ℕ) where
   -- ---- DEMAND 3

@@ -1,6 +1,6 @@
 // Text put into a lent buffer, byte by byte, as far as there is room: bytes, numbers in decimal and in hex, names with their escapes. Each function
 // takes the length of the text so far and answers the length with its own part, also where the buffer is full. The length wraps at 2^32; no
-// listing is so long (crate `listing` proves it).
+// listing is so long (crate `text_listing` proves it).
 ghost use mathlib.Core.Path.{_≡_};
 ghost use Rattle.format.specs.Listing.{decimalIn, decimal, hexDigit, hexByte, hexBytes, hexType, isPlain, nameByte, nameBytes, numberLine};
 ghost use Rattle.text.specs.Put.{text, putOf, putsOf};

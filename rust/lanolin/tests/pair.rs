@@ -10,8 +10,8 @@ use lanolin::{Entry, Fetched, Geometry, Gstate, Pair, PairMut, Record, Refusal, 
 const LISTING: &[u8; 256] = include_bytes!("../../../samples/q212.pair");
 /// A name alone, of id 1,023 or 1,022, so that the count is one more, and no
 /// create before it (`samples/make_edges.py`).
-const CROWDED: &[u8; 256] = include_bytes!("../../../crates/edges/data/count-1024");
-const IRREGULAR: &[u8; 256] = include_bytes!("../../../crates/edges/data/count-1023");
+const CROWDED: &[u8; 256] = include_bytes!("../../../crates/check_edges/data/count-1024");
+const IRREGULAR: &[u8; 256] = include_bytes!("../../../crates/check_edges/data/count-1023");
 const GEOMETRY: Geometry = Geometry {
     block_size: 128,
     prog_size: 16,

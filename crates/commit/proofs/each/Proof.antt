@@ -48,22 +48,22 @@ use denote.Triple.Entry.{onEntry}
 use denote.Triple.Spec.{Meets, tripleOf}
 use denote.Triple.Table.{entered, cited}
 use denote.Triple.Walked.{says, Stays, stay-none, stay-none-slice, stay-slice, walkOf, Walks, ends-at, walked, goes-none, goes-none-slice, goes-slice, walk-meets}
-use Rattle.writer.specs.State.{trio}
+use Rattle.commit_steps.specs.State.{trio}
 use Rattle.commit.specs.Passes.{eachOf}
 use Rattle.commit.specs.Passes.{noEntry, entryAt}
-use Rattle.writer.specs.State.{stepOf}
+use Rattle.commit_steps.specs.State.{stepOf}
 use Rattle.commit.proofs.Again.{LentAgain, lends-at, comes-at}
 use Rattle.commit.proofs.Rules.{each-start, each-step}
 use Rattle.format.specs.declared.Entry.{Entry}
 use Rattle.format.proofs.Entry as Entry-ty
 use Rattle.format.proofs.Entry.Laws as Entry-laws
-use Rattle.writer.specs.declared.State.{State}
-use Rattle.writer.proofs.State as State-ty
-use Rattle.writer.proofs.State.Laws as State-laws
-use Rattle.writer.proofs.step as step-fn
-use Rattle.writer.proofs.step.Symbol as step-def
-use Rattle.writer.proofs.step.Symbol.{name as #step}
-use Rattle.writer.proofs.step.Met as step-thm
+use Rattle.commit_steps.specs.declared.State.{State}
+use Rattle.commit_steps.proofs.State as State-ty
+use Rattle.commit_steps.proofs.State.Laws as State-laws
+use Rattle.commit_steps.proofs.step as step-fn
+use Rattle.commit_steps.proofs.step.Symbol as step-def
+use Rattle.commit_steps.proofs.step.Symbol.{name as #step}
+use Rattle.commit_steps.proofs.step.Met as step-thm
 use Rattle.commit.proofs.each.Key.{name as #self}
 use Rattle.commit.proofs.each as f
 use Rattle.commit.proofs.each.Statement as stated
@@ -360,4 +360,4 @@ each-spec 𝓤 H 𝓜 𝓖 𝓡 =
     entered 𝓤 H (tripleOf 𝓤 H (𝓖 .A) f.signature (f.spec 𝓤 H (𝓖 .A) (𝓜 .mem) (𝓡 .run)))
     (tables 𝓤 H 𝓜 𝓡 code.env .C) (tables 𝓤 H 𝓜 𝓡 code.env .Λ) #self code.function (code.unfolded 𝓤 H 𝓜 𝓡)
     (meets 𝓤 H (𝓖 .A) (givenOf 𝓤 H 𝓜 𝓖) (𝓜 .mem) (𝓡 .run) (tablesOf 𝓤 H 𝓜 (tables 𝓤 H 𝓜 𝓡 code.env))
-    (cited 𝓤 H (K-step 𝓤 H (𝓖 .A) (givenOf 𝓤 H 𝓜 𝓖) (𝓜 .mem) (𝓡 .run)) 𝓜 𝓡 code.env #step step-def.routine code.calls-writer·step (step-thm.met 𝓤 H 𝓜 𝓖 𝓡)))
+    (cited 𝓤 H (K-step 𝓤 H (𝓖 .A) (givenOf 𝓤 H 𝓜 𝓖) (𝓜 .mem) (𝓡 .run)) 𝓜 𝓡 code.env #step step-def.routine code.calls-commit_steps·step (step-thm.met 𝓤 H 𝓜 𝓖 𝓡)))

@@ -41,9 +41,9 @@ use denote.Triple.Spec.{Meets, tripleOf}
 use denote.Triple.Table.{entered, cited}
 use denote.Triple.Walked.{says, Stays, stay-none, stay-none-slice, stay-slice, walkOf, Walks, ends-at, walked, goes-none, goes-none-slice, goes-slice, walk-meets}
 use Rattle.format.specs.Writer.{unlimited, commitImages, commitOf}
-use Rattle.writer.specs.State.{trio}
+use Rattle.commit_steps.specs.State.{trio}
 use Rattle.commit.specs.Passes.{ranOf}
-use Rattle.writer.specs.State.{answeredOf}
+use Rattle.commit_steps.specs.State.{answeredOf}
 use Rattle.format.specs.Fetch.{fetchOf}
 use Rattle.commit.proofs.Again.{LentAgain, lends-at, comes-at, LentShared, shares-at, unshared-at}
 use Rattle.commit.proofs.Rules.{commit-glue}
@@ -56,21 +56,21 @@ use Rattle.format.proofs.Entry.Laws as Entry-laws
 use Rattle.format.specs.declared.Geometry.{Geometry}
 use Rattle.format.proofs.Geometry as Geometry-ty
 use Rattle.format.proofs.Geometry.Laws as Geometry-laws
-use Rattle.writer.specs.declared.State.{State}
-use Rattle.writer.proofs.State as State-ty
-use Rattle.writer.proofs.State.Laws as State-laws
-use Rattle.writer.proofs.unlimited as unlimited-fn
-use Rattle.writer.proofs.unlimited.Symbol as unlimited-def
-use Rattle.writer.proofs.unlimited.Symbol.{name as #unlimited}
-use Rattle.writer.proofs.unlimited.Met as unlimited-thm
+use Rattle.commit_steps.specs.declared.State.{State}
+use Rattle.commit_steps.proofs.State as State-ty
+use Rattle.commit_steps.proofs.State.Laws as State-laws
+use Rattle.commit_steps.proofs.unlimited as unlimited-fn
+use Rattle.commit_steps.proofs.unlimited.Symbol as unlimited-def
+use Rattle.commit_steps.proofs.unlimited.Symbol.{name as #unlimited}
+use Rattle.commit_steps.proofs.unlimited.Met as unlimited-thm
 use Rattle.commit.proofs.run as run-fn
 use Rattle.commit.proofs.run.Symbol as run-def
 use Rattle.commit.proofs.run.Symbol.{name as #run}
 use Rattle.commit.proofs.run.Met as run-thm
-use Rattle.writer.proofs.answer as answer-fn
-use Rattle.writer.proofs.answer.Symbol as answer-def
-use Rattle.writer.proofs.answer.Symbol.{name as #answer}
-use Rattle.writer.proofs.answer.Met as answer-thm
+use Rattle.commit_steps.proofs.answer as answer-fn
+use Rattle.commit_steps.proofs.answer.Symbol as answer-def
+use Rattle.commit_steps.proofs.answer.Symbol.{name as #answer}
+use Rattle.commit_steps.proofs.answer.Met as answer-thm
 use Rattle.commit.proofs.lfs_dir_commit.Key.{name as #self}
 use Rattle.commit.proofs.lfs_dir_commit as f
 use Rattle.commit.proofs.lfs_dir_commit.Statement as stated
@@ -342,6 +342,6 @@ lfs-dir-commit-spec 𝓤 H 𝓜 𝓖 𝓡 =
     entered 𝓤 H (tripleOf 𝓤 H (𝓖 .A) f.signature (f.spec 𝓤 H (𝓖 .A) (𝓜 .mem) (𝓡 .run)))
     (tables 𝓤 H 𝓜 𝓡 code.env .C) (tables 𝓤 H 𝓜 𝓡 code.env .Λ) #self code.function (code.unfolded 𝓤 H 𝓜 𝓡)
     (meets 𝓤 H (𝓖 .A) (givenOf 𝓤 H 𝓜 𝓖) (𝓜 .mem) (𝓡 .run) (tablesOf 𝓤 H 𝓜 (tables 𝓤 H 𝓜 𝓡 code.env))
-    (cited 𝓤 H (K-unlimited 𝓤 H (𝓖 .A) (givenOf 𝓤 H 𝓜 𝓖) (𝓜 .mem) (𝓡 .run)) 𝓜 𝓡 code.env #unlimited unlimited-def.routine code.calls-writer·unlimited (unlimited-thm.met 𝓤 H 𝓜 𝓖 𝓡))
+    (cited 𝓤 H (K-unlimited 𝓤 H (𝓖 .A) (givenOf 𝓤 H 𝓜 𝓖) (𝓜 .mem) (𝓡 .run)) 𝓜 𝓡 code.env #unlimited unlimited-def.routine code.calls-commit_steps·unlimited (unlimited-thm.met 𝓤 H 𝓜 𝓖 𝓡))
     (cited 𝓤 H (K-run 𝓤 H (𝓖 .A) (givenOf 𝓤 H 𝓜 𝓖) (𝓜 .mem) (𝓡 .run)) 𝓜 𝓡 code.env #run run-def.routine code.calls-commit·run (run-thm.met 𝓤 H 𝓜 𝓖 𝓡))
-    (cited 𝓤 H (K-answer 𝓤 H (𝓖 .A) (givenOf 𝓤 H 𝓜 𝓖) (𝓜 .mem) (𝓡 .run)) 𝓜 𝓡 code.env #answer answer-def.routine code.calls-writer·answer (answer-thm.met 𝓤 H 𝓜 𝓖 𝓡)))
+    (cited 𝓤 H (K-answer 𝓤 H (𝓖 .A) (givenOf 𝓤 H 𝓜 𝓖) (𝓜 .mem) (𝓡 .run)) 𝓜 𝓡 code.env #answer answer-def.routine code.calls-commit_steps·answer (answer-thm.met 𝓤 H 𝓜 𝓖 𝓡)))

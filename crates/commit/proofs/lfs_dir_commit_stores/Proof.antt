@@ -50,9 +50,9 @@ use denote.Triple.Table.{entered, cited}
 use denote.Triple.Walked.{says, needs, Stays, stay-none, stay-none-slice, stay-slice, walkOf, Walks, ends-at, walked, goes-none, goes-none-slice, goes-slice, walk-meets}
 use Rattle.format.specs.Writer.{unlimited, commitImages, commitOf, commitStoresOf}
 use Rattle.format.specs.Stopped.{CommitStopped}
-use Rattle.writer.specs.State.{trio}
+use Rattle.commit_steps.specs.State.{trio}
 use Rattle.commit.specs.Passes.{eachOf, ranOf}
-use Rattle.writer.specs.State.{stepOf, begunOf, decidedOf, sealedOf, answeredOf, madeOf}
+use Rattle.commit_steps.specs.State.{stepOf, begunOf, decidedOf, sealedOf, answeredOf, madeOf}
 use Rattle.commit.proofs.Again.{LentAgain, lends-at, comes-at, LentShared, shares-at, unshared-at}
 use Rattle.commit.proofs.Rules.{stores-glue}
 use Rattle.format.specs.declared.Entry.{Entry}
@@ -61,9 +61,9 @@ use Rattle.format.proofs.Entry.Laws as Entry-laws
 use Rattle.format.specs.declared.Geometry.{Geometry}
 use Rattle.format.proofs.Geometry as Geometry-ty
 use Rattle.format.proofs.Geometry.Laws as Geometry-laws
-use Rattle.writer.specs.declared.State.{State}
-use Rattle.writer.proofs.State as State-ty
-use Rattle.writer.proofs.State.Laws as State-laws
+use Rattle.commit_steps.specs.declared.State.{State}
+use Rattle.commit_steps.proofs.State as State-ty
+use Rattle.commit_steps.proofs.State.Laws as State-laws
 use Rattle.format.specs.declared.Stored.{Stored}
 use Rattle.format.proofs.Stored as Stored-ty
 use Rattle.format.proofs.Stored.Laws as Stored-laws
@@ -71,10 +71,10 @@ use Rattle.commit.proofs.run as run-fn
 use Rattle.commit.proofs.run.Symbol as run-def
 use Rattle.commit.proofs.run.Symbol.{name as #run}
 use Rattle.commit.proofs.run.Met as run-thm
-use Rattle.writer.proofs.made as made-fn
-use Rattle.writer.proofs.made.Symbol as made-def
-use Rattle.writer.proofs.made.Symbol.{name as #made}
-use Rattle.writer.proofs.made.Met as made-thm
+use Rattle.commit_steps.proofs.made as made-fn
+use Rattle.commit_steps.proofs.made.Symbol as made-def
+use Rattle.commit_steps.proofs.made.Symbol.{name as #made}
+use Rattle.commit_steps.proofs.made.Met as made-thm
 use Rattle.commit.proofs.lfs_dir_commit_stores.Key.{name as #self}
 use Rattle.commit.proofs.lfs_dir_commit_stores as f
 use Rattle.commit.proofs.lfs_dir_commit_stores.Statement as stated
@@ -318,4 +318,4 @@ lfs-dir-commit-stores-spec 𝓤 H 𝓜 𝓖 𝓡 =
     (tables 𝓤 H 𝓜 𝓡 code.env .C) (tables 𝓤 H 𝓜 𝓡 code.env .Λ) #self code.function (code.unfolded 𝓤 H 𝓜 𝓡)
     (meets 𝓤 H (𝓖 .A) (givenOf 𝓤 H 𝓜 𝓖) (𝓜 .mem) (𝓡 .run) (tablesOf 𝓤 H 𝓜 (tables 𝓤 H 𝓜 𝓡 code.env))
     (cited 𝓤 H (K-run 𝓤 H (𝓖 .A) (givenOf 𝓤 H 𝓜 𝓖) (𝓜 .mem) (𝓡 .run)) 𝓜 𝓡 code.env #run run-def.routine code.calls-commit·run (run-thm.met 𝓤 H 𝓜 𝓖 𝓡))
-    (cited 𝓤 H (K-made 𝓤 H (𝓖 .A) (givenOf 𝓤 H 𝓜 𝓖) (𝓜 .mem) (𝓡 .run)) 𝓜 𝓡 code.env #made made-def.routine code.calls-writer·made (made-thm.met 𝓤 H 𝓜 𝓖 𝓡)))
+    (cited 𝓤 H (K-made 𝓤 H (𝓖 .A) (givenOf 𝓤 H 𝓜 𝓖) (𝓜 .mem) (𝓡 .run)) 𝓜 𝓡 code.env #made made-def.routine code.calls-commit_steps·made (made-thm.met 𝓤 H 𝓜 𝓖 𝓡)))

@@ -40,9 +40,9 @@ use denote.Triple.Entry.{onEntry}
 use denote.Triple.Spec.{Meets, tripleOf}
 use denote.Triple.Table.{entered, cited}
 use denote.Triple.Walked.{says, Stays, stay-none, stay-none-slice, stay-slice, walkOf, Walks, ends-at, walked, goes-none, goes-none-slice, goes-slice, walk-meets}
-use Rattle.writer.specs.State.{trio}
+use Rattle.commit_steps.specs.State.{trio}
 use Rattle.commit.specs.Passes.{eachOf, ranOf}
-use Rattle.writer.specs.State.{begunOf, decidedOf, sealedOf}
+use Rattle.commit_steps.specs.State.{begunOf, decidedOf, sealedOf}
 use Rattle.commit.proofs.Again.{LentAgain, lends-at, comes-at, LentShared, shares-at, unshared-at}
 use Rattle.commit.proofs.Rules.{run-glue}
 use Rattle.format.specs.declared.Entry.{Entry}
@@ -51,25 +51,25 @@ use Rattle.format.proofs.Entry.Laws as Entry-laws
 use Rattle.format.specs.declared.Geometry.{Geometry}
 use Rattle.format.proofs.Geometry as Geometry-ty
 use Rattle.format.proofs.Geometry.Laws as Geometry-laws
-use Rattle.writer.specs.declared.State.{State}
-use Rattle.writer.proofs.State as State-ty
-use Rattle.writer.proofs.State.Laws as State-laws
-use Rattle.writer.proofs.begin as begin-fn
-use Rattle.writer.proofs.begin.Symbol as begin-def
-use Rattle.writer.proofs.begin.Symbol.{name as #begin}
-use Rattle.writer.proofs.begin.Met as begin-thm
+use Rattle.commit_steps.specs.declared.State.{State}
+use Rattle.commit_steps.proofs.State as State-ty
+use Rattle.commit_steps.proofs.State.Laws as State-laws
+use Rattle.commit_steps.proofs.begin as begin-fn
+use Rattle.commit_steps.proofs.begin.Symbol as begin-def
+use Rattle.commit_steps.proofs.begin.Symbol.{name as #begin}
+use Rattle.commit_steps.proofs.begin.Met as begin-thm
 use Rattle.commit.proofs.each as each-fn
 use Rattle.commit.proofs.each.Symbol as each-def
 use Rattle.commit.proofs.each.Symbol.{name as #each}
 use Rattle.commit.proofs.each.Met as each-thm
-use Rattle.writer.proofs.decide as decide-fn
-use Rattle.writer.proofs.decide.Symbol as decide-def
-use Rattle.writer.proofs.decide.Symbol.{name as #decide}
-use Rattle.writer.proofs.decide.Met as decide-thm
-use Rattle.writer.proofs.seal as seal-fn
-use Rattle.writer.proofs.seal.Symbol as seal-def
-use Rattle.writer.proofs.seal.Symbol.{name as #seal}
-use Rattle.writer.proofs.seal.Met as seal-thm
+use Rattle.commit_steps.proofs.decide as decide-fn
+use Rattle.commit_steps.proofs.decide.Symbol as decide-def
+use Rattle.commit_steps.proofs.decide.Symbol.{name as #decide}
+use Rattle.commit_steps.proofs.decide.Met as decide-thm
+use Rattle.commit_steps.proofs.seal as seal-fn
+use Rattle.commit_steps.proofs.seal.Symbol as seal-def
+use Rattle.commit_steps.proofs.seal.Symbol.{name as #seal}
+use Rattle.commit_steps.proofs.seal.Met as seal-thm
 use Rattle.commit.proofs.run.Key.{name as #self}
 use Rattle.commit.proofs.run as f
 use Rattle.commit.proofs.run.Statement as stated
@@ -401,7 +401,7 @@ run-spec 𝓤 H 𝓜 𝓖 𝓡 =
     entered 𝓤 H (tripleOf 𝓤 H (𝓖 .A) f.signature (f.spec 𝓤 H (𝓖 .A) (𝓜 .mem) (𝓡 .run)))
     (tables 𝓤 H 𝓜 𝓡 code.env .C) (tables 𝓤 H 𝓜 𝓡 code.env .Λ) #self code.function (code.unfolded 𝓤 H 𝓜 𝓡)
     (meets 𝓤 H (𝓖 .A) (givenOf 𝓤 H 𝓜 𝓖) (𝓜 .mem) (𝓡 .run) (tablesOf 𝓤 H 𝓜 (tables 𝓤 H 𝓜 𝓡 code.env))
-    (cited 𝓤 H (K-begin 𝓤 H (𝓖 .A) (givenOf 𝓤 H 𝓜 𝓖) (𝓜 .mem) (𝓡 .run)) 𝓜 𝓡 code.env #begin begin-def.routine code.calls-writer·begin (begin-thm.met 𝓤 H 𝓜 𝓖 𝓡))
+    (cited 𝓤 H (K-begin 𝓤 H (𝓖 .A) (givenOf 𝓤 H 𝓜 𝓖) (𝓜 .mem) (𝓡 .run)) 𝓜 𝓡 code.env #begin begin-def.routine code.calls-commit_steps·begin (begin-thm.met 𝓤 H 𝓜 𝓖 𝓡))
     (cited 𝓤 H (K-each 𝓤 H (𝓖 .A) (givenOf 𝓤 H 𝓜 𝓖) (𝓜 .mem) (𝓡 .run)) 𝓜 𝓡 code.env #each each-def.routine code.calls-commit·each (each-thm.met 𝓤 H 𝓜 𝓖 𝓡))
-    (cited 𝓤 H (K-decide 𝓤 H (𝓖 .A) (givenOf 𝓤 H 𝓜 𝓖) (𝓜 .mem) (𝓡 .run)) 𝓜 𝓡 code.env #decide decide-def.routine code.calls-writer·decide (decide-thm.met 𝓤 H 𝓜 𝓖 𝓡))
-    (cited 𝓤 H (K-seal 𝓤 H (𝓖 .A) (givenOf 𝓤 H 𝓜 𝓖) (𝓜 .mem) (𝓡 .run)) 𝓜 𝓡 code.env #seal seal-def.routine code.calls-writer·seal (seal-thm.met 𝓤 H 𝓜 𝓖 𝓡)))
+    (cited 𝓤 H (K-decide 𝓤 H (𝓖 .A) (givenOf 𝓤 H 𝓜 𝓖) (𝓜 .mem) (𝓡 .run)) 𝓜 𝓡 code.env #decide decide-def.routine code.calls-commit_steps·decide (decide-thm.met 𝓤 H 𝓜 𝓖 𝓡))
+    (cited 𝓤 H (K-seal 𝓤 H (𝓖 .A) (givenOf 𝓤 H 𝓜 𝓖) (𝓜 .mem) (𝓡 .run)) 𝓜 𝓡 code.env #seal seal-def.routine code.calls-commit_steps·seal (seal-thm.met 𝓤 H 𝓜 𝓖 𝓡)))

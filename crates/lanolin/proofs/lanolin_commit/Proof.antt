@@ -40,16 +40,16 @@ use denote.Triple.Entry.{onEntry}
 use denote.Triple.Spec.{Meets, tripleOf}
 use denote.Triple.Table.{entered, cited}
 use denote.Triple.Walked.{says, Stays, stay-none, stay-none-slice, stay-slice, walkOf, Walks, ends-at, walked, goes-none, goes-none-slice, goes-slice, walk-meets}
-use Rattle.answers.specs.Values.{committedOut}
+use Rattle.lanolin_answers.specs.Values.{committedOut}
 use Rattle.format.specs.Writer.{unlimited, commitImages, commitOf}
 use Rattle.commit.proofs.Again.{LentAgain, lends-at, comes-at}
 use Rattle.lanolin.proofs.Rules.{commit-glue}
 use Rattle.format.specs.declared.Committed.{Committed}
 use Rattle.format.proofs.Committed as Committed-ty
 use Rattle.format.proofs.Committed.Laws as Committed-laws
-use Rattle.answers.specs.declared.CommittedOut.{CommittedOut}
-use Rattle.answers.proofs.CommittedOut as CommittedOut-ty
-use Rattle.answers.proofs.CommittedOut.Laws as CommittedOut-laws
+use Rattle.lanolin_answers.specs.declared.CommittedOut.{CommittedOut}
+use Rattle.lanolin_answers.proofs.CommittedOut as CommittedOut-ty
+use Rattle.lanolin_answers.proofs.CommittedOut.Laws as CommittedOut-laws
 use Rattle.format.specs.declared.Entry.{Entry}
 use Rattle.format.proofs.Entry as Entry-ty
 use Rattle.format.proofs.Entry.Laws as Entry-laws
@@ -60,10 +60,10 @@ use Rattle.commit.proofs.lfs_dir_commit as lfs_dir_commit-fn
 use Rattle.commit.proofs.lfs_dir_commit.Symbol as lfs_dir_commit-def
 use Rattle.commit.proofs.lfs_dir_commit.Symbol.{name as #lfs_dir_commit}
 use Rattle.commit.proofs.lfs_dir_commit.Met as lfs_dir_commit-thm
-use Rattle.answers.proofs.committed_out as committed_out-fn
-use Rattle.answers.proofs.committed_out.Symbol as committed_out-def
-use Rattle.answers.proofs.committed_out.Symbol.{name as #committed_out}
-use Rattle.answers.proofs.committed_out.Met as committed_out-thm
+use Rattle.lanolin_answers.proofs.committed_out as committed_out-fn
+use Rattle.lanolin_answers.proofs.committed_out.Symbol as committed_out-def
+use Rattle.lanolin_answers.proofs.committed_out.Symbol.{name as #committed_out}
+use Rattle.lanolin_answers.proofs.committed_out.Met as committed_out-thm
 use Rattle.lanolin.proofs.lanolin_commit.Key.{name as #self}
 use Rattle.lanolin.proofs.lanolin_commit as f
 use Rattle.lanolin.proofs.lanolin_commit.Statement as stated
@@ -307,4 +307,4 @@ lanolin-commit-spec 𝓤 H 𝓜 𝓖 𝓡 =
     (tables 𝓤 H 𝓜 𝓡 code.env .C) (tables 𝓤 H 𝓜 𝓡 code.env .Λ) #self code.function (code.unfolded 𝓤 H 𝓜 𝓡)
     (meets 𝓤 H (𝓖 .A) (givenOf 𝓤 H 𝓜 𝓖) (𝓜 .mem) (𝓡 .run) (tablesOf 𝓤 H 𝓜 (tables 𝓤 H 𝓜 𝓡 code.env))
     (cited 𝓤 H (K-lfs_dir_commit 𝓤 H (𝓖 .A) (givenOf 𝓤 H 𝓜 𝓖) (𝓜 .mem) (𝓡 .run)) 𝓜 𝓡 code.env #lfs_dir_commit lfs_dir_commit-def.routine code.calls-commit·lfs-dir-commit (lfs_dir_commit-thm.met 𝓤 H 𝓜 𝓖 𝓡))
-    (cited 𝓤 H (K-committed_out 𝓤 H (𝓖 .A) (givenOf 𝓤 H 𝓜 𝓖) (𝓜 .mem) (𝓡 .run)) 𝓜 𝓡 code.env #committed_out committed_out-def.routine code.calls-answers·committed-out (committed_out-thm.met 𝓤 H 𝓜 𝓖 𝓡)))
+    (cited 𝓤 H (K-committed_out 𝓤 H (𝓖 .A) (givenOf 𝓤 H 𝓜 𝓖) (𝓜 .mem) (𝓡 .run)) 𝓜 𝓡 code.env #committed_out committed_out-def.routine code.calls-lanolin_answers·committed-out (committed_out-thm.met 𝓤 H 𝓜 𝓖 𝓡)))

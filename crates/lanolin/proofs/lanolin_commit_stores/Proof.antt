@@ -48,7 +48,7 @@ use denote.Triple.Entry.{onEntry}
 use denote.Triple.Spec.{Meets, tripleOf}
 use denote.Triple.Table.{entered, cited}
 use denote.Triple.Walked.{says, needs, Stays, stay-none, stay-none-slice, stay-slice, walkOf, Walks, ends-at, walked, goes-none, goes-none-slice, goes-slice, walk-meets}
-use Rattle.answers.specs.Values.{committedOut, storedOut}
+use Rattle.lanolin_answers.specs.Values.{committedOut, storedOut}
 use Rattle.format.specs.Writer.{unlimited, commitImages, commitOf, commitStoresOf}
 use Rattle.format.specs.Stopped.{CommitStopped}
 use Rattle.commit.proofs.Again.{LentAgain, lends-at, comes-at, LentShared, shares-at, unshared-at}
@@ -62,17 +62,17 @@ use Rattle.format.proofs.Geometry.Laws as Geometry-laws
 use Rattle.format.specs.declared.Stored.{Stored}
 use Rattle.format.proofs.Stored as Stored-ty
 use Rattle.format.proofs.Stored.Laws as Stored-laws
-use Rattle.answers.specs.declared.StoredOut.{StoredOut}
-use Rattle.answers.proofs.StoredOut as StoredOut-ty
-use Rattle.answers.proofs.StoredOut.Laws as StoredOut-laws
+use Rattle.lanolin_answers.specs.declared.StoredOut.{StoredOut}
+use Rattle.lanolin_answers.proofs.StoredOut as StoredOut-ty
+use Rattle.lanolin_answers.proofs.StoredOut.Laws as StoredOut-laws
 use Rattle.commit.proofs.lfs_dir_commit_stores as lfs_dir_commit_stores-fn
 use Rattle.commit.proofs.lfs_dir_commit_stores.Symbol as lfs_dir_commit_stores-def
 use Rattle.commit.proofs.lfs_dir_commit_stores.Symbol.{name as #lfs_dir_commit_stores}
 use Rattle.commit.proofs.lfs_dir_commit_stores.Met as lfs_dir_commit_stores-thm
-use Rattle.answers.proofs.stored_out as stored_out-fn
-use Rattle.answers.proofs.stored_out.Symbol as stored_out-def
-use Rattle.answers.proofs.stored_out.Symbol.{name as #stored_out}
-use Rattle.answers.proofs.stored_out.Met as stored_out-thm
+use Rattle.lanolin_answers.proofs.stored_out as stored_out-fn
+use Rattle.lanolin_answers.proofs.stored_out.Symbol as stored_out-def
+use Rattle.lanolin_answers.proofs.stored_out.Symbol.{name as #stored_out}
+use Rattle.lanolin_answers.proofs.stored_out.Met as stored_out-thm
 use Rattle.lanolin.proofs.lanolin_commit_stores.Key.{name as #self}
 use Rattle.lanolin.proofs.lanolin_commit_stores as f
 use Rattle.lanolin.proofs.lanolin_commit_stores.Statement as stated
@@ -316,4 +316,4 @@ lanolin-commit-stores-spec 𝓤 H 𝓜 𝓖 𝓡 =
     (tables 𝓤 H 𝓜 𝓡 code.env .C) (tables 𝓤 H 𝓜 𝓡 code.env .Λ) #self code.function (code.unfolded 𝓤 H 𝓜 𝓡)
     (meets 𝓤 H (𝓖 .A) (givenOf 𝓤 H 𝓜 𝓖) (𝓜 .mem) (𝓡 .run) (tablesOf 𝓤 H 𝓜 (tables 𝓤 H 𝓜 𝓡 code.env))
     (cited 𝓤 H (K-lfs_dir_commit_stores 𝓤 H (𝓖 .A) (givenOf 𝓤 H 𝓜 𝓖) (𝓜 .mem) (𝓡 .run)) 𝓜 𝓡 code.env #lfs_dir_commit_stores lfs_dir_commit_stores-def.routine code.calls-commit·lfs-dir-commit-stores (lfs_dir_commit_stores-thm.met 𝓤 H 𝓜 𝓖 𝓡))
-    (cited 𝓤 H (K-stored_out 𝓤 H (𝓖 .A) (givenOf 𝓤 H 𝓜 𝓖) (𝓜 .mem) (𝓡 .run)) 𝓜 𝓡 code.env #stored_out stored_out-def.routine code.calls-answers·stored-out (stored_out-thm.met 𝓤 H 𝓜 𝓖 𝓡)))
+    (cited 𝓤 H (K-stored_out 𝓤 H (𝓖 .A) (givenOf 𝓤 H 𝓜 𝓖) (𝓜 .mem) (𝓡 .run)) 𝓜 𝓡 code.env #stored_out stored_out-def.routine code.calls-lanolin_answers·stored-out (stored_out-thm.met 𝓤 H 𝓜 𝓖 𝓡)))

@@ -1,7 +1,7 @@
 -- `lanolin::leaves::lanolin_alignup` meets its contract: what the call below ensures, handed out. Assumes nothing.
 use mathlib.Core.Path.{ap, _∙_}
 use borrow.Author.Needs.{needs}
-use Rattle.answers.specs.Values.{wordOut}
+use Rattle.lanolin_answers.specs.Values.{wordOut}
 use Rattle.lanolin.proofs.leaves.lanolin_alignup.Statement.{statement}
 use Rattle.lanolin.proofs.leaves.lanolin_alignup.Tie as tie
 

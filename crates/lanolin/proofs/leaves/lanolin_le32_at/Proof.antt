@@ -1,7 +1,7 @@
 -- `lanolin::leaves::lanolin_le32_at` meets its contract: what the call below ensures, handed out. Assumes nothing.
 use mathlib.Core.Path.{ap, _∙_}
 use borrow.Author.Needs.{needs}
-use Rattle.answers.specs.Values.{wordOut}
+use Rattle.lanolin_answers.specs.Values.{wordOut}
 use Rattle.lanolin.proofs.leaves.lanolin_le32_at.Statement.{statement}
 use Rattle.lanolin.proofs.leaves.lanolin_le32_at.Tie as tie
 

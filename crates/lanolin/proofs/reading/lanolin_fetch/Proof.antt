@@ -1,7 +1,7 @@
 -- `lanolin::reading::lanolin_fetch` meets its contract: what the call below ensures, handed out. Assumes nothing.
 use mathlib.Core.Path.{ap, _∙_}
 use borrow.Author.Needs.{needs}
-use Rattle.answers.specs.Values.{fetchedOut}
+use Rattle.lanolin_answers.specs.Values.{fetchedOut}
 use Rattle.lanolin.proofs.reading.lanolin_fetch.Statement.{statement}
 use Rattle.lanolin.proofs.reading.lanolin_fetch.Tie as tie
 

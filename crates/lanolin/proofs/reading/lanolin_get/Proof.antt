@@ -1,7 +1,7 @@
 -- `lanolin::reading::lanolin_get` meets its contract: what the call below ensures, handed out. Assumes nothing.
 use mathlib.Core.Path.{ap, _∙_}
 use borrow.Author.Needs.{needs}
-use Rattle.answers.specs.Values.{gotOut}
+use Rattle.lanolin_answers.specs.Values.{gotOut}
 use Rattle.lanolin.proofs.reading.lanolin_get.Statement.{statement}
 use Rattle.lanolin.proofs.reading.lanolin_get.Tie as tie
 

@@ -1,7 +1,7 @@
 -- `lanolin::reading::lanolin_getinfo` meets its contract: what the call below ensures, handed out. Assumes nothing.
 use mathlib.Core.Path.{ap, _∙_}
 use borrow.Author.Needs.{needs}
-use Rattle.answers.specs.Values.{infoOut}
+use Rattle.lanolin_answers.specs.Values.{infoOut}
 use Rattle.lanolin.proofs.reading.lanolin_getinfo.Statement.{statement}
 use Rattle.lanolin.proofs.reading.lanolin_getinfo.Tie as tie
 

@@ -1,7 +1,7 @@
 -- `lanolin::writing::lanolin_compact` meets its contract: what the call below ensures, handed out. Assumes nothing.
 use mathlib.Core.Path.{ap, _∙_}
 use borrow.Author.Needs.{needs}
-use Rattle.answers.specs.Values.{committedOut}
+use Rattle.lanolin_answers.specs.Values.{committedOut}
 use Rattle.lanolin.proofs.writing.lanolin_compact.Statement.{statement}
 use Rattle.lanolin.proofs.writing.lanolin_compact.Tie as tie
 

@@ -1,7 +1,7 @@
 -- `lanolin::writing::lanolin_compact_stores` meets its contract: what the call below ensures, handed out. Assumes nothing.
 use mathlib.Core.Path.{ap, _∙_}
 use borrow.Author.Needs.{needs}
-use Rattle.answers.specs.Values.{storedOut}
+use Rattle.lanolin_answers.specs.Values.{storedOut}
 use Rattle.lanolin.proofs.writing.lanolin_compact_stores.Statement.{statement}
 use Rattle.lanolin.proofs.writing.lanolin_compact_stores.Tie as tie
 

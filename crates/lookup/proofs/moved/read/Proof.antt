@@ -1,6 +1,6 @@
 -- `lookup::moved::read` meets its contract: what was found is what should be (`Moves.antt`). Assumes nothing.
 use native.Mathlib.Omega.{arith}
-use Rattle.search.proofs.Slices.{hit-inside}
+use Rattle.lookup_search.proofs.Slices.{hit-inside}
 use Rattle.lookup.proofs.Moves.{move-none, move-some}
 use borrow.Author.Needs.{needs}
 use Rattle.lookup.proofs.moved.read.Statement.{statement}

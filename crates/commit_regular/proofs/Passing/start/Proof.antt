@@ -1,0 +1,12 @@
+-- `regular::Passing::start` meets its contract. Assumes nothing.
+use mathlib.Core.Path.{refl}
+use Rattle.commit_regular.specs.Passing.{starts}
+use Rattle.commit_regular.proofs.Passing.start.Statement.{statement}
+use Rattle.commit_regular.proofs.Passing.start.Tie as tie
+
+returns : tie.Need-returns
+unfolding starts
+returns c = refl
+
+pub start-spec : {M : Type 1} → statement M
+start-spec = tie.close (tie.spec returns)

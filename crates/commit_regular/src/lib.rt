@@ -1,0 +1,106 @@
+// Whether the log of a block is regular: one walk over the block, the rules run against the count that the entries leave. What is not committed
+// does not count.
+ghost use mathlib.Core.Path.{_≡_};
+ghost use Prim.Native.Nat.{_≤_};
+ghost use lib.ListN.{length};
+ghost use Rattle.format.specs.Log.{log};
+ghost use Rattle.format.specs.Regular.{Regular};
+ghost use Rattle.commit_regular.specs.Passing.{starts, entering, checking, settles};
+ghost use Rattle.fetch_walk.specs.State.{from};
+use commit_rules::Ruled;
+use fetch_walk::cursor::Cursor;
+use fetch_walk::cursor::Seen;
+
+// The count behind what was met, whether all of it passed, and whether all up to the last check did.
+pub struct Passing {
+    pub count: u32,
+    pub good: bool,
+    pub taken: bool,
+}
+
+impl Passing {
+    // An empty log is regular.
+    fn start() -> Self
+        ensures { λ r. ⌜ r ≡ starts ⌝ }
+    {
+        Passing {
+            count: 0,
+            good: true,
+            taken: true,
+        }
+    }
+
+    // An entry, in a log.
+    fn entry(self, tag: u32) -> Self
+        ensures { λ r. ⌜ r ≡ entering tag self ⌝ }
+    {
+        if !self.good {
+            return self;
+        }
+        let id = tag::lfs_tag_id(tag) as u32;
+        match commit_rules::counted(
+            true,
+            tag::lfs_tag_type3(tag),
+            self.count,
+            id,
+            tag::lfs_tag_size(tag),
+        ) {
+            Ruled::Bad => Passing {
+                count: self.count,
+                good: false,
+                taken: self.taken,
+            },
+            Ruled::To(count) => Passing {
+                count,
+                good: true,
+                taken: self.taken,
+            },
+        }
+    }
+
+    // "every check tag's size is 4 to 1,022": what stands before this check is committed.
+    fn check(self, size: u32) -> Self
+        ensures { λ r. ⌜ r ≡ checking size self ⌝ }
+    {
+        let good = self.good & ((4 <= size) & (size <= 1022));
+        Passing {
+            count: self.count,
+            good,
+            taken: good,
+        }
+    }
+}
+
+// Whether the committed log of a block is regular.
+pub fn lfs_dir_regular(b: &[u8]) -> bool
+    requires { ⌜ 4 ≤ length (now b) ⌝ }
+    ensures { λ r. ⌜ r ≡ Regular (log (now (b .entry))) ⌝ }
+{
+    regular_on(b, Cursor::start(b), Passing::start())
+}
+
+// The walk from a cursor and what passed before it. A check's tag is the previous tag behind it, whose size no flip of bit 31 alters.
+fn regular_on(b: &[u8], at: Cursor, before: Passing) -> bool
+    ensures { λ r. ⌜ r ≡ settles before (from (now (b .entry)) at) ⌝ }
+{
+    let mut c = at;
+    let mut p = before;
+    loop {
+        match c.next(b) {
+            Seen::Entry(tag, behind) => {
+                p = p.entry(tag);
+                c = behind;
+            }
+            Seen::Check(_, behind) => {
+                p = p.check(tag::lfs_tag_size(behind.prev));
+                c = behind;
+            }
+            Seen::Invalid => {
+                return p.taken;
+            }
+            Seen::Past => {
+                return p.taken;
+            }
+        }
+    }
+}

@@ -1,0 +1,72 @@
+// The room that a commit is written to: where it ends, whether the room is clean, and whether the check tag's checksums coincide.
+ghost use mathlib.Core.Path.{_≡_};
+ghost use Prim.Native.Nat.{_≤_, _<_};
+ghost use lib.ListN.{drop};
+ghost use Rattle.format.specs.Commit.{checkTag};
+ghost use Rattle.format.specs.Stores.{allErased};
+ghost use Rattle.format.specs.Writer.{roundedEnd, checkSize, roomClean};
+ghost use Rattle.commit_room.specs.Tests.{Prog, meets};
+
+// Tag and checksum of a check.
+const CHECK_LENGTH: usize = 8;
+// "a check tag 0x500, id 1,023", of size 0.
+const LFS_CHECK_TAG: u32 = 0x500f_fc00;
+
+// Where a commit ends whose check tag stands at `at`: the next multiple of the program size behind tag and checksum.
+pub fn rounded_end(prog: u32, at: usize) -> usize
+    requires { ⌜ Prog prog at ⌝ }
+    ensures { λ r. ⌜ r ≡ roundedEnd prog at ⌝ }
+{
+    let unit = prog as usize;
+    let last = at + CHECK_LENGTH + (unit - 1);
+    last - last % unit
+}
+
+// The check tag: "Its size, 4 or more, is the least that ends on a multiple of the program size".
+pub fn check_tag(prog: u32, at: usize) -> u32
+    requires { ⌜ Prog prog at ⌝ }
+    ensures { λ r. ⌜ r ≡ checkTag (checkSize prog at) ⌝ }
+{
+    let size = rounded_end(prog, at) - (at + 4);
+    LFS_CHECK_TAG + (size as u32)
+}
+
+// "bytes 0xff from the old end to the block's end"
+fn all_erased(b: &[u8], end: usize) -> bool
+    ensures { λ r. ⌜ r ≡ allErased (drop end (now (b .entry))) ⌝ }
+{
+    let mut i = end;
+    while i < b.len() {
+        if b[i] != 0xff {
+            return false;
+        }
+        i += 1;
+    }
+    true
+}
+
+// "Append needs bytes 0xff from the old end to the block's end, an old end that is a multiple of the program size, and an end tag with bit 31
+// clear."
+pub fn clean(prog: u32, b: &[u8], end: usize, etag: u32) -> bool
+    requires { ⌜ 4 ≤ prog ⌝ }
+    ensures { λ r. ⌜ r ≡ roomClean prog (now (b .entry)) end etag ⌝ }
+{
+    let unit = prog as usize;
+    all_erased(b, end) & (end % unit == 0) & tag::lfs_tag_isvalid(etag)
+}
+
+// "put 1, 2 or 3 bytes of the check tag and fill its four with 0xff; if any of the three checksums is 0xffffffff, refuse." `word` is the tag as
+// it is stored, `sum` the checksum before it.
+pub fn coincides(sum: u32, word: u32) -> bool
+    ensures { λ r. ⌜ r ≡ meets sum word ⌝ }
+{
+    let a = (word / 0x100_0000) as u8;
+    let b = (word / 0x1_0000 % 0x100) as u8;
+    let c = (word / 0x100 % 0x100) as u8;
+    let one = [a, 0xff, 0xff, 0xff];
+    let two = [a, b, 0xff, 0xff];
+    let three = [a, b, c, 0xff];
+    (crc::lfs_crc(sum, &one) == 0xffff_ffff)
+        | (crc::lfs_crc(sum, &two) == 0xffff_ffff)
+        | (crc::lfs_crc(sum, &three) == 0xffff_ffff)
+}

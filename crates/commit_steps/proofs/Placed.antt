@@ -1,0 +1,76 @@
+-- Between the passes: one law for each way out of `decide` and `place`. Assumes nothing.
+use mathlib.Core.Path.{_≡_, refl, sym, ap, _∙_}
+use mathlib.Core.Bool.{Bool, true, false, not}
+use mathlib.Core.List.{List}
+use Prim.Native.Nat.{ℕ, _+_, _≤_, _<_}
+use lib.Bits.{bitXor}
+use lib.ListN.{length}
+use borrow.Author.Tests.{lt-ltb, le-ltb}
+use Rattle.format.specs.Word.{toBe32, xor}
+use Rattle.format.specs.Crc.{crc}
+use Rattle.format.specs.Fetch.{geometryFits}
+use Rattle.format.specs.Commit.{checkTag}
+use Rattle.format.specs.Writer.{roundedEnd, checkSize, roomClean}
+use Rattle.format.specs.declared.Geometry.{Geometry}
+use Rattle.format.specs.declared.Refusal.{Refusal}
+use Rattle.format.specs.declared.Refusal.the-variants.{Invalid, NoSpace, Unclean, Coincidence}
+use Rattle.commit_room.specs.Tests.{meets}
+use Rattle.commit_steps.specs.State.{state, refusedState, placedOf, decidedBy, decidedOf}
+use Rattle.commit_steps.specs.declared.Judging.{Judging}
+use Rattle.commit_steps.specs.declared.Laying.{Laying}
+use Rattle.commit_steps.specs.declared.Phase.{Phase}
+use Rattle.commit_steps.specs.declared.Phase.the-variants.{Refused, Judge, Lay}
+use Rattle.commit_steps.specs.declared.State.{State}
+
+-- ---- `place`: e, x, t and y are what `rounded_end`, `clean`, `check_tag` and `coincides` answer
+module _ (j : Judging) (prog : ℕ) (b : List ℕ) (stores e : ℕ) (ee : e ≡ roundedEnd prog (j .off + j .size)) where
+  pub placed-full : length b < e → Refused NoSpace ≡ placedOf j prog b stores
+  unfolding placedOf
+  placed-full h = rw (← ee, lt-ltb (length b) e h)
+
+  module _ (h : e ≤ length b) (x : Bool) (ex : x ≡ roomClean prog b (j .off) (j .etag)) where
+    pub placed-unclean : not x ≡ true → Refused Unclean ≡ placedOf j prog b stores
+    unfolding placedOf
+    placed-unclean k = rw (← ee, le-ltb (length b) e h, ← ex, k)
+
+    module _ (k : not x ≡ false) (t : ℕ) (et : t ≡ checkTag (checkSize prog (j .off + j .size))) (y : Bool) (ey : y ≡ meets (j .sum) (bitXor t (j .prev))) where
+      word-is : bitXor t (j .prev) ≡ xor (checkTag (checkSize prog (j .off + j .size))) (j .prev)
+      unfolding xor
+      word-is = ap (λ (u : ℕ). bitXor u (j .prev)) et
+
+      pub placed-coincides : y ≡ true → Refused Coincidence ≡ placedOf j prog b stores
+      unfolding placedOf
+      placed-coincides q = rw (← ee, le-ltb (length b) e h, ← ex, k, ← word-is, ← ey, q)
+
+      -- s is what `sum_be32` answers
+      pub placed-lays : (s : ℕ) → y ≡ false → s ≡ crc (j .sum) (toBe32 (bitXor t (j .prev)))
+          → Lay (record { run = record { at = j .off; left = stores }; prev = j .etag; word = bitXor t (j .prev); sum = s }) ≡ placedOf j prog b stores
+      unfolding placedOf
+      placed-lays s q es =
+          ap (λ (u : ℕ). Lay (record { run = record { at = j .off; left = stores }; prev = j .etag; word = bitXor t (j .prev); sum = u })) es
+          ∙ rw (← ee, le-ltb (length b) e h, ← ex, k, ← word-is, ← ey, q)
+
+-- ---- `decide`
+module _ (st : State) (g : Geometry) (b0 b1 : List ℕ) (stores : ℕ) where
+  decided : (p : Phase) (w : Bool) → st .phase ≡ p → st .second ≡ w → decidedBy p w g b0 b1 stores ≡ decidedOf st g b0 b1 stores
+  unfolding decidedOf
+  decided p w e f = sym (ap (λ (q : Phase). decidedBy q (st .second) g b0 b1 stores) e ∙ ap (λ (v : Bool). decidedBy p v g b0 b1 stores) f)
+
+  pub decide-refused : (r : Refusal) → st .phase ≡ Refused r → st ≡ decidedOf st g b0 b1 stores
+  decide-refused r e = ap (λ (q : Phase). state (st .second) q) e ∙ decided (Refused r) (st .second) e refl
+
+  pub decide-laid : (l : Laying) → st .phase ≡ Lay l → st ≡ decidedOf st g b0 b1 stores
+  decide-laid l e = ap (λ (q : Phase). state (st .second) q) e ∙ decided (Lay l) (st .second) e refl
+
+  -- x is what `geometry_fits` answers
+  module _ (j : Judging) (e : st .phase ≡ Judge j) (x : Bool) (is : x ≡ geometryFits g) where
+    pub decide-broken : (s : State) → not x ≡ true → s ≡ refusedState Invalid → s ≡ decidedOf st g b0 b1 stores
+    decide-broken s h f = f ∙ rw (← is, h) at (decided (Judge j) (st .second) e refl)
+
+    pub decide-first : (p : Phase) → not x ≡ false → st .second ≡ false → p ≡ placedOf j (g .«prog_size») b0 stores → state (st .second) p ≡ decidedOf st g b0 b1 stores
+    decide-first p h w f =
+        ap (λ (v : Bool). state v p) w ∙ ap (λ (q : Phase). state false q) f ∙ rw (← is, h) at (decided (Judge j) false e w)
+
+    pub decide-second : (p : Phase) → not x ≡ false → st .second ≡ true → p ≡ placedOf j (g .«prog_size») b1 stores → state (st .second) p ≡ decidedOf st g b0 b1 stores
+    decide-second p h w f =
+        ap (λ (v : Bool). state v p) w ∙ ap (λ (q : Phase). state true q) f ∙ rw (← is, h) at (decided (Judge j) true e w)

@@ -1,0 +1,165 @@
+-- A commit's steps as the code makes them, on a state and two blocks. Assumes nothing.
+use mathlib.Core.Bool.{Bool, true, false, not, cond}
+use mathlib.Core.List.{List, _++_}
+use Prim.Native.Nat.{ℕ, _+_, _-_}
+use lib.ListN.{length}
+use lib.Dec.{ltb}
+use Rattle.format.specs.Word.{toBe32, toLe32, xor, allOnes, plus32}
+use Rattle.format.specs.Tag.{tagLength, mkTag}
+use Rattle.format.specs.Crc.{crc}
+use Rattle.format.specs.Log.{log}
+use Rattle.format.specs.Fetch.{geometryFits, fetchOf}
+use Rattle.format.specs.Regular.{Regular}
+use Rattle.format.specs.Commit.{checkTag}
+use Rattle.format.specs.Writer.{roundedEnd, checkSize, commitFits, roomClean, blockAt, isSecond, committedAs}
+use Rattle.format.specs.declared.Geometry.{Geometry}
+use Rattle.format.specs.declared.LfsMdir.{LfsMdir}
+use Rattle.format.specs.declared.Refusal.{Refusal}
+use Rattle.format.specs.declared.Refusal.the-variants.{Invalid, BadEntry, Irregular, NoSpace, Unclean, Coincidence}
+use Rattle.format.specs.declared.Fetched.{Fetched}
+use Rattle.format.specs.declared.Fetched.the-variants as fetched
+use Rattle.format.specs.declared.Committed.{Committed}
+use Rattle.format.specs.declared.Committed.the-variants as committed
+use Rattle.format.specs.declared.Stored.{Stored}
+use Rattle.format.specs.declared.Stored.the-variants as stored
+use Rattle.commit_rules.specs.Rules.{countedBy}
+use Rattle.commit_rules.specs.declared.Ruled.{Ruled}
+use Rattle.commit_rules.specs.declared.Ruled.the-variants.{Bad, To}
+use Rattle.commit_room.specs.Tests.{meets}
+use Rattle.commit_lay.specs.Laid.{Laid, laid, putsOf, bodyOf, inBufferOf}
+use Rattle.commit_steps.specs.declared.Judging.{Judging}
+use Rattle.commit_steps.specs.declared.Laying.{Laying}
+use Rattle.commit_steps.specs.declared.Phase.{Phase}
+use Rattle.commit_steps.specs.declared.Phase.the-variants.{Refused, Judge, Lay}
+use Rattle.commit_steps.specs.declared.State.{State}
+
+-- a state and the two blocks
+pub record Trio : Type 0 where
+  pub st : State
+  pub b0 : List ℕ
+  pub b1 : List ℕ
+
+abbrev pub trio : State → List ℕ → List ℕ → Trio
+trio s x y = record { st = s; b0 = x; b1 = y }
+
+-- what is laid, and the block that it is laid onto
+pub record Onto : Type 0 where
+  pub to : Laying
+  pub block : List ℕ
+
+abbrev pub onto : Laying → List ℕ → Onto
+onto l b = record { to = l; block = b }
+
+abbrev pub state : Bool → Phase → State
+state second phase = record { second = second; phase = phase }
+
+abbrev pub refusedState : Refusal → State
+refusedState r = state false (Refused r)
+
+-- ---- before the entries
+abbrev pub judgingFrom : LfsMdir → Judging
+judgingFrom m = record { off = m .off; etag = m .etag; index = 0; count = m .count; size = 0; prev = m .etag; sum = allOnes }
+
+unfoldable pub startedOf : Bool → List ℕ → LfsMdir → State
+startedOf second b m = cond (not (Regular (log b))) (refusedState Irregular) (state second (Judge (judgingFrom m)))
+
+abbrev pub fetchedBy : Fetched → ℕ → List ℕ → List ℕ → State
+fetchedBy (fetched.Refused r) n0 b0 b1 = refusedState r
+fetchedBy (fetched.Found m s) n0 b0 b1 = startedOf (isSecond n0 m) (blockAt (isSecond n0 m) b0 b1) m
+
+unfoldable pub begunOf : Geometry → List ℕ → List ℕ → ℕ → ℕ → ℕ → ℕ → ℕ → List ℕ → State
+begunOf g b0 b1 n0 n1 count seed entries dat =
+    cond (not (commitFits g (length b0) (length b1) n0 n1 entries (length dat))) (refusedState Invalid)
+    (fetchedBy (fetchOf g b0 b1 n0 n1 count seed) n0 b0 b1)
+
+-- ---- an entry: judged
+abbrev pub judgedTo : Judging → ℕ → ℕ → ℕ → Judging
+judgedTo j count t sum =
+    record {
+      off = j .off;
+      etag = j .etag;
+      index = plus32 (j .index) 1;
+      count = count;
+      size = plus32 (j .size) (tagLength t);
+      prev = t;
+      sum = sum;
+    }
+
+abbrev pub judgedAs : Ruled → Bool → Judging → ℕ → ℕ → Phase
+judgedAs Bad inside j t sum = Refused (BadEntry (j .index))
+judgedAs (To count) inside j t sum = cond inside (Judge (judgedTo j count t sum)) (Refused (BadEntry (j .index)))
+
+unfoldable pub judgedOf : Judging → List ℕ → ℕ → ℕ → ℕ → ℕ → Phase
+judgedOf j dat kind id off len =
+    judgedAs (countedBy false kind (j .count) id len) (inBufferOf dat off len) j (mkTag kind id len)
+    (crc (j .sum) (toBe32 (xor (mkTag kind id len) (j .prev)) ++ bodyOf dat off len))
+
+-- ---- an entry: laid
+abbrev pub laidTo : Laying → ℕ → Laid → Onto
+laidTo l prev s = onto (record { run = s .run; prev = prev; word = l .word; sum = l .sum }) (s .block)
+
+unfoldable pub laidOf : Laying → List ℕ → List ℕ → ℕ → ℕ → ℕ → ℕ → Onto
+laidOf l b dat kind id off len =
+    laidTo l (mkTag kind id len) (putsOf (laid (l .run) b) (toBe32 (xor (mkTag kind id len) (l .prev)) ++ bodyOf dat off len))
+
+-- the block at a place, as it is laid onto
+abbrev pub into : Bool → List ℕ → List ℕ → Onto → Trio
+into false b0 b1 o = trio (state false (Lay (o .to))) (o .block) b1
+into true b0 b1 o = trio (state true (Lay (o .to))) b0 (o .block)
+
+abbrev pub steppedBy : Phase → Bool → List ℕ → List ℕ → List ℕ → ℕ → ℕ → ℕ → ℕ → Trio
+steppedBy (Refused r) second dat b0 b1 kind id off len = trio (state second (Refused r)) b0 b1
+steppedBy (Judge j) second dat b0 b1 kind id off len = trio (state second (judgedOf j dat kind id off len)) b0 b1
+steppedBy (Lay l) second dat b0 b1 kind id off len = into second b0 b1 (laidOf l (blockAt second b0 b1) dat kind id off len)
+
+unfoldable pub stepOf : State → List ℕ → List ℕ → List ℕ → ℕ → ℕ → ℕ → ℕ → Trio
+stepOf st dat b0 b1 kind id off len = steppedBy (st .phase) (st .second) dat b0 b1 kind id off len
+
+-- ---- between the passes
+abbrev pub layingFrom : Judging → ℕ → ℕ → Laying
+layingFrom j word stores = record { run = record { at = j .off; left = stores }; prev = j .etag; word = word; sum = crc (j .sum) (toBe32 word) }
+
+unfoldable pub placedOf : Judging → ℕ → List ℕ → ℕ → Phase
+placedOf j prog b stores =
+    cond (ltb (length b) (roundedEnd prog (j .off + j .size))) (Refused NoSpace)
+    (cond (not (roomClean prog b (j .off) (j .etag))) (Refused Unclean)
+    (cond (meets (j .sum) (xor (checkTag (checkSize prog (j .off + j .size))) (j .prev))) (Refused Coincidence)
+    (Lay (layingFrom j (xor (checkTag (checkSize prog (j .off + j .size))) (j .prev)) stores))))
+
+abbrev pub decidedBy : Phase → Bool → Geometry → List ℕ → List ℕ → ℕ → State
+decidedBy (Refused r) second g b0 b1 stores = state second (Refused r)
+decidedBy (Lay l) second g b0 b1 stores = state second (Lay l)
+decidedBy (Judge j) second g b0 b1 stores =
+    cond (not (geometryFits g)) (refusedState Invalid) (state second (placedOf j (g .«prog_size») (blockAt second b0 b1) stores))
+
+unfoldable pub decidedOf : State → Geometry → List ℕ → List ℕ → ℕ → State
+decidedOf st g b0 b1 stores = decidedBy (st .phase) (st .second) g b0 b1 stores
+
+-- ---- behind the entries
+unfoldable pub checkedOf : Laying → List ℕ → Onto
+checkedOf l b = laidTo l (l .prev) (putsOf (laid (l .run) b) (toBe32 (l .word) ++ toLe32 (l .sum)))
+
+abbrev pub sealedBy : Phase → Bool → List ℕ → List ℕ → Trio
+sealedBy (Refused r) second b0 b1 = trio (state second (Refused r)) b0 b1
+sealedBy (Judge j) second b0 b1 = trio (state second (Judge j)) b0 b1
+sealedBy (Lay l) second b0 b1 = into second b0 b1 (checkedOf l (blockAt second b0 b1))
+
+unfoldable pub sealedOf : State → List ℕ → List ℕ → Trio
+sealedOf st b0 b1 = sealedBy (st .phase) (st .second) b0 b1
+
+-- ---- the answers
+abbrev pub answeredBy : Phase → Fetched → Committed
+answeredBy (Refused r) f = committed.Refused r
+answeredBy (Judge j) f = committed.Refused Invalid
+answeredBy (Lay l) f = committedAs f
+
+unfoldable pub answeredOf : State → Fetched → Committed
+answeredOf st f = answeredBy (st .phase) f
+
+abbrev pub madeBy : Phase → ℕ → Stored
+madeBy (Refused r) n = stored.Refused r
+madeBy (Judge j) n = stored.Refused Invalid
+madeBy (Lay l) n = stored.Made (n - l .run .left)
+
+unfoldable pub madeOf : State → ℕ → Stored
+madeOf st n = madeBy (st .phase) n

@@ -1,0 +1,338 @@
+// A commit, step by step: what is done before its entries, with each entry, between the two passes over them, and behind them. The entries come
+// one by one as plain numbers, twice: in the first pass each is judged, summed and counted, in the second it is laid. The state goes in and comes
+// back by value, so no scratch memory is needed. Every function takes any state and numbers.
+ghost use mathlib.Core.Path.{_≡_};
+ghost use Prim.Native.Nat.{_≤_, _<_};
+ghost use lib.ListN.{length};
+ghost use Rattle.commit_steps.specs.State.{trio, onto, refusedState, begunOf, startedOf, judgedOf, laidOf, stepOf, placedOf, decidedOf, checkedOf, sealedOf, answeredOf, madeOf};
+ghost use Rattle.format.specs.Fetch.{fetchOf};
+ghost use Rattle.format.specs.Writer.{unlimited};
+use commit_lay::Run;
+use commit_rules::Ruled;
+use fetch::lfs_dir_fetch;
+use format::Committed;
+use format::Fetched;
+use format::Geometry;
+use format::LfsMdir;
+use format::Refusal;
+use format::Stored;
+
+// "Lookup buffer and entry data at most 65,536 bytes each; at most 8,192 entries"
+const MOST_DATA: usize = 65_536;
+
+const MOST_ENTRIES: usize = 8_192;
+
+// The first pass: where the log ends and the tag there, the index of the next entry, the count there, the bytes so far, and the tag and the
+// checksum behind them.
+pub struct Judging {
+    pub off: u32,
+    pub etag: u32,
+    pub index: u32,
+    pub count: u32,
+    pub size: u32,
+    pub prev: u32,
+    pub sum: u32,
+}
+
+// The second pass: the next store, the tag before it, and the check that comes last: its tag as it is stored, and the checksum.
+pub struct Laying {
+    pub run: Run,
+    pub prev: u32,
+    pub word: u32,
+    pub sum: u32,
+}
+
+pub enum Phase {
+    Refused(Refusal),
+    Judge(Judging),
+    Lay(Laying),
+}
+
+// Whether the second block answers, and is written to.
+pub struct State {
+    pub second: bool,
+    pub phase: Phase,
+}
+
+// "Commit: -22, fetch's own refusals, -202"
+pub fn begin(
+    g: Geometry,
+    b0: &[u8],
+    b1: &[u8],
+    n0: u32,
+    n1: u32,
+    block_count: u32,
+    seed: u32,
+    entries: usize,
+    dat: &[u8],
+) -> State
+    ensures { λ r. ⌜ r ≡ begunOf g (now (b0 .entry)) (now (b1 .entry)) n0 n1 «block_count» seed entries (now (dat .entry)) ⌝ }
+{
+    let fits = sizes::pair_fits(g, b0.len(), b1.len(), n0, n1)
+        & (dat.len() <= MOST_DATA)
+        & (entries <= MOST_ENTRIES);
+    if !fits {
+        return refused(Refusal::Invalid);
+    }
+    match lfs_dir_fetch(g, b0, b1, n0, n1, block_count, seed) {
+        Fetched::Refused(r) => refused(r),
+        Fetched::Found(m, _) => {
+            if m.pair.n0 == n0 {
+                start(b0, false, m)
+            } else {
+                start(b1, true, m)
+            }
+        }
+    }
+}
+
+fn refused(r: Refusal) -> State
+    ensures { λ s. ⌜ s ≡ refusedState r ⌝ }
+{
+    State {
+        second: false,
+        phase: Phase::Refused(r),
+    }
+}
+
+// The log of the answering block must be regular. Entries run against the record's count.
+fn start(b: &[u8], second: bool, m: LfsMdir) -> State
+    requires { ⌜ 4 ≤ length (now b) ⌝ }
+    ensures { λ r. ⌜ r ≡ startedOf second (now (b .entry)) m ⌝ }
+{
+    if !commit_regular::lfs_dir_regular(b) {
+        return refused(Refusal::Irregular);
+    }
+    let judging = Judging {
+        off: m.off,
+        etag: m.etag,
+        index: 0,
+        count: m.count as u32,
+        size: 0,
+        prev: m.etag,
+        sum: 0xffff_ffff,
+    };
+    State {
+        second,
+        phase: Phase::Judge(judging),
+    }
+}
+
+// One entry of a pass.
+pub fn step(
+    st: State,
+    dat: &[u8],
+    b0: &mut [u8],
+    b1: &mut [u8],
+    kind: u16,
+    id: u16,
+    off: u32,
+    len: u32,
+) -> State
+    ensures { λ r. ⌜ trio r (now (b0 .exit)) (now (b1 .exit)) ≡ stepOf st (now (dat .entry)) (now (b0 .entry)) (now (b1 .entry)) kind id off len ⌝ }
+{
+    let second = st.second;
+    let phase = st.phase;
+    match phase {
+        Phase::Refused(_) => st,
+        Phase::Judge(j) => State {
+            second,
+            phase: judge_entry(j, dat, kind, id, off, len),
+        },
+        Phase::Lay(l) => {
+            if second {
+                return State {
+                    second,
+                    phase: Phase::Lay(lay_entry(b1, l, dat, kind, id, off, len)),
+                };
+            }
+            State {
+                second,
+                phase: Phase::Lay(lay_entry(b0, l, dat, kind, id, off, len)),
+            }
+        }
+    }
+}
+
+// "-201 | an entry is bad | index from 0 of the first bad one"
+fn judge_entry(j: Judging, dat: &[u8], kind: u16, id: u16, off: u32, len: u32) -> Phase
+    ensures { λ r. ⌜ r ≡ judgedOf j (now (dat .entry)) kind id off len ⌝ }
+{
+    match commit_rules::counted(false, kind, j.count, id as u32, len) {
+        Ruled::Bad => Phase::Refused(Refusal::BadEntry(j.index)),
+        Ruled::To(count) => {
+            if !commit_lay::in_buffer(dat, off, len) {
+                return Phase::Refused(Refusal::BadEntry(j.index));
+            }
+            let tag = tag::lfs_mktag(kind as u32, id as u32, len);
+            Phase::Judge(Judging {
+                off: j.off,
+                etag: j.etag,
+                index: std::num::wrapping_add_u32(j.index, 1),
+                count,
+                size: std::num::wrapping_add_u32(j.size, tag::lfs_tag_dsize(tag)),
+                prev: tag,
+                sum: commit_lay::sum_entry(j.sum, tag ^ j.prev, dat, off, len),
+            })
+        }
+    }
+}
+
+// "tags chained as above, data"
+fn lay_entry(b: &mut [u8], l: Laying, dat: &[u8], kind: u16, id: u16, off: u32, len: u32) -> Laying
+    ensures { λ r. ⌜ onto r (now (b .exit)) ≡ laidOf l (now (b .entry)) (now (dat .entry)) kind id off len ⌝ }
+{
+    let tag = tag::lfs_mktag(kind as u32, id as u32, len);
+    let from = l.run;
+    let run = commit_lay::put_entry(b, from, tag ^ l.prev, dat, off, len);
+    Laying {
+        run,
+        prev: tag,
+        word: l.word,
+        sum: l.sum,
+    }
+}
+
+// Between the passes: good entries are refused here, or laid.
+pub fn decide(st: State, g: Geometry, b0: &[u8], b1: &[u8], stores: u32) -> State
+    ensures { λ r. ⌜ r ≡ decidedOf st g (now (b0 .entry)) (now (b1 .entry)) stores ⌝ }
+{
+    let second = st.second;
+    let phase = st.phase;
+    match phase {
+        Phase::Refused(_) => st,
+        Phase::Lay(_) => st,
+        Phase::Judge(j) => {
+            if !sizes::geometry_fits(g) {
+                return refused(Refusal::Invalid);
+            }
+            if second {
+                return State {
+                    second,
+                    phase: place(j, g.prog_size, b1, stores),
+                };
+            }
+            State {
+                second,
+                phase: place(j, g.prog_size, b0, stores),
+            }
+        }
+    }
+}
+
+// "-28, -203, -204": the rounded end, the room, the coincidence. `stores` is the limit.
+fn place(j: Judging, prog: u32, b: &[u8], stores: u32) -> Phase
+    requires { ⌜ 4 ≤ prog ⌝ }
+    requires { ⌜ prog ≤ 512 ⌝ }
+    ensures { λ r. ⌜ r ≡ placedOf j prog (now (b .entry)) stores ⌝ }
+{
+    let off = j.off as usize;
+    let at = off + (j.size as usize);
+    if b.len() < commit_room::rounded_end(prog, at) {
+        return Phase::Refused(Refusal::NoSpace);
+    }
+    if !commit_room::clean(prog, b, off, j.etag) {
+        return Phase::Refused(Refusal::Unclean);
+    }
+    let word = commit_room::check_tag(prog, at) ^ j.prev;
+    if commit_room::coincides(j.sum, word) {
+        return Phase::Refused(Refusal::Coincidence);
+    }
+    let run = Run {
+        at: off,
+        left: stores,
+    };
+    Phase::Lay(Laying {
+        run,
+        prev: j.etag,
+        word,
+        sum: commit_lay::sum_be32(j.sum, word),
+    })
+}
+
+// Behind the entries: "then a check tag 0x500, id 1,023, and the checksum little-endian".
+pub fn seal(st: State, b0: &mut [u8], b1: &mut [u8]) -> State
+    ensures { λ r. ⌜ trio r (now (b0 .exit)) (now (b1 .exit)) ≡ sealedOf st (now (b0 .entry)) (now (b1 .entry)) ⌝ }
+{
+    let second = st.second;
+    let phase = st.phase;
+    match phase {
+        Phase::Refused(_) => st,
+        Phase::Judge(_) => st,
+        Phase::Lay(l) => {
+            if second {
+                return State {
+                    second,
+                    phase: Phase::Lay(lay_check(b1, l)),
+                };
+            }
+            State {
+                second,
+                phase: Phase::Lay(lay_check(b0, l)),
+            }
+        }
+    }
+}
+
+fn lay_check(b: &mut [u8], l: Laying) -> Laying
+    ensures { λ r. ⌜ onto r (now (b .exit)) ≡ checkedOf l (now (b .entry)) ⌝ }
+{
+    let from = l.run;
+    let behind = commit_lay::put_be32(b, from, l.word);
+    let run = commit_lay::put_le32(b, behind, l.sum);
+    Laying {
+        run,
+        prev: l.prev,
+        word: l.word,
+        sum: l.sum,
+    }
+}
+
+// "An accepted call answers what fetch gives on the finished pair from the same seed." No state that is sealed still judges.
+pub fn answer(
+    st: State,
+    g: Geometry,
+    b0: &[u8],
+    b1: &[u8],
+    n0: u32,
+    n1: u32,
+    block_count: u32,
+    seed: u32,
+) -> Committed
+    ensures { λ r. ⌜ r ≡ answeredOf st (fetchOf g (now (b0 .entry)) (now (b1 .entry)) n0 n1 «block_count» seed) ⌝ }
+{
+    let phase = st.phase;
+    match phase {
+        Phase::Refused(r) => Committed::Refused(r),
+        Phase::Judge(_) => Committed::Refused(Refusal::Invalid),
+        Phase::Lay(_) => match lfs_dir_fetch(g, b0, b1, n0, n1, block_count, seed) {
+            Fetched::Found(m, s) => Committed::Done(m, s),
+            Fetched::Refused(r) => Committed::Refused(r),
+        },
+    }
+}
+
+// As many stores as a commit may have.
+pub fn unlimited() -> u32
+    ensures { λ r. ⌜ r ≡ unlimited ⌝ }
+{
+    0xffff_ffff
+}
+
+// "the number made is the answer": what is left of the limit was not made.
+pub fn made(st: State, stores: u32) -> Stored
+    ensures { λ r. ⌜ r ≡ madeOf st stores ⌝ }
+{
+    let phase = st.phase;
+    match phase {
+        Phase::Refused(r) => Stored::Refused(r),
+        Phase::Judge(_) => Stored::Refused(Refusal::Invalid),
+        Phase::Lay(l) => {
+            let left = l.run.left;
+            if stores < left {
+                return Stored::Made(0);
+            }
+            Stored::Made(stores - left)
+        }
+    }
+}

@@ -1,0 +1,55 @@
+-- One block compacted into another: what the code asks of both, and what it leaves. Assumes nothing.
+use mathlib.Core.Path.{_≡_}
+use mathlib.Core.Logic.{_≢_}
+use mathlib.Core.Bool.{true, false}
+use mathlib.Core.List.{List, []}
+use Prim.Native.Nat.{ℕ, _+_, _-_, _^_, _≤_, min}
+use lib.ListN.{length}
+use Rattle.format.specs.Word.{le32, toLe32, allOnes}
+use Rattle.format.specs.Crc.{crc}
+use Rattle.format.specs.Log.{log, logEnd, logEndTag}
+use Rattle.format.specs.Record.{countOf, noTail, tailOf, splitOf}
+use Rattle.format.specs.Regular.{Regular}
+use Rattle.format.specs.Stores.{compacting}
+use Rattle.format.specs.Writer.{checkLength}
+use Rattle.format.specs.Compaction.{compactionItems, compactCheckAt, compactStores, compactedTo, CompactVerdict, compactRefused, compactAccepted}
+use Rattle.format.specs.declared.LfsMdir.{LfsMdir}
+use Rattle.commit_lay.specs.declared.Run.{Run}
+use Rattle.compact_entries.specs.declared.Emit.{Emit}
+
+unfoldable pub begins : ℕ → Run → Emit
+begins rev run = record { run = run; end = 4; prev = allOnes; sum = crc allOnes (toLe32 rev) }
+
+-- the record of the block b, which has a log, as far as compaction reads it
+pub record Recorded (b : List ℕ) (dir : LfsMdir) : Type 0 where
+  pub word : 4 ≤ length b
+  pub most : length b ≤ 2 ^ 16
+  pub some : log b ≢ []
+  pub rev′ : dir .rev ≡ le32 b
+  pub ends : dir .off ≡ logEnd (log b)
+  pub endTag : dir .etag ≡ logEndTag (log b)
+  pub count′ : dir .count ≡ countOf 0 (log b)
+  pub split′ : dir .split ≡ splitOf false (log b)
+  pub tail′ : dir .tail ≡ tailOf noTail (log b)
+
+pub record Renewable (prog : ℕ) (old new : List ℕ) (dir : LfsMdir) : Type 0 where
+  pub low : 4 ≤ prog
+  pub high : prog ≤ 512
+  pub long : length new ≡ length old
+  pub recorded : Recorded old dir
+
+-- and what the second pass asks: a regular log whose entries fit the other block
+pub record Writable (old new : List ℕ) (dir : LfsMdir) : Type 0 where
+  pub recorded : Recorded old dir
+  pub regular : Regular (log old) ≡ true
+  pub room : compactCheckAt (compactionItems (log old)) + checkLength ≤ length new
+
+-- the other block after the first n stores of the check tag ct
+abbrev pub writtenTo : List ℕ → List ℕ → ℕ → ℕ → ℕ → List ℕ
+writtenTo old new rev ct n =
+    compacting new rev (compactionItems (log old)) ct (length new - (compactCheckAt (compactionItems (log old)) + checkLength)) (min n (compactStores (compactionItems (log old))))
+
+-- the other block after the first n stores, by the verdict
+abbrev pub renewedTo : ℕ → List ℕ → CompactVerdict → List ℕ
+renewedTo n o (compactRefused r) = o
+renewedTo n o (compactAccepted second rev is size) = compactedTo o rev is size n

@@ -1,0 +1,96 @@
+// One block compacted into another. Two passes run over the entries: the first makes no store and finds whether the compaction is refused; the
+// second erases the other block and writes "revision plus one (wrapping) and one commit". A refusal alters nothing.
+ghost use mathlib.Core.Path.{_≡_};
+ghost use mathlib.Core.Bool.{false};
+ghost use Prim.Native.Nat.{min};
+ghost use lib.ListN.{length};
+ghost use Rattle.format.specs.Word.{toLe32, allOnes};
+ghost use Rattle.format.specs.Crc.{crc};
+ghost use Rattle.format.specs.Log.{log};
+ghost use Rattle.format.specs.Stores.{erased};
+ghost use Rattle.format.specs.Compaction.{compactionItems, compactStores, compactable, compactMade};
+ghost use Rattle.compact_block.specs.Renewed.{begins, Writable, writtenTo, Renewable, renewedTo};
+use commit_lay::Run;
+use compact_entries::Emit;
+use format::LfsMdir;
+use format::Refusal;
+use format::Stored;
+
+// "erases the block .. to 0xff": one store.
+fn erase(b: &mut [u8])
+    ensures { λ _. ⌜ now (b .exit) ≡ erased (length (now (b .entry))) ⌝ }
+{
+    let mut i = 0;
+    while i < b.len() {
+        b[i] = 0xff;
+        i += 1;
+    }
+}
+
+// The checksum behind the revision's four bytes.
+fn sum_rev(rev: u32) -> u32
+    ensures { λ r. ⌜ r ≡ crc allOnes (toLe32 rev) ⌝ }
+{
+    let bytes = [
+        (rev % 0x100) as u8,
+        (rev / 0x100 % 0x100) as u8,
+        (rev / 0x1_0000 % 0x100) as u8,
+        (rev / 0x100_0000) as u8,
+    ];
+    crc::lfs_crc(0xffff_ffff, &bytes)
+}
+
+// Where the entries begin: behind the revision, "The previous tag starts at 0xffffffff".
+fn begin(rev: u32, run: Run) -> Emit
+    ensures { λ r. ⌜ r ≡ begins rev run ⌝ }
+{
+    let sum = sum_rev(rev);
+    Emit {
+        run,
+        end: 4,
+        prev: 0xffff_ffff,
+        sum,
+    }
+}
+
+// The second pass: the erase counts as one store, and then single bytes rise, as many as are left.
+fn write(old: &[u8], new: &mut [u8], dir: LfsMdir, rev: u32, tag: u32, stores: u32) -> u32
+    requires { ⌜ Writable (now old) (now new) dir ⌝ }
+    ensures { λ r. ⌜ r ≡ min stores (compactStores (compactionItems (log (now (old .entry))))) ⌝ }
+    ensures { λ _. ⌜ now (new .exit) ≡ writtenTo (now (old .entry)) (now (new .entry)) rev tag stores ⌝ }
+{
+    if stores == 0 {
+        return 0;
+    }
+    erase(new);
+    let first = Run {
+        at: 0,
+        left: stores - 1,
+    };
+    let run = commit_lay::put_le32(new, first, rev);
+    let e = compact_entries::entries(old, new, begin(rev, run), dir);
+    let last = compact_entries::check(new, e, tag);
+    1 + last.at as u32
+}
+
+// The compaction of the block `old`, whose record is `dir`, into the block `new`: refused, or the number of stores made.
+pub fn renew(prog: u32, old: &[u8], new: &mut [u8], dir: LfsMdir, stores: u32) -> Stored
+    requires { ⌜ Renewable prog (now old) (now new) dir ⌝ }
+    ensures { λ r. ⌜ r ≡ compactMade stores (compactable prog false (now (old .entry)) (log (now (old .entry)))) ⌝ }
+    ensures { λ _. ⌜ now (new .exit) ≡ renewedTo stores (now (new .entry)) (compactable prog false (now (old .entry)) (log (now (old .entry)))) ⌝ }
+{
+    if !commit_regular::lfs_dir_regular(old) {
+        return Stored::Refused(Refusal::Irregular);
+    }
+    let rev = std::num::wrapping_add_u32(dir.rev, 1);
+    let none = Run { at: 0, left: 0 };
+    let e = compact_entries::entries(old, new, begin(rev, none), dir);
+    if old.len() < commit_room::rounded_end(prog, e.end) {
+        return Stored::Refused(Refusal::NoSpace);
+    }
+    let tag = commit_room::check_tag(prog, e.end);
+    if commit_room::coincides(e.sum, tag ^ e.prev) {
+        return Stored::Refused(Refusal::Coincidence);
+    }
+    Stored::Made(write(old, new, dir, rev, tag, stores))
+}

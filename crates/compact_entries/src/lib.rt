@@ -1,0 +1,169 @@
+// Compaction's entries, in order: "for each id create, newest name .., struct .., user attributes by rising type; then tail ..; then move state".
+// Each is laid into the new block by as many single stores as may still be made, and summed; with none left to make, this measures what would
+// be written and alters nothing.
+ghost use mathlib.Core.Path.{_≡_};
+ghost use mathlib.Core.Bool.{cond};
+ghost use mathlib.Core.List.{_∷_, _++_};
+ghost use Prim.Native.Nat.{_+_, _^_, _<_};
+ghost use Rattle.format.specs.Log.{log};
+ghost use Rattle.format.specs.Word.{xor, toBe32, toLe32};
+ghost use Rattle.format.specs.Kind.{typeTail, typeHardTail};
+ghost use Rattle.format.specs.Crc.{crc};
+ghost use Rattle.format.specs.Directory.{classes, dirOf};
+ghost use Rattle.format.specs.Compaction.{classItems, slotItems, dirItems, tailItems, compactionItems};
+ghost use Rattle.commit_lay.specs.Laid.{laid, putsOf, bodyOf};
+ghost use Rattle.compact_slot.specs.Seat.{loadIn};
+ghost use Rattle.compact_slot.specs.Slots.{slotIn};
+ghost use Rattle.compact_entries.specs.Emitted.{standing, emitted, emits, createItem, Seated, SlotSeated, Source, Read};
+use commit_lay::Run;
+use format::LfsMdir;
+use format::LfsPair;
+
+const LFS_TYPE_CREATE: u32 = 0x401;
+
+const LFS_TYPE_SOFTTAIL: u32 = 0x600;
+
+const LFS_TYPE_HARDTAIL: u32 = 0x601;
+
+const LFS_BLOCK_NULL: u32 = 0xffff_ffff;
+// The id of what belongs to no slot.
+const NO_SLOT: u32 = 0x3ff;
+
+// Where the writing stands: the stores, the end of what is written, the previous tag and the checksum.
+pub struct Emit {
+    pub run: Run,
+    pub end: usize,
+    pub prev: u32,
+    pub sum: u32,
+}
+
+// One entry: its tag, chained to the previous one, and its data, a part of `dat`.
+fn entry(new: &mut [u8], e: Emit, tag: u32, dat: &[u8], off: u32, len: u32) -> Emit
+    requires { ⌜ e .end < 2 ^ 32 ⌝ }
+    ensures { λ r. ⌜ standing r (now (new .exit)) ≡ emitted (standing e (now (new .entry))) (record { tag = tag; body = bodyOf (now (dat .entry)) off len }) ⌝ }
+{
+    let word = tag ^ e.prev;
+    let run = commit_lay::put_entry(new, e.run, word, dat, off, len);
+    Emit {
+        run,
+        end: e.end + tag::lfs_tag_dsize(tag) as usize,
+        prev: tag,
+        sum: commit_lay::sum_entry(e.sum, word, dat, off, len),
+    }
+}
+
+// What stands at a seat, as an entry of the id: nothing at a free one, and nothing for a removal.
+fn class_entry(old: &[u8], new: &mut [u8], e: Emit, id: u32, seat: u64) -> Emit
+    requires { ⌜ Seated (now old) e id seat ⌝ }
+    ensures { λ r. ⌜ standing r (now (new .exit)) ≡ emits (standing e (now (new .entry))) (classItems id (loadIn (now (old .entry)) seat)) ⌝ }
+{
+    if seat == 0 {
+        return e;
+    }
+    let found = (seat / 0x1_0000 % 0x1_0000_0000) as u32;
+    if tag::lfs_tag_isdelete(found) {
+        return e;
+    }
+    let size = tag::lfs_tag_size(found);
+    let off = (seat % 0x1_0000) as u32 + 4;
+    let tag = tag::lfs_mktag(tag::lfs_tag_type3(found) as u32, id, size);
+    entry(new, e, tag, old, off, size)
+}
+
+// A slot: its create, and what stands at its seats, by rising class.
+fn slot(old: &[u8], new: &mut [u8], e: Emit, id: u32, seats: &[u64; 258]) -> Emit
+    requires { ⌜ SlotSeated (now old) e id (now seats) ⌝ }
+    ensures { λ r. ⌜ standing r (now (new .exit)) ≡ emits (standing e (now (new .entry))) (createItem id ∷ slotItems classes 0 id (slotIn (now (old .entry)) (now (seats .entry)))) ⌝ }
+{
+    let mut w = entry(new, e, tag::lfs_mktag(LFS_TYPE_CREATE, id, 0), old, 0, 0);
+    let mut class = 0;
+    while class < compact_slot::CLASSES {
+        w = class_entry(old, new, w, id, seats[class]);
+        class += 1;
+    }
+    w
+}
+
+// All slots of the log that ends at `end` with the tag `etag`.
+fn slots(old: &[u8], new: &mut [u8], e: Emit, end: usize, etag: u32, count: u32) -> Emit
+    requires { ⌜ Source (now old) e end etag count ⌝ }
+    ensures { λ r. ⌜ standing r (now (new .exit)) ≡ emits (standing e (now (new .entry))) (dirItems 0 (dirOf (log (now (old .entry))))) ⌝ }
+{
+    let mut w = e;
+    let mut id: u32 = 0;
+    while id < count {
+        let seats = compact_slot::gather(old, end, etag, id as usize);
+        w = slot(old, new, w, id, &seats);
+        id += 1;
+    }
+    w
+}
+
+// "tail 0x600 soft, 0x601 hard"
+fn tail_type(split: bool) -> u32
+    ensures { λ r. ⌜ r ≡ cond split typeHardTail typeTail ⌝ }
+{
+    if split {
+        LFS_TYPE_HARDTAIL
+    } else {
+        LFS_TYPE_SOFTTAIL
+    }
+}
+
+// "then tail unless it is soft and both 0xffffffff"
+fn tail(new: &mut [u8], e: Emit, split: bool, pair: LfsPair) -> Emit
+    requires { ⌜ e .end < 2 ^ 32 ⌝ }
+    ensures { λ r. ⌜ standing r (now (new .exit)) ≡ emits (standing e (now (new .entry))) (tailItems split pair) ⌝ }
+{
+    let n0 = pair.n0;
+    let n1 = pair.n1;
+    if !split & (n0 == LFS_BLOCK_NULL) & (n1 == LFS_BLOCK_NULL) {
+        return e;
+    }
+    let dat = [
+        (n0 % 0x100) as u8,
+        (n0 / 0x100 % 0x100) as u8,
+        (n0 / 0x1_0000 % 0x100) as u8,
+        (n0 / 0x100_0000) as u8,
+        (n1 % 0x100) as u8,
+        (n1 / 0x100 % 0x100) as u8,
+        (n1 / 0x1_0000 % 0x100) as u8,
+        (n1 / 0x100_0000) as u8,
+    ];
+    entry(
+        new,
+        e,
+        tag::lfs_mktag(tail_type(split), NO_SLOT, 8),
+        &dat,
+        0,
+        8,
+    )
+}
+
+// All entries of the compaction of the block `old`, whose record is `dir`.
+pub fn entries(old: &[u8], new: &mut [u8], e: Emit, dir: LfsMdir) -> Emit
+    requires { ⌜ Read (now old) e dir ⌝ }
+    ensures { λ r. ⌜ standing r (now (new .exit)) ≡ emits (standing e (now (new .entry))) (compactionItems (log (now (old .entry)))) ⌝ }
+{
+    let end = dir.off as usize;
+    let etag = dir.etag;
+    let pair = dir.tail;
+    let w = slots(old, new, e, end, etag, dir.count as u32);
+    let w = tail(new, w, dir.split, pair);
+    class_entry(
+        old,
+        new,
+        w,
+        NO_SLOT,
+        compact_slot::newest_move(old, end, etag),
+    )
+}
+
+// The check behind the entries: its tag, and the checksum with it.
+pub fn check(new: &mut [u8], e: Emit, tag: u32) -> Run
+    ensures { λ r. ⌜ laid r (now (new .exit)) ≡ putsOf (laid (e .run) (now (new .entry))) (toBe32 (xor tag (e .prev)) ++ toLe32 (crc (e .sum) (toBe32 (xor tag (e .prev))))) ⌝ }
+{
+    let word = tag ^ e.prev;
+    let run = commit_lay::put_be32(new, e.run, word);
+    commit_lay::put_le32(new, run, commit_lay::sum_be32(e.sum, word))
+}

@@ -1,0 +1,137 @@
+// What a slot holds, gathered in one walk back over a block's committed log: where the newest name, the newest struct and the newest of each
+// user attribute stand. A lookup for each of the 258 classes would walk as often. The functions require that the end is inside the block, and
+// are for the crates of this repository.
+ghost use mathlib.Core.Path.{_≡_};
+ghost use mathlib.Core.List.{map};
+ghost use Prim.Native.Nat.{_+_, _^_, _<_};
+ghost use Rattle.format.specs.Back.{back};
+ghost use Rattle.theory.specs.Back.BackActs.{seen};
+ghost use Rattle.theory.specs.Lookup.MoveState.{lastMove};
+ghost use Rattle.compact_slot.specs.Seat.{seatOf, loadIn, Inside, seatClass, createdAt, idBefore, noted, Gatherable, Gathered};
+
+const LFS_TYPE_NAME: u16 = 0x000;
+
+const LFS_TYPE_STRUCT: u16 = 0x200;
+
+const LFS_TYPE_USERATTR: u16 = 0x300;
+
+const LFS_TYPE_CREATE: u16 = 0x401;
+
+const LFS_TYPE_DELETE: u16 = 0x4ff;
+
+const LFS_TYPE_MOVESTATE: u16 = 0x7ff;
+
+// A name, a struct, and 256 user attributes.
+pub const CLASSES: usize = 258;
+
+// An entry's tag and where it stands, in one number: 0 is none, since no entry stands at 0.
+fn seat_of(tag: u32, at: usize) -> u64
+    requires { ⌜ at < 2 ^ 16 ⌝ }
+    ensures { λ r. ⌜ r ≡ seatOf tag at ⌝ }
+{
+    tag as u64 * 0x1_0000 + at as u64
+}
+
+// The class of what an entry sets in its slot: 0 the name, 1 the struct, 2 + u the user attribute u, and 258 none of them.
+fn class_of(tag: u32) -> usize
+    ensures { λ r. ⌜ r ≡ seatClass tag ⌝ }
+{
+    let type1 = tag::lfs_tag_type1(tag);
+    if type1 == LFS_TYPE_NAME {
+        return 0;
+    }
+    if type1 == LFS_TYPE_STRUCT {
+        return 1;
+    }
+    if type1 == LFS_TYPE_USERATTR {
+        return 2 + tag::lfs_tag_chunk(tag) as usize;
+    }
+    CLASSES
+}
+
+// Whether the tag creates the slot that has this id behind it: what is older belongs to other slots.
+fn created(tag: u32, id: usize) -> bool
+    ensures { λ r. ⌜ r ≡ createdAt tag id ⌝ }
+{
+    (tag::lfs_tag_type3(tag) == LFS_TYPE_CREATE) & (tag::lfs_tag_id(tag) as usize == id)
+}
+
+// The id that the slot has before the tag: an older create below it counts it up, an older delete at or below it counts it down.
+fn id_before(tag: u32, id: usize) -> usize
+    requires { ⌜ id < 2 ^ 32 ⌝ }
+    ensures { λ r. ⌜ r ≡ idBefore tag id ⌝ }
+{
+    let type3 = tag::lfs_tag_type3(tag);
+    let at = tag::lfs_tag_id(tag) as usize;
+    if type3 == LFS_TYPE_CREATE {
+        return if at < id { id - 1 } else { id };
+    }
+    if type3 == LFS_TYPE_DELETE {
+        return if at <= id { id + 1 } else { id };
+    }
+    id
+}
+
+// An entry of the slot takes its class's seat, if no newer one has it.
+fn note(seats: &mut [u64; 258], tag: u32, at: usize, id: usize)
+    requires { ⌜ at < 2 ^ 16 ⌝ }
+    ensures { λ _. ⌜ now (seats .exit) ≡ noted (now (seats .entry)) tag at id ⌝ }
+{
+    if tag::lfs_tag_id(tag) as usize != id {
+        return;
+    }
+    let class = class_of(tag);
+    if CLASSES <= class {
+        return;
+    }
+    if seats[class] != 0 {
+        return;
+    }
+    seats[class] = seat_of(tag, at);
+}
+
+// The seats of the slot `id`, from the end of a log and the tag that ends there.
+pub fn gather(b: &[u8], end: usize, etag: u32, id: usize) -> [u64; 258]
+    requires { ⌜ Gatherable (now b) end id ⌝ }
+    ensures { λ r. ⌜ Gathered (now (b .entry)) (map (seen (now (b .entry))) (back (now (b .entry)) end etag)) id r ⌝ }
+{
+    let mut seats = [0u64; 258];
+    let mut off = end;
+    let mut tag = etag;
+    let mut slot = id;
+    loop {
+        let size = tag::lfs_tag_dsize(tag) as usize;
+        if off < 4 + size {
+            return seats;
+        }
+        if created(tag, slot) {
+            return seats;
+        }
+        let at = off - size;
+        note(&mut seats, tag, at, slot);
+        slot = id_before(tag, slot);
+        tag = (word::within::be32(b, at) ^ tag) % 0x8000_0000;
+        off = at;
+    }
+}
+
+// The seat of the newest move state, whatever its id.
+pub fn newest_move(b: &[u8], end: usize, etag: u32) -> u64
+    requires { ⌜ Gatherable (now b) end 0 ⌝ }
+    ensures { λ r. ⌜ (loadIn (now (b .entry)) r ≡ lastMove (now (b .entry)) (back (now (b .entry)) end etag)) × Inside (now (b .entry)) r ⌝ }
+{
+    let mut off = end;
+    let mut tag = etag;
+    loop {
+        let size = tag::lfs_tag_dsize(tag) as usize;
+        if off < 4 + size {
+            return 0;
+        }
+        let at = off - size;
+        if tag::lfs_tag_type3(tag) == LFS_TYPE_MOVESTATE {
+            return seat_of(tag, at);
+        }
+        tag = (word::within::be32(b, at) ^ tag) % 0x8000_0000;
+        off = at;
+    }
+}

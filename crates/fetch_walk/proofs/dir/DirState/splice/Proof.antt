@@ -1,0 +1,12 @@
+-- `walk::dir::DirState::splice` meets its contract: the count moves, and nothing else. Assumes nothing.
+use Rattle.fetch_walk.specs.Dir.{spliced}
+use borrow.Author.Needs.{needs}
+use Rattle.fetch_walk.proofs.dir.DirState.splice.Statement.{statement}
+use Rattle.fetch_walk.proofs.dir.DirState.splice.Tie as tie
+
+returns : tie.Need-returns
+unfolding spliced
+returns c = cc
+
+pub splice-spec : {M : Type 1} → statement M
+splice-spec = tie.close (tie.spec (λ c κs. search needs) (λ c κs. search needs) returns)

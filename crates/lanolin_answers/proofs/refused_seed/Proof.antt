@@ -1,0 +1,12 @@
+-- `answers::refused_seed` meets its contract: each case has the table's value. Assumes nothing.
+use mathlib.Core.Path.{sym, ap}
+use borrow.Author.Needs.{needs}
+use Rattle.format.specs.Answer.{refusalSeed}
+use Rattle.lanolin_answers.proofs.refused_seed.Statement.{statement}
+use Rattle.lanolin_answers.proofs.refused_seed.Tie as tie
+
+returns : tie.Need-returns
+returns c = sym (ap (refusalSeed (c .before .before .before .args .seed)) (c .before .r .given .1))
+
+pub refused-seed-spec : {M : Type 1} → statement M
+refused-seed-spec = tie.close (tie.spec (λ c. search needs) (λ c. search needs) (λ c. search needs) (λ c. search needs) (λ c. search needs) (λ c. search needs) (λ c. search needs) (λ c. search needs) (λ c. search needs) returns (λ c. search needs) (λ c. search needs) (λ c. search needs) (λ c. search needs) (λ c. search needs) (λ c. search needs) (λ c. search needs) (λ c. search needs))

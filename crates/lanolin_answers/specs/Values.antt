@@ -1,0 +1,35 @@
+-- The structs that C gets, from the answers. Assumes nothing.
+use Prim.Native.Nat.{ℕ}
+use Rattle.format.specs.Answer.{wordResult, wordValue, gotResult, gotTag, fetchedResult, fetchedMdir, fetchedSeed, alteredResult, committedResult, committedIndex, committedMdir, committedSeed, storedResult, storedIndex, storedMade}
+use Rattle.format.specs.declared.Word.{Word}
+use Rattle.format.specs.declared.Got.{Got}
+use Rattle.format.specs.declared.Fetched.{Fetched}
+use Rattle.format.specs.declared.Informed.{Informed}
+use Rattle.format.specs.declared.Committed.{Committed}
+use Rattle.format.specs.declared.Stored.{Stored}
+use Rattle.lanolin_answers.specs.declared.Value.{Value}
+use Rattle.lanolin_answers.specs.declared.FetchedOut.{FetchedOut}
+use Rattle.lanolin_answers.specs.declared.InfoOut.{InfoOut}
+use Rattle.lanolin_answers.specs.declared.CommittedOut.{CommittedOut}
+use Rattle.lanolin_answers.specs.declared.StoredOut.{StoredOut}
+
+abbrev pub wordOut : Word → Value
+wordOut w = record { result = wordResult w; value = wordValue w }
+
+abbrev pub gotOut : Got → Value
+gotOut g = record { result = gotResult g; value = gotTag g }
+
+-- from the seed that was given
+abbrev pub fetchedOut : ℕ → Fetched → FetchedOut
+fetchedOut seed f = record { result = fetchedResult f; dir = fetchedMdir f; seed = fetchedSeed seed f }
+
+abbrev pub infoOut : Informed → InfoOut
+infoOut i = record { result = alteredResult (i .answer); kind = i .info .kind; size = i .info .size; name = i .info .name }
+
+-- from the seed that was given
+abbrev pub committedOut : ℕ → Committed → CommittedOut
+committedOut seed c =
+    record { result = committedResult c; index = committedIndex c; dir = committedMdir c; seed = committedSeed seed c }
+
+abbrev pub storedOut : Stored → StoredOut
+storedOut s = record { result = storedResult s; index = storedIndex s; stores = storedMade s }

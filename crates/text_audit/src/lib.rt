@@ -1,0 +1,180 @@
+// The audit of a pair's instructions: each slot with a payload and no deadline, or a deadline and no payload, and how many there are of both; or the
+// refusal. The text is written to a lent buffer as far as there is room; the answer is the length of the whole text. Any bytes may be audited.
+ghost use mathlib.Core.Path.{_≡_};
+ghost use Prim.Native.Nat.{_<_};
+ghost use lib.ListN.{length};
+ghost use Rattle.format.specs.Log.{log};
+ghost use Rattle.format.specs.Directory.{dirOf};
+ghost use Rattle.format.specs.Listing.{writtenTo};
+ghost use Rattle.format.specs.Audit.{isInstruction, isPayload, isDeadline, lackLine, nameOrDash, totalLines, blockAudit, auditOf};
+ghost use Rattle.text.specs.Put.{text, putsOf};
+ghost use Rattle.compact_slot.specs.Seat.{loadIn, Inside};
+ghost use Rattle.compact_slot.specs.Slots.{Slots, slotIn};
+ghost use Rattle.text_listing.specs.Listed.{AllInside, Listable};
+ghost use Rattle.text_audit.specs.Audited.{Told, Few, SlotAudited, SlotsAudited};
+use format::Fetched;
+use format::LfsMdir;
+use format::Refusal;
+
+const LFS_TYPE_DIR: u32 = 0x002;
+
+const LFS_TYPE_SUPERBLOCK: u32 = 0x0ff;
+
+const LFS_TYPE_INLINESTRUCT: u32 = 0x201;
+
+const LFS_TYPE_CTZSTRUCT: u32 = 0x202;
+// The class of the deadline, the user attribute 0x74: a name and a struct come before.
+const DEADLINE: usize = 2 + 0x74;
+
+// How far the audit is: the length of the text so far, and how many instructions lack a deadline and how many a payload.
+pub struct Audit {
+    pub at: u32,
+    pub no_deadline: u32,
+    pub no_payload: u32,
+}
+
+// "A slot is an instruction unless its name says directory or superblock": with no name it is one.
+fn is_instruction(name: u64) -> bool
+    ensures { λ r. ⌜ Told isInstruction name r ⌝ }
+{
+    let p = text_listing::part(name);
+    if !p.held {
+        return true;
+    }
+    (p.kind != LFS_TYPE_DIR) & (p.kind != LFS_TYPE_SUPERBLOCK)
+}
+
+// "It has a payload if its struct is CTZ, or inline of one byte or more."
+fn is_payload(content: u64) -> bool
+    ensures { λ r. ⌜ Told isPayload content r ⌝ }
+{
+    let p = text_listing::part(content);
+    if !p.held {
+        return false;
+    }
+    (p.kind == LFS_TYPE_CTZSTRUCT) | ((p.kind == LFS_TYPE_INLINESTRUCT) & (p.from < p.to))
+}
+
+// "It has a deadline if the user attribute 0x74 is there": a removed one isn't.
+fn is_deadline(attribute: u64) -> bool
+    ensures { λ r. ⌜ Told isDeadline attribute r ⌝ }
+{
+    let p = text_listing::part(attribute);
+    p.held
+}
+
+// "The name as in the listing; `-` where there is none."
+fn name_or_dash(out: &mut [u8], at: u32, b: &[u8], name: u64) -> u32
+    requires { ⌜ Inside (now b) name ⌝ }
+    ensures { λ r. ⌜ text r (now (out .exit)) ≡ putsOf (text at (now (out .entry))) (nameOrDash (loadIn (now (b .entry)) name)) ⌝ }
+{
+    let p = text_listing::part(name);
+    if !p.held {
+        return text::puts(out, at, b"-");
+    }
+    let from = p.from;
+    let to = p.to;
+    text::name_bytes(out, at, &b[from..to])
+}
+
+// The line of a slot: its id, its name, and what it lacks.
+fn lack_line(out: &mut [u8], at: u32, b: &[u8], id: u32, name: u64, what: &[u8]) -> u32
+    requires { ⌜ Inside (now b) name ⌝ }
+    ensures { λ r. ⌜ text r (now (out .exit)) ≡ putsOf (text at (now (out .entry))) (lackLine id (loadIn (now (b .entry)) name) (now (what .entry))) ⌝ }
+{
+    let n = text::puts(out, at, b"slot ");
+    let n = text::decimal(out, n, id);
+    let n = text::puts(out, n, b" ");
+    let n = name_or_dash(out, n, b, name);
+    text::puts(out, n, what)
+}
+
+// A slot: one of the two lines, or none, and the count that goes with it.
+fn slot_audit(out: &mut [u8], a: Audit, b: &[u8], id: u32, seats: &[u64; 258]) -> Audit
+    requires { ⌜ AllInside (now b) (now seats) ⌝ }
+    requires { ⌜ Few a ⌝ }
+    ensures { λ r. ⌜ SlotAudited a (now (out .entry)) r (now (out .exit)) id (slotIn (now (b .entry)) (now (seats .entry))) ⌝ }
+{
+    let at = a.at;
+    let no_deadline = a.no_deadline;
+    let no_payload = a.no_payload;
+    let instruction = is_instruction(seats[0]);
+    let payload = is_payload(seats[1]);
+    let deadline = is_deadline(seats[DEADLINE]);
+    if instruction & (payload & !deadline) {
+        let n = lack_line(out, at, b, id, seats[0], b" no deadline\n");
+        return Audit {
+            at: n,
+            no_deadline: no_deadline + 1,
+            no_payload,
+        };
+    }
+    if instruction & (deadline & !payload) {
+        let n = lack_line(out, at, b, id, seats[0], b" no payload\n");
+        return Audit {
+            at: n,
+            no_deadline,
+            no_payload: no_payload + 1,
+        };
+    }
+    a
+}
+
+// All slots of the log that ends at `end` with the tag `etag`, by rising id.
+fn slot_audits(out: &mut [u8], b: &[u8], end: usize, etag: u32, count: u32) -> Audit
+    requires { ⌜ Slots (now b) end etag count ⌝ }
+    ensures { λ r. ⌜ SlotsAudited (now (out .entry)) r (now (out .exit)) (dirOf (log (now (b .entry)))) ⌝ }
+{
+    let mut a = Audit {
+        at: 0,
+        no_deadline: 0,
+        no_payload: 0,
+    };
+    let mut id: u32 = 0;
+    while id < count {
+        let seats = compact_slot::gather(b, end, etag, id as usize);
+        a = slot_audit(out, a, b, id, &seats);
+        id += 1;
+    }
+    a
+}
+
+// "Behind them three lines": the two counts, and the number of slots.
+fn total_lines(out: &mut [u8], a: Audit, count: u32) -> u32
+    ensures { λ r. ⌜ text r (now (out .exit)) ≡ putsOf (text (a .at) (now (out .entry))) (totalLines (a .«no_deadline») (a .«no_payload») count) ⌝ }
+{
+    let n = text::number_line(out, a.at, b"payload without deadline ", a.no_deadline);
+    let n = text::number_line(out, n, b"deadline without payload ", a.no_payload);
+    text::number_line(out, n, b"slots ", count)
+}
+
+// "A log that isn't regular has no directory: -202, and nothing else."
+fn block_audit(out: &mut [u8], b: &[u8], m: LfsMdir) -> u32
+    requires { ⌜ Listable (now b) m ⌝ }
+    ensures { λ r. ⌜ text r (now (out .exit)) ≡ putsOf (text 0 (now (out .entry))) (blockAudit m (now (b .entry))) ⌝ }
+{
+    if !commit_regular::lfs_dir_regular(b) {
+        return text_listing::refused(out, 0, Refusal::Irregular);
+    }
+    let a = slot_audits(out, b, m.off as usize, m.etag, m.count as u32);
+    total_lines(out, a, m.count as u32)
+}
+
+// Both images, one behind the other, as the listing takes them.
+pub fn lfs_dir_audit(input: &[u8], out: &mut [u8]) -> u32
+    ensures { λ r. ⌜ r ≡ length (auditOf (now (input .entry))) ⌝ }
+    ensures { λ _. ⌜ now (out .exit) ≡ writtenTo (now (out .entry)) (auditOf (now (input .entry))) ⌝ }
+{
+    let half = input.len() / 2;
+    match text_listing::fetch_input(input) {
+        Fetched::Refused(r) => text_listing::refused(out, 0, r),
+        Fetched::Found(m, _) => {
+            let pair = m.pair;
+            if pair.n0 == 0 {
+                block_audit(out, &input[0..half], m)
+            } else {
+                block_audit(out, &input[half..], m)
+            }
+        }
+    }
+}

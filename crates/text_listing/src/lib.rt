@@ -1,0 +1,280 @@
+// The listing of a metadata pair: document 01's text of the record, the slots and their user attributes, or of the refusal. It is written to a lent
+// buffer as far as there is room; the answer is the length of the whole text. Any bytes may be listed.
+ghost use mathlib.Core.Path.{_≡_};
+ghost use Prim.Native.Nat.{_^_};
+ghost use lib.ListN.{length};
+ghost use Rattle.format.specs.Log.{log};
+ghost use Rattle.format.specs.Directory.{dirOf};
+ghost use Rattle.format.specs.Listing.{tailKind, tailLine, erasedLine, recordLines, nameFields, structFields, attrData, attrLine, attrLines, slotLines, refusedLine, blockText, fetchInput, listingOf, writtenTo};
+ghost use Rattle.text.specs.Put.{text, putsOf};
+ghost use Rattle.compact_slot.specs.Seat.{loadIn, Inside};
+ghost use Rattle.compact_slot.specs.Slots.{Slots, slotIn};
+ghost use Rattle.text_listing.specs.Listed.{Stands, AllInside, slotText, Listable, Numbers};
+use format::Fetched;
+use format::Geometry;
+use format::LfsMdir;
+use format::LfsPair;
+use format::Refusal;
+
+const LFS_BLOCK_NULL: u32 = 0xffff_ffff;
+// The class of the first user attribute: a name and a struct come before.
+const ATTRIBUTES: usize = 2;
+
+// What stands at a seat: nothing, or an entry's type and where its data begin and end in the block.
+pub struct Held {
+    pub held: bool,
+    pub kind: u32,
+    pub from: usize,
+    pub to: usize,
+}
+
+// Nothing at a free seat, and nothing for a removal.
+pub fn part(seat: u64) -> Held
+    ensures { λ r. ⌜ Stands seat r ⌝ }
+{
+    let nothing = Held {
+        held: false,
+        kind: 0,
+        from: 0,
+        to: 0,
+    };
+    if seat == 0 {
+        return nothing;
+    }
+    let found = (seat / 0x1_0000 % 0x1_0000_0000) as u32;
+    if tag::lfs_tag_isdelete(found) {
+        return nothing;
+    }
+    let from = (seat % 0x1_0000) as usize + 4;
+    Held {
+        held: true,
+        kind: tag::lfs_tag_type3(found) as u32,
+        from,
+        to: from + tag::lfs_tag_size(found) as usize,
+    }
+}
+
+// "id, name type, name, ..; a missing part prints `-` per field"
+fn name_fields(out: &mut [u8], at: u32, b: &[u8], seat: u64) -> u32
+    requires { ⌜ Inside (now b) seat ⌝ }
+    ensures { λ r. ⌜ text r (now (out .exit)) ≡ putsOf (text at (now (out .entry))) (nameFields (loadIn (now (b .entry)) seat)) ⌝ }
+{
+    let p = part(seat);
+    if !p.held {
+        return text::puts(out, at, b" - -");
+    }
+    let from = p.from;
+    let to = p.to;
+    let n = text::puts(out, at, b" ");
+    let n = text::hex_type(out, n, p.kind);
+    let n = text::puts(out, n, b" ");
+    text::name_bytes(out, n, &b[from..to])
+}
+
+// ".. struct type, struct length"
+fn struct_fields(out: &mut [u8], at: u32, b: &[u8], seat: u64) -> u32
+    requires { ⌜ Inside (now b) seat ⌝ }
+    ensures { λ r. ⌜ text r (now (out .exit)) ≡ putsOf (text at (now (out .entry))) (structFields (loadIn (now (b .entry)) seat)) ⌝ }
+{
+    let p = part(seat);
+    if !p.held {
+        return text::puts(out, at, b" - -\n");
+    }
+    let size = (p.to - p.from) as u32;
+    let n = text::puts(out, at, b" ");
+    let n = text::hex_type(out, n, p.kind);
+    text::number_line(out, n, b" ", size)
+}
+
+// ".. data hex, ..; an empty one prints `-`"
+fn attr_data(out: &mut [u8], at: u32, bytes: &[u8]) -> u32
+    ensures { λ r. ⌜ text r (now (out .exit)) ≡ putsOf (text at (now (out .entry))) (attrData (now (bytes .entry))) ⌝ }
+{
+    if bytes.len() == 0 {
+        return text::puts(out, at, b"-");
+    }
+    text::hex_bytes(out, at, bytes)
+}
+
+// "Attr, behind its slot: id, type, data hex"; nothing where nothing stands at the seat.
+fn attr_line(out: &mut [u8], at: u32, b: &[u8], id: u32, seat: u64) -> u32
+    requires { ⌜ Inside (now b) seat ⌝ }
+    ensures { λ r. ⌜ text r (now (out .exit)) ≡ putsOf (text at (now (out .entry))) (attrLine id (loadIn (now (b .entry)) seat)) ⌝ }
+{
+    let p = part(seat);
+    if !p.held {
+        return at;
+    }
+    let from = p.from;
+    let to = p.to;
+    let n = text::puts(out, at, b"attr ");
+    let n = text::decimal(out, n, id);
+    let n = text::puts(out, n, b" ");
+    let n = text::hex_type(out, n, p.kind);
+    let n = text::puts(out, n, b" ");
+    let n = attr_data(out, n, &b[from..to]);
+    text::puts(out, n, b"\n")
+}
+
+// The user attributes of a slot, ".. rising".
+fn attr_lines(out: &mut [u8], at: u32, b: &[u8], id: u32, seats: &[u64; 258]) -> u32
+    requires { ⌜ AllInside (now b) (now seats) ⌝ }
+    ensures { λ r. ⌜ text r (now (out .exit)) ≡ putsOf (text at (now (out .entry))) (attrLines (2 ^ 8) 2 id (slotIn (now (b .entry)) (now (seats .entry)))) ⌝ }
+{
+    let mut n = at;
+    let mut class = ATTRIBUTES;
+    while class < compact_slot::CLASSES {
+        n = attr_line(out, n, b, id, seats[class]);
+        class += 1;
+    }
+    n
+}
+
+// A slot: its line, and its user attributes behind it.
+fn slot_text(out: &mut [u8], at: u32, b: &[u8], id: u32, seats: &[u64; 258]) -> u32
+    requires { ⌜ AllInside (now b) (now seats) ⌝ }
+    ensures { λ r. ⌜ text r (now (out .exit)) ≡ putsOf (text at (now (out .entry))) (slotText id (slotIn (now (b .entry)) (now (seats .entry)))) ⌝ }
+{
+    let n = text::puts(out, at, b"slot ");
+    let n = text::decimal(out, n, id);
+    let n = name_fields(out, n, b, seats[0]);
+    let n = struct_fields(out, n, b, seats[1]);
+    attr_lines(out, n, b, id, seats)
+}
+
+// All slots of the log that ends at `end` with the tag `etag`.
+fn slot_lines(out: &mut [u8], at: u32, b: &[u8], end: usize, etag: u32, count: u32) -> u32
+    requires { ⌜ Slots (now b) end etag count ⌝ }
+    ensures { λ r. ⌜ text r (now (out .exit)) ≡ putsOf (text at (now (out .entry))) (slotLines 0 (dirOf (log (now (b .entry))))) ⌝ }
+{
+    let mut n = at;
+    let mut id: u32 = 0;
+    while id < count {
+        let seats = compact_slot::gather(b, end, etag, id as usize);
+        n = slot_text(out, n, b, id, &seats);
+        id += 1;
+    }
+    n
+}
+
+// "A tail prints `soft` or `hard` .."
+fn tail_kind(out: &mut [u8], at: u32, split: bool) -> u32
+    ensures { λ r. ⌜ text r (now (out .exit)) ≡ putsOf (text at (now (out .entry))) (tailKind split) ⌝ }
+{
+    if split {
+        return text::puts(out, at, b"tail hard ");
+    }
+    text::puts(out, at, b"tail soft ")
+}
+
+// ".. and two decimals; `none` is soft, both 0xffffffff."
+fn tail_line(out: &mut [u8], at: u32, split: bool, pair: LfsPair) -> u32
+    ensures { λ r. ⌜ text r (now (out .exit)) ≡ putsOf (text at (now (out .entry))) (tailLine split pair) ⌝ }
+{
+    let n0 = pair.n0;
+    let n1 = pair.n1;
+    if !split & (n0 == LFS_BLOCK_NULL) & (n1 == LFS_BLOCK_NULL) {
+        return text::puts(out, at, b"tail none\n");
+    }
+    let n = tail_kind(out, at, split);
+    let n = text::decimal(out, n, n0);
+    text::number_line(out, n, b" ", n1)
+}
+
+fn erased_line(out: &mut [u8], at: u32, erased: bool) -> u32
+    ensures { λ r. ⌜ text r (now (out .exit)) ≡ putsOf (text at (now (out .entry))) (erasedLine erased) ⌝ }
+{
+    if erased {
+        return text::puts(out, at, b"erased yes\n");
+    }
+    text::puts(out, at, b"erased no\n")
+}
+
+// The six lines of a record.
+fn record_lines(out: &mut [u8], at: u32, m: LfsMdir) -> u32
+    ensures { λ r. ⌜ text r (now (out .exit)) ≡ putsOf (text at (now (out .entry))) (recordLines m) ⌝ }
+{
+    let pair = m.pair;
+    let tail = m.tail;
+    let n = text::number_line(out, at, b"rev ", m.rev);
+    let n = text::number_line(out, n, b"block ", pair.n0);
+    let n = text::number_line(out, n, b"end ", m.off);
+    let n = text::number_line(out, n, b"count ", m.count as u32);
+    let n = tail_line(out, n, m.split, tail);
+    erased_line(out, n, m.erased)
+}
+
+// The number of a refusal, without its sign.
+fn number_of(r: Refusal) -> u32
+    ensures { λ n. ⌜ Numbers r n ⌝ }
+{
+    match r {
+        Refusal::Invalid => 22,
+        Refusal::Corrupt => 84,
+        Refusal::NoEntry => 2,
+        Refusal::TooMany(_, _) => 2,
+        Refusal::BadEntry(_) => 201,
+        Refusal::Irregular => 202,
+        Refusal::NoSpace => 28,
+        Refusal::Unclean => 203,
+        Refusal::Coincidence => 204,
+    }
+}
+
+// "A refusal prints `refused` and its number": all of them are below 0.
+pub fn refused(out: &mut [u8], at: u32, r: Refusal) -> u32
+    ensures { λ n. ⌜ text n (now (out .exit)) ≡ putsOf (text at (now (out .entry))) (refusedLine r) ⌝ }
+{
+    let number = number_of(r);
+    text::number_line(out, at, b"refused -", number)
+}
+
+// "for -202 after the erased line"
+fn block_text(out: &mut [u8], b: &[u8], m: LfsMdir) -> u32
+    requires { ⌜ Listable (now b) m ⌝ }
+    ensures { λ r. ⌜ text r (now (out .exit)) ≡ putsOf (text 0 (now (out .entry))) (blockText m (now (b .entry))) ⌝ }
+{
+    let n = record_lines(out, 0, m);
+    if !commit_regular::lfs_dir_regular(b) {
+        return refused(out, n, Refusal::Irregular);
+    }
+    slot_lines(out, n, b, m.off as usize, m.etag, m.count as u32)
+}
+
+// What fetch answers for both images, one behind the other: "block size is half the length, program size 16, numbers 0 and 1, block count 0, seed 0;
+// an odd length or one above 65,536 is -22".
+pub fn fetch_input(input: &[u8]) -> Fetched
+    ensures { λ r. ⌜ r ≡ fetchInput (now (input .entry)) ⌝ }
+{
+    let n = input.len();
+    if n % 2 == 1 {
+        return Fetched::Refused(Refusal::Invalid);
+    }
+    if 65_536 < n {
+        return Fetched::Refused(Refusal::Invalid);
+    }
+    let half = n / 2;
+    let g = Geometry {
+        block_size: half as u32,
+        prog_size: 16,
+    };
+    fetch::lfs_dir_fetch(g, &input[0..half], &input[half..], 0, 1, 0, 0)
+}
+
+pub fn lfs_dir_list(input: &[u8], out: &mut [u8]) -> u32
+    ensures { λ r. ⌜ r ≡ length (listingOf (now (input .entry))) ⌝ }
+    ensures { λ _. ⌜ now (out .exit) ≡ writtenTo (now (out .entry)) (listingOf (now (input .entry))) ⌝ }
+{
+    let half = input.len() / 2;
+    match fetch_input(input) {
+        Fetched::Refused(r) => refused(out, 0, r),
+        Fetched::Found(m, _) => {
+            let pair = m.pair;
+            if pair.n0 == 0 {
+                block_text(out, &input[0..half], m)
+            } else {
+                block_text(out, &input[half..], m)
+            }
+        }
+    }
+}

@@ -1,0 +1,5 @@
+-- A commit: what the tests give; its acceptance as one record; an accepted verdict is one; the machine after it.
+pub mod Tested
+pub mod Acceptance
+pub mod AcceptedVerdict
+pub mod MachineAfter

@@ -1,0 +1,118 @@
+-- Document 01's acceptance of a commit as one record of Booleans, and what follows of it: demand 3, the directory, regularity. Assumes nothing.
+use mathlib.Core.Path.{_≡_, refl, ap, ap₂, _∙_}
+use mathlib.Core.Logic.{_≢_}
+use mathlib.Core.Bool.{Bool, true, false, _||_}
+use mathlib.Core.List.{List, [], _∷_, _++_}
+use Prim.Native.Nat.{ℕ, zero, suc, _+_, _-_, _^_, _≤_, _<_}
+use native.Mathlib.Omega.{arith}
+use lib.ListN.{length, drop, length-drop}
+use lib.Dec.{eqb, leb}
+use borrow.Author.Tests.{eqb-true, eqb-false, leb-true, ltb-true}
+use Rattle.format.specs.Word.{toBe32, xor, allOnes}
+use Rattle.format.specs.Tag.{tagValid, tagLength}
+use Rattle.format.specs.Kind.{typeCheck, noSlot}
+use Rattle.format.specs.Crc.{crc}
+use Rattle.format.specs.Walk.{Event}
+use Rattle.format.specs.Log.{log, logEnd, logEndTag}
+use Rattle.format.specs.View.{at}
+use Rattle.format.specs.Regular.{between, Regular}
+use Rattle.format.specs.Commit.{checkTag, Item, itemsHold}
+use Rattle.format.specs.Stores.{erasedByte, erased, allErased, fill, entriesLength, appending, coincides}
+use Rattle.format.specs.Directory.{acts}
+use Rattle.format.proofs.Tags.{of-size}
+use Rattle.theory.specs.Walk.Step.{both-true}
+use Rattle.theory.specs.Walk.Cut.{NoCoincidence}
+use Rattle.theory.specs.Log.Stores.{commitEvents}
+use Rattle.theory.specs.Log.TwoBlocks.{viewAt}
+use Rattle.theory.specs.Blocks.Append.{AppendOk, AfterAppend, demand3-append}
+use Rattle.theory.specs.Blocks.OtherItems.{good-check, plain-check}
+use Rattle.theory.specs.Lookup.SlotCount.{slotsAfterAll}
+use Rattle.theory.specs.Rules.MadeItem.{AllMade}
+use Rattle.theory.specs.Commit.Tested.{ItemsOk, items-ok, regular-count, regular-log, regular-again}
+
+-- ---- the Booleans, read
+pub erased-is : (l : List ℕ) → allErased l ≡ true → l ≡ erased (length l)
+unfolding allErased
+erased-is [] h = refl
+erased-is (b ∷ l) h =
+    let r = both-true (eqb b erasedByte) (allErased l) h in
+    ap₂ (λ (x : ℕ) (y : List ℕ). x ∷ y) (eqb-true b erasedByte (r .0)) (erased-is l (r .1))
+
+none-of-three : (a b c : Bool) → a || b || c ≡ false → (a ≡ false) × (b ≡ false) × (c ≡ false)
+none-of-three false false false h = (refl, refl, refl)
+none-of-three true b c h = (cc, cc, cc)
+none-of-three false true c h = (cc, cc, cc)
+none-of-three false false true h = (cc, cc, cc)
+
+pub no-coincidence : (is : List Item) (sum p ct : ℕ) → coincides sum p is ct ≡ false → NoCoincidence sum p is ct
+unfolding coincides
+no-coincidence (i ∷ is) sum p ct h = no-coincidence is (crc sum (toBe32 (xor (i .tag) p) ++ i .body)) (i .tag) ct h
+no-coincidence [] sum p ct h = go
+  where
+    T : List ℕ
+    T = toBe32 (xor ct p)
+
+    three : (eqb (crc sum (fill 1 T)) allOnes ≡ false) × (eqb (crc sum (fill 2 T)) allOnes ≡ false) × (eqb (crc sum (fill 3 T)) allOnes ≡ false)
+    three = none-of-three (eqb (crc sum (fill 1 T)) allOnes) (eqb (crc sum (fill 2 T)) allOnes) (eqb (crc sum (fill 3 T)) allOnes) h
+
+    go : (j : ℕ) → 0 < j → j < 4 → crc sum (fill j T) ≢ allOnes
+    go zero a b = absurd (omega arith)
+    go (suc zero) a b = eqb-false (crc sum (fill 1 T)) allOnes (three .0)
+    go (suc (suc zero)) a b = eqb-false (crc sum (fill 2 T)) allOnes (three .1)
+    go (suc (suc (suc zero))) a b = eqb-false (crc sum (fill 3 T)) allOnes (three .2)
+    go (suc (suc (suc (suc j)))) a b = absurd (omega arith)
+
+-- ---- a commit of `is` with a check of this size is accepted on the block b whose log is es
+pub record Accepts (b : List ℕ) (es : List Event) (is : List Item) (size : ℕ) : Type 0 where
+  pub old : log b ≡ es
+  pub nonempty : es ≢ []
+  -- "-202 | the committed log isn't regular"
+  pub regular : Regular es ≡ true
+  -- "-201 | an entry is bad"
+  pub made : AllMade is
+  pub hold : itemsHold (slotsAfterAll 0 (acts es)) is ≡ true
+  -- "Its size, 4 or more"
+  pub check : between 4 1_022 size ≡ true
+  -- "-28 | the rounded end passes the block"
+  pub fits : leb (logEnd es + entriesLength is + tagLength (checkTag size)) (length b) ≡ true
+  -- "-203 | append only: the room behind the end isn't clean"
+  pub clean : allErased (drop (logEnd es) b) ≡ true
+  pub top : tagValid (logEndTag es) ≡ true
+  -- "-204 | the checksum coincidence"
+  pub lucky : coincides allOnes (logEndTag es) is (checkTag size) ≡ false
+
+module _ (b : List ℕ) (es : List Event) (is : List Item) (size : ℕ) (a : Accepts b es is size) where
+  check-size : (4 ≤ size) × (size ≤ 1_022)
+  check-size = let r = both-true (leb 4 size) (leb size 1_022) (a .check) in (leb-true 4 size (r .0), leb-true size 1_022 (r .1))
+
+  pub accepted-items : ItemsOk (slotsAfterAll 0 (acts es)) is
+  accepted-items = items-ok is (slotsAfterAll 0 (acts es)) (a .made) (regular-count b es (a .old) (a .regular)) (a .hold)
+
+  pub accepted : AppendOk b es is (checkTag size)
+  accepted =
+      let n : length (drop (logEnd es) b) ≡ length b - logEnd es = length-drop (logEnd es) b in
+      record {
+        old = a .old;
+        nonempty = a .nonempty;
+        reg = regular-log b es (a .old) (a .regular) .base .reg;
+        items = accepted-items .good;
+        check = good-check size (check-size .0) (omega (arith, check-size .1));
+        plain = plain-check size (omega (arith, check-size .1));
+        fits = leb-true (logEnd es + entriesLength is + tagLength (checkTag size)) (length b) (a .fits);
+        clean = erased-is (drop (logEnd es) b) (a .clean) ∙ ap erased n;
+        top = ltb-true (logEndTag es) (2 ^ 31) (a .top);
+        lucky = no-coincidence is allOnes (logEndTag es) (checkTag size) (a .lucky);
+      }
+
+  -- the finished log is regular again, so that the next commit is not refused for it
+  pub finished-regular : Regular (es ++ commitEvents allOnes (logEndTag es) is (checkTag size)) ≡ true
+  finished-regular =
+      regular-again es allOnes (logEndTag es) is (checkTag size) (a .regular) (a .hold)
+      (rw (of-size typeCheck noSlot size (omega (arith, check-size .1))) (a .check))
+
+  -- DEMAND 3: b answers, at place w, and o is the other block
+  module _ (w : Bool) (o : List ℕ) (v : ℕ) (answers : viewAt w b o ≡ at w v es) where
+    -- after k stores: the finished block, or the old view; and what the finished pair is
+    pub accepted-stopped : (k : ℕ) → k ≤ entriesLength is + 8
+        → AfterAppend w o v es is (checkTag size) (appending b es is (checkTag size) k) (appending b es is (checkTag size) (entriesLength is + 8))
+    accepted-stopped k h = demand3-append w b o v es is (checkTag size) k answers accepted h

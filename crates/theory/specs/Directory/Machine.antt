@@ -1,0 +1,122 @@
+-- The directory machine, "slots inserted, removed, attributes set", and the search back through what was done to it: they agree. Assumes nothing.
+use Rattle.format.specs.Directory.{Act, Load, Slot, apply, dir, empty, mk, put, rm, skip, upd}
+use mathlib.Core.Path.{_≡_, refl, sym, ap, _∙_}
+use mathlib.Core.Logic.{_≢_}
+use mathlib.Core.Bool.{Bool, true, false, cond, _&&_}
+use mathlib.Core.Option.{Option, none}
+use mathlib.Core.List.{List, [], _∷_, _++_}
+use Prim.Native.Nat.{ℕ, suc, _+_, _-_, _≤_, _<_}
+use native.Mathlib.Omega.{arith}
+use lib.ListN.{take, drop, set, getD, length, List·getD-append, length-append, length-drop, length-set}
+use lib.Seq.{length-take-le, getD-take, getD-append-add, getD-drop, getD-set-same, getD-set-other}
+use lib.Dec.{eqb, leb}
+use borrow.Author.Tests.{leb-false, eqb-true, leb-true, eqb-false}
+
+-- the rules leave a directory at most so many slots: "c at most 1,022" before a create
+abbrev pub mostSlots : ℕ
+mostSlots = 1_023
+
+abbrev pub Allowed : Act → ℕ → Type 0
+Allowed (mk j) n = j ≤ n
+Allowed (rm j) n = j < n
+Allowed (put j c v) n = j < n
+Allowed skip n = Unit {0}
+
+abbrev pub AllAllowed : List Act → Type 0
+AllAllowed [] = Unit {0}
+AllAllowed (a ∷ l) = Allowed a (length (dir l)) × AllAllowed l
+
+-- the search back, newest first: class c of slot i
+unfoldable pub find : ℕ → ℕ → List Act → Option Load
+find c i [] = none
+find c i (mk j ∷ l) = cond (leb j i) (cond (eqb j i) none (find c (i - 1) l)) (find c i l)
+find c i (rm j ∷ l) = cond (leb j i) (find c (i + 1) l) (find c i l)
+find c i (put j k v ∷ l) = cond (eqb j i && eqb c k) v (find c i l)
+find c i (skip ∷ l) = find c i l
+
+-- ---- inserting and removing
+module _ {A : Type 0} where
+  ins-before : (D : List A) (j i : ℕ) (x d : A) → j ≤ length D → i < j → getD (take j D ++ x ∷ drop j D) i d ≡ getD D i d
+  ins-before D j i x d h k =
+      List·getD-append (take j D) (x ∷ drop j D) d i (omega (arith, length-take-le j D h)) ∙ getD-take j D i d k
+
+  ins-at : (D : List A) (j : ℕ) (x d : A) → j ≤ length D → getD (take j D ++ x ∷ drop j D) j d ≡ x
+  ins-at D j x d h =
+      let e : length (take j D) + 0 ≡ j = omega (arith, length-take-le j D h) in
+      ap (λ n. getD (take j D ++ x ∷ drop j D) n d) (sym e) ∙ getD-append-add (take j D) (x ∷ drop j D) 0 d
+
+  ins-after : (D : List A) (j i : ℕ) (x d : A) → j ≤ length D → j < i → getD (take j D ++ x ∷ drop j D) i d ≡ getD D (i - 1) d
+  ins-after D j i x d h k =
+      let e : length (take j D) + suc (i - 1 - j) ≡ i = omega (arith, length-take-le j D h) in
+      let f : j + (i - 1 - j) ≡ i - 1 = omega arith in
+      ap (λ n. getD (take j D ++ x ∷ drop j D) n d) (sym e) ∙ getD-append-add (take j D) (x ∷ drop j D) (suc (i - 1 - j)) d
+      ∙ getD-drop j D (i - 1 - j) d ∙ ap (λ n. getD D n d) f
+
+  del-before : (D : List A) (j i : ℕ) (d : A) → j < length D → i < j → getD (take j D ++ drop (suc j) D) i d ≡ getD D i d
+  del-before D j i d h k =
+      List·getD-append (take j D) (drop (suc j) D) d i (omega (arith, length-take-le j D (omega arith))) ∙ getD-take j D i d k
+
+  del-after : (D : List A) (j i : ℕ) (d : A) → j < length D → j ≤ i → getD (take j D ++ drop (suc j) D) i d ≡ getD D (i + 1) d
+  del-after D j i d h k =
+      let e : length (take j D) + (i - j) ≡ i = omega (arith, length-take-le j D (omega arith)) in
+      let f : suc j + (i - j) ≡ i + 1 = omega arith in
+      ap (λ n. getD (take j D ++ drop (suc j) D) n d) (sym e) ∙ getD-append-add (take j D) (drop (suc j) D) (i - j) d
+      ∙ getD-drop (suc j) D (i - j) d ∙ ap (λ n. getD D n d) f
+
+  pub length-ins : (D : List A) (j : ℕ) (x : A) → j ≤ length D → length (take j D ++ x ∷ drop j D) ≡ suc (length D)
+  length-ins D j x h = rw (length-append (take j D) (x ∷ drop j D)) (omega (arith, length-take-le j D h, length-drop j D))
+
+  pub length-del : (D : List A) (j : ℕ) → j < length D → length (take j D ++ drop (suc j) D) ≡ length D - 1
+  length-del D j h = rw (length-append (take j D) (drop (suc j) D)) (omega (arith, length-take-le j D (omega arith), length-drop (suc j) D))
+
+-- the search answers what the machine holds
+pub find-dir : (l : List Act) (c i : ℕ) → AllAllowed l → i < length (dir l) → find c i l ≡ getD (dir l) i empty c
+unfolding find dir apply empty upd
+find-dir [] c i r h = absurd (omega arith)
+find-dir (mk j ∷ l) c i r h = go (leb j i) refl (eqb j i) refl (λ k q. find-dir l c k (r .1) q)
+  where
+    D : List Slot
+    D = dir l
+
+    len : length (take j D ++ empty ∷ drop j D) ≡ suc (length D)
+    len = length-ins D j empty (r .0)
+
+    go : (b : Bool) → leb j i ≡ b → (e : Bool) → eqb j i ≡ e → ((k : ℕ) → k < length D → find c k l ≡ getD D k empty c)
+        → cond b (cond {A = Option Load} e none (find c (i - 1) l)) (find c i l) ≡ getD (take j D ++ empty ∷ drop j D) i empty c
+    go false b e q ih =
+        let k : i < j = leb-false j i b in
+        ih i (omega (arith, r .0)) ∙ sym (ap (λ s. s c) (ins-before D j i empty empty (r .0) k))
+    go true b true q ih =
+        rw (← eqb-true j i q) (sym (ap (λ s. s c) (ins-at D j empty empty (r .0))))
+    go true b false q ih =
+        let k : j ≤ i = leb-true j i b in
+        let n : j ≢ i = eqb-false j i q in
+        let lt : j < i = omega arith in
+        ih (i - 1) (omega (arith, len)) ∙ sym (ap (λ s. s c) (ins-after D j i empty empty (r .0) lt))
+find-dir (rm j ∷ l) c i r h = go (leb j i) refl (λ k q. find-dir l c k (r .1) q)
+  where
+    D : List Slot
+    D = dir l
+
+    len : length (take j D ++ drop (suc j) D) ≡ length D - 1
+    len = length-del D j (r .0)
+
+    go : (b : Bool) → leb j i ≡ b → ((k : ℕ) → k < length D → find c k l ≡ getD D k empty c)
+        → cond b (find c (i + 1) l) (find c i l) ≡ getD (take j D ++ drop (suc j) D) i empty c
+    go false b ih = ih i (omega (arith, len)) ∙ sym (ap (λ s. s c) (del-before D j i empty (r .0) (leb-false j i b)))
+    go true b ih = ih (i + 1) (omega (arith, len)) ∙ sym (ap (λ s. s c) (del-after D j i empty (r .0) (leb-true j i b)))
+find-dir (put j k v ∷ l) c i r h = go (eqb j i) refl (find-dir l c i (r .1) (omega (arith, length-set (dir l) j (upd (getD (dir l) j empty) k v))))
+  where
+    D : List Slot
+    D = dir l
+
+    go : (e : Bool) → eqb j i ≡ e → find c i l ≡ getD D i empty c → cond (e && eqb c k) v (find c i l) ≡ getD (set D j (upd (getD D j empty) k v)) i empty c
+    go true e ih = rw (← eqb-true j i e, getD-set-same D j (upd (getD D j empty) k v) empty (r .0)) (fin (eqb c k))
+      where
+        fin : (b : Bool) → cond b v (find c j l) ≡ cond b v (getD D j empty c)
+        fin true = refl
+        fin false = rw (eqb-true j i e) ih
+    go false e ih =
+        let n : i ≢ j = λ q. eqb-false j i e (sym q) in
+        ih ∙ sym (ap (λ s. s c) (getD-set-other D j i (upd (getD D j empty) k v) empty n))
+find-dir (skip ∷ l) c i r h = find-dir l c i (r .1) h

@@ -1,0 +1,134 @@
+-- A lookup at offset 0 on the bytes of a block: it reads nothing behind where the walk back begins, and it answers what the place it finds holds.
+-- Assumes nothing.
+use mathlib.Core.Path.{_≡_, refl, sym, ap, _∙_}
+use mathlib.Core.Bool.{Bool, true, false, cond, _&&_}
+use mathlib.Core.List.{List, [], _∷_}
+use Prim.Native.Nat.{ℕ, zero, suc, _+_, _-_, _%_, _^_, _≤_, _<_, min}
+use native.Mathlib.Omega.{arith}
+use native.Mathlib.Nat.{zero-add, add-zero, suc-add, min-zero, zero-min, suc-min-suc, min-le-left}
+use lib.ListN.{length, take, drop, getD, length-drop}
+use lib.Seq.{take-nil, take-take, drop-drop, getD-take, length-take-le}
+use lib.Bits.{bitAnd}
+use lib.Dec.{leb, eqb}
+use borrow.Author.Tests.{leb-true, le-leb, eqb-false}
+use Rattle.format.specs.Word.{be32, xor, minus32}
+use Rattle.format.specs.Tag.{tagSize, tagDelete, tagLength}
+use Rattle.format.specs.Back.{Met, hop, backs, back}
+use Rattle.format.specs.Look.{Found, noEntry, found, splicedAt, createAt, diffAfter, wlook}
+use Rattle.format.specs.Lookup.{sliceStart, sliceEnd, sliceAnswer, sliceBuffer}
+use Rattle.format.specs.declared.Got.the-variants as got
+use Rattle.format.proofs.Tags.{length-size}
+use Rattle.format.proofs.Words.{be32-at, tagLength-ge}
+use Rattle.theory.specs.Lookup.ByMask.{holds, Answers}
+use Rattle.format.specs.Machine.{heldGot, heldBuffer}
+
+-- ---- what the walk back meets, and what the search finds there, stands whole before n
+abbrev pub MetIn : ℕ → List Met → Type 0
+MetIn n [] = Unit {0}
+MetIn n (m ∷ ms) = (m .off + tagLength (m .tag) ≤ n) × MetIn n ms
+
+abbrev pub FoundIn : ℕ → Found → Type 0
+FoundIn n noEntry = Unit {0}
+FoundIn n (found t off d) = (off + tagLength t ≤ n) × (tagDelete t ≡ false)
+
+backs-in : (k : ℕ) (b : List ℕ) (off t n : ℕ) → off ≤ n → MetIn n (backs k b off t)
+unfolding backs
+backs-in zero b off t n h = tt
+backs-in (suc k) b off t n h =
+    go (leb (4 + tagLength t) off) refl (backs-in k b (off - tagLength t) (xor (be32 (drop (off - tagLength t) b)) t % 2 ^ 31) n (omega arith))
+  where
+    go : (c : Bool) → leb (4 + tagLength t) off ≡ c → MetIn n (backs k b (off - tagLength t) (xor (be32 (drop (off - tagLength t) b)) t % 2 ^ 31))
+        → MetIn n (hop (backs k b) c b off t)
+    go true e ih = let l : 4 + tagLength t ≤ off = leb-true (4 + tagLength t) off e in (omega arith, ih)
+    go false e ih = tt
+
+pub back-in : (b : List ℕ) (off t n : ℕ) → off ≤ n → MetIn n (back b off t)
+unfolding back
+back-in b off t n h = backs-in (suc off) b off t n h
+
+pub wlook-in : (n : ℕ) (ids : Bool) (mask key d : ℕ) (ms : List Met) → MetIn n ms → FoundIn n (wlook ids mask key d ms)
+unfolding wlook
+wlook-in n ids mask key d [] h = tt
+wlook-in n ids mask key d (m ∷ ms) h =
+    go (splicedAt ids (m .tag) (minus32 key d) && eqb (m .tag) (createAt (minus32 key d)))
+    (eqb (bitAnd (m .tag) mask) (bitAnd (minus32 key (diffAfter ids (m .tag) key d)) mask)) (tagDelete (m .tag)) refl
+    (wlook-in n ids mask key (diffAfter ids (m .tag) key d) ms (h .1))
+  where
+    go : (a b c : Bool) → tagDelete (m .tag) ≡ c → FoundIn n (wlook ids mask key (diffAfter ids (m .tag) key d) ms)
+        → FoundIn n (cond a noEntry (cond b (cond c noEntry (found (m .tag) (m .off) (diffAfter ids (m .tag) key d))) (wlook ids mask key (diffAfter ids (m .tag) key d) ms)))
+    go true b c e k = tt
+    go false true true e k = tt
+    go false true false e k = (h .0, e)
+    go false false c e k = k
+
+-- ---- two blocks that agree up to e
+pub piece : (p k : ℕ) (l : List ℕ) → take k (drop p l) ≡ drop p (take (p + k) l)
+piece zero k l = ap (λ (n : ℕ). take n l) (sym (zero-add k))
+piece (suc p) k [] = take-nil k ∙ sym (ap (drop (suc p)) (take-nil (suc p + k)))
+piece (suc p) k (x ∷ l) = piece p k l ∙ sym (ap (λ (n : ℕ). drop (suc p) (take n (x ∷ l))) (suc-add p k))
+
+module _ (e : ℕ) (x y : List ℕ) (same : take e x ≡ take e y) where
+  same-at : (i : ℕ) → i < e → getD x i 0 ≡ getD y i 0
+  same-at i h = sym (getD-take e x i 0 h) ∙ ap (λ (l : List ℕ). getD l i 0) same ∙ getD-take e y i 0 h
+
+  same-word : (p : ℕ) → p + 4 ≤ e → be32 (drop p x) ≡ be32 (drop p y)
+  same-word p h = be32-at x p ∙ rw (same-at p (omega arith), same-at (p + 1) (omega arith), same-at (p + 2) (omega arith), same-at (p + 3) (omega arith)) (sym (be32-at y p))
+
+  pub same-piece : (p k : ℕ) → p + k ≤ e → take k (drop p x) ≡ take k (drop p y)
+  same-piece p k h =
+      piece p k x ∙ ap (drop p) (sym (take-take (p + k) e x h) ∙ ap (take (p + k)) same ∙ take-take (p + k) e y h) ∙ sym (piece p k y)
+
+  backs-same : (k off t : ℕ) → off ≤ e → backs k x off t ≡ backs k y off t
+  unfolding backs
+  backs-same zero off t h = refl
+  backs-same (suc k) off t h =
+      go (leb (4 + tagLength t) off) refl (λ u. backs-same k (off - tagLength t) u (omega arith))
+    where
+      go : (c : Bool) → leb (4 + tagLength t) off ≡ c → ((u : ℕ) → backs k x (off - tagLength t) u ≡ backs k y (off - tagLength t) u)
+          → hop (backs k x) c x off t ≡ hop (backs k y) c y off t
+      go true f ih =
+          let l : 4 + tagLength t ≤ off = leb-true (4 + tagLength t) off f in
+          let w : be32 (drop (off - tagLength t) x) ≡ be32 (drop (off - tagLength t) y) = same-word (off - tagLength t) (omega (arith, tagLength-ge t)) in
+          rw w (ap (λ (z : List Met). record { tag = t; off = off - tagLength t } ∷ z) (ih (xor (be32 (drop (off - tagLength t) y)) t % 2 ^ 31)))
+      go false f ih = refl
+
+  pub back-same : (off t : ℕ) → off ≤ e → back x off t ≡ back y off t
+  unfolding back
+  back-same off t h = backs-same (suc off) off t h
+
+  -- what was found before e is read alike
+  pub slice-same : (buffer : List ℕ) (f : Found) → FoundIn e f → length x ≡ length y
+      → (sliceAnswer x 0 (length buffer) f ≡ sliceAnswer y 0 (length buffer) f) × (sliceBuffer x 0 buffer f ≡ sliceBuffer y 0 buffer f)
+  slice-same buffer noEntry h long = (refl, refl)
+  slice-same buffer (found t off d) h long =
+      let z : tagLength t ≡ 4 + tagSize t = length-size t (eqb-false (tagSize t) 0x3ff (h .1)) in
+      let s : take (min (tagSize t) (length buffer)) (drop (sliceStart off 0) x) ≡ take (min (tagSize t) (length buffer)) (drop (sliceStart off 0) y)
+      = same-piece (sliceStart off 0) (min (tagSize t) (length buffer)) (omega (arith, h .0, min-le-left (tagSize t) (length buffer))) in
+      rw (long, s) (refl, refl)
+
+-- ---- a place that was found holds this
+size-min : (b : List ℕ) (t off : ℕ) → off + tagLength t ≤ length b → tagLength t ≡ 4 + tagSize t → length (take (tagLength t - 4) (drop 4 (drop off b))) ≡ tagSize t
+size-min b t off h z =
+    let l : length (drop 4 (drop off b)) ≡ length b - off - 4 = length-drop 4 (drop off b) ∙ ap (λ (n : ℕ). n - 4) (length-drop off b) in
+    length-take-le (tagLength t - 4) (drop 4 (drop off b)) (omega arith) ∙ omega arith
+
+take-both : (n k : ℕ) (l : List ℕ) → take n (take k l) ≡ take (min k n) l
+take-both zero k l = ap (λ (n : ℕ). take n l) (sym (min-zero k))
+take-both (suc n) zero l = ap (λ (n : ℕ). take n l) (sym (zero-min (suc n)))
+take-both (suc n) (suc k) [] = sym (take-nil (min (suc k) (suc n)))
+take-both (suc n) (suc k) (x ∷ l) = ap (λ (z : List ℕ). x ∷ z) (take-both n k l) ∙ ap (λ (m : ℕ). take m (x ∷ l)) (sym (suc-min-suc k n))
+
+pub slice-held : (b buffer : List ℕ) (i : ℕ) (f : Found) → FoundIn (length b) f → Answers i f
+    → (sliceAnswer b 0 (length buffer) f ≡ heldGot i (holds b f)) × (sliceBuffer b 0 buffer f ≡ heldBuffer buffer (holds b f))
+unfolding holds
+slice-held b buffer i noEntry h a = (refl, refl)
+slice-held b buffer i (found t off d) h a =
+    let z : tagLength t ≡ 4 + tagSize t = length-size t (eqb-false (tagSize t) 0x3ff (h .1)) in
+    let n : length (take (tagLength t - 4) (drop 4 (drop off b))) ≡ tagSize t = size-min b t off (h .0) z in
+    let fits : leb (sliceEnd t off 0 (length buffer)) (length b) ≡ true
+    = le-leb (sliceEnd t off 0 (length buffer)) (length b) (omega (arith, h .0, min-le-left (tagSize t) (length buffer))) in
+    let four : tagLength t - 4 ≡ tagSize t = omega arith in
+    let at : drop 4 (drop off b) ≡ drop (sliceStart off 0) b = drop-drop 4 off b ∙ ap (λ (n : ℕ). drop n b) (sym (add-zero (off + 4))) in
+    let bytes : take (length buffer) (take (tagLength t - 4) (drop 4 (drop off b))) ≡ take (min (tagSize t) (length buffer)) (drop (sliceStart off 0) b)
+    = rw (four, at) (take-both (length buffer) (tagSize t) (drop (sliceStart off 0) b)) in
+    rw (fits, n, bytes, a) (refl, refl)

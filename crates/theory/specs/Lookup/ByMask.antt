@@ -1,0 +1,201 @@
+-- The lookup as document 01 words it, masks and a key and a difference that wrap, is the search for a class of a slot. Assumes nothing.
+use mathlib.Core.Path.{_≡_, refl, sym, ap, _∙_}
+use mathlib.Core.Logic.{_≢_}
+use mathlib.Core.Bool.{Bool, true, false, _&&_}
+use mathlib.Core.Option.{Option, none, some}
+use mathlib.Core.List.{List, [], _∷_, map}
+use Prim.Native.Nat.{ℕ, suc, _+_, _-_, _*_, _^_, _≤_, _<_}
+use native.Mathlib.Omega.{arith}
+use lib.ListN.{take, drop, length, length-set, getD}
+use lib.Bits.{bitAnd}
+use lib.Dec.{eqb, leb}
+use borrow.Author.Tests.{eqb-true, eq-eqb, eqb-false, ne-eqb, leb-true, leb-false}
+use Rattle.format.specs.Word.{plus32, minus32}
+use Rattle.format.specs.Tag.{tagType1, tagType3, tagSplice, tagId, tagSize, tagDelete, tagLength, tagOf}
+use Rattle.format.specs.Kind.{typeSplice, typeCreate, typeDelete, isSplice}
+use Rattle.format.specs.Back.{Met}
+use Rattle.format.specs.Look.{Found, asIds, splicedAt, wlook, noEntry, found}
+use Rattle.format.specs.Directory.{Load, Act, mk, rm, put, skip, dir, apply, empty, upd, loadOf, act}
+use Rattle.format.proofs.Tags.{of-chunk, of-fields, of-valid, of-type1, of-id}
+use Rattle.theory.specs.Walk.Step.{both-true}
+use Rattle.theory.specs.Directory.Machine.{mostSlots, find, AllAllowed, Allowed, length-ins, length-del}
+use Rattle.theory.specs.Back.BackActs.{seen}
+use Rattle.theory.specs.Lookup.Masks.{Query, hitAct}
+
+-- what a found place holds
+unfoldable pub holds : List ℕ → Found → Option Load
+holds b noEntry = none
+holds b (found t off d) = some (record { type = tagType3 t; bytes = take (tagLength t - 4) (drop 4 (drop off b)) })
+
+-- the answer, "the tag plus the difference", has the id that was asked for
+abbrev pub Answers : ℕ → Found → Type 0
+Answers i noEntry = Unit {0}
+Answers i (found t off d) = plus32 t d ≡ tagOf (tagType3 t) i (tagSize t)
+
+-- the shapes of a regular log's tags
+abbrev pub Shape : ℕ → List ℕ → Act → Type 0
+Shape t x (mk j) = (t ≡ tagOf typeCreate j 0) × (j < 2 ^ 10)
+Shape t x (rm j) = (t ≡ tagOf typeDelete j 0) × (j < 2 ^ 10)
+Shape t x (put j k v) = (isSplice t ≡ false) × (v ≡ loadOf t x) × (j ≡ tagId t) × (t < 2 ^ 31)
+Shape t x skip = isSplice t ≡ false
+
+abbrev pub bytesAt : List ℕ → Met → List ℕ
+bytesAt b m = take (tagLength (m .tag) - 4) (drop 4 (drop (m .off) b))
+
+abbrev pub Shapes : List ℕ → List Met → Type 0
+Shapes b [] = Unit {0}
+Shapes b (m ∷ ms) = Shape (m .tag) (bytesAt b m) (seen b m) × Shapes b ms
+
+-- at most 1,023 slots at any time
+abbrev pub FewBack : List Act → Type 0
+FewBack [] = Unit {0}
+FewBack (a ∷ l) = (length (dir l) ≤ mostSlots) × FewBack l
+
+-- ---- words
+wrap-down : (g d K : ℕ) → g < 2 ^ 32 → d < 2 ^ 32 → 2 ^ 10 ≤ K → minus32 g d ≡ K → minus32 g (plus32 d (2 ^ 10)) ≡ K - 2 ^ 10
+wrap-down g d K hg hd h e = omega arith
+
+wrap-up : (g d K : ℕ) → g < 2 ^ 32 → d < 2 ^ 32 → K + 2 ^ 10 < 2 ^ 32 → minus32 g d ≡ K → minus32 g (plus32 d (2 ^ 32 - 2 ^ 10)) ≡ K + 2 ^ 10
+wrap-up g d K hg hd h e = omega arith
+
+down : (g d T i s : ℕ) → g < 2 ^ 32 → d < 2 ^ 32 → 0 < i → minus32 g d ≡ tagOf T i s → minus32 g (plus32 d (2 ^ 10)) ≡ tagOf T (i - 1) s
+unfolding tagOf
+down g d T i s hg hd h e =
+    let w : minus32 g (plus32 d (2 ^ 10)) ≡ T * 2 ^ 20 + i * 2 ^ 10 + s - 2 ^ 10 = wrap-down g d (T * 2 ^ 20 + i * 2 ^ 10 + s) hg hd (omega arith) e in
+    w ∙ omega arith
+
+up : (g d T i s : ℕ) → g < 2 ^ 32 → d < 2 ^ 32 → T < 2 ^ 11 → i < mostSlots → s < 2 ^ 10 → minus32 g d ≡ tagOf T i s → minus32 g (plus32 d (2 ^ 32 - 2 ^ 10)) ≡ tagOf T (i + 1) s
+unfolding tagOf
+up g d T i s hg hd ht h k e =
+    let w : minus32 g (plus32 d (2 ^ 32 - 2 ^ 10)) ≡ T * 2 ^ 20 + i * 2 ^ 10 + s + 2 ^ 10 = wrap-up g d (T * 2 ^ 20 + i * 2 ^ 10 + s) hg hd (omega arith) e in
+    w ∙ omega arith
+
+splice-mk : (j : ℕ) → j < 2 ^ 10 → asIds (tagSplice (tagOf typeCreate j 0)) ≡ 2 ^ 10
+unfolding asIds
+splice-mk j h = rw (of-chunk typeCreate j 0 h (omega arith))
+
+splice-rm : (j : ℕ) → j < 2 ^ 10 → asIds (tagSplice (tagOf typeDelete j 0)) ≡ 2 ^ 32 - 2 ^ 10
+unfolding asIds
+splice-rm j h = rw (of-chunk typeDelete j 0 h (omega arith))
+
+eqb-create : (i j : ℕ) → eqb (tagOf typeCreate j 0) (tagOf typeCreate i 0) ≡ eqb j i
+unfolding tagOf
+eqb-create i j = go (eqb j i) refl
+  where
+    go : (b : Bool) → eqb j i ≡ b → eqb (tagOf typeCreate j 0) (tagOf typeCreate i 0) ≡ b
+    go true e = let q : j ≡ i = eqb-true j i e in eq-eqb (tagOf typeCreate j 0) (tagOf typeCreate i 0) (omega arith)
+    go false e = let n : j ≢ i = eqb-false j i e in ne-eqb (tagOf typeCreate j 0) (tagOf typeCreate i 0) (λ q. n (omega arith))
+
+eqb-delete : (i j : ℕ) → i < 2 ^ 10 → eqb (tagOf typeDelete j 0) (tagOf typeCreate i 0) ≡ false
+unfolding tagOf
+eqb-delete i j h = ne-eqb (tagOf typeDelete j 0) (tagOf typeCreate i 0) (λ q. omega arith)
+
+-- a tag with the id that the key has become, plus the difference: the id that the key began with
+answer-word : (type size diff T asked i s : ℕ) → diff < 2 ^ 32 → type < 2 ^ 11 → asked < 2 ^ 10 → size < 2 ^ 10
+    → minus32 (tagOf T asked s) diff ≡ tagOf T i s → plus32 (tagOf type i size) diff ≡ tagOf type asked size
+unfolding tagOf
+answer-word type size diff T asked i s hd ht ha hs e = omega arith
+
+answers : (t diff T asked i s : ℕ) → diff < 2 ^ 32 → asked < 2 ^ 10 → minus32 (tagOf T asked s) diff ≡ tagOf T i s → i ≡ tagId t → t < 2 ^ 31
+    → plus32 t diff ≡ tagOf (tagType3 t) asked (tagSize t)
+answers t diff T asked i s hd ha e is small =
+    ap (λ (x : ℕ). plus32 x diff) (sym (of-fields t small) ∙ ap (λ (x : ℕ). tagOf (tagType3 t) x (tagSize t)) (sym is))
+    ∙ answer-word (tagType3 t) (tagSize t) diff T asked i s hd (omega arith) ha (omega arith) e
+
+seen-act : (b : List ℕ) (m : Met) → seen b m ≡ act (m .tag) (bytesAt b m)
+unfolding seen
+seen-act b m = refl
+
+-- ---- the wrapped lookup is the search
+module _ (b : List ℕ) (mask T c s asked : ℕ) (q : Query mask T c) (hs : s < 2 ^ 10) (ha : asked < 2 ^ 10) where
+  abbrev key : ℕ
+  key = tagOf T asked s
+
+  hg : key < 2 ^ 32
+  hg = omega (arith, of-valid T asked s (q .0) ha hs)
+
+  pub wlook-find : (ms : List Met) (d i : ℕ) → d < 2 ^ 32 → Shapes b ms → AllAllowed (map (seen b) ms) → FewBack (map (seen b) ms) → length (dir (map (seen b) ms)) ≤ mostSlots
+      → i < length (dir (map (seen b) ms)) → minus32 key d ≡ tagOf T i s
+      → (holds b (wlook true mask key d ms) ≡ find c i (map (seen b) ms)) × Answers asked (wlook true mask key d ms)
+  unfolding splicedAt wlook holds find dir apply hitAct
+  wlook-find [] d i hd sh r lo few hi e = (refl, tt)
+  wlook-find (m ∷ ms) d i hd sh r lo few hi e =
+      go (seen b m) refl (sh .0) (r .0) hi (λ d′ i′ hd′ hi′ e′. wlook-find ms d′ i′ hd′ (sh .1) (r .1) (lo .1) (lo .0) hi′ e′)
+    where
+      l : List Act
+      l = map (seen b) ms
+
+      i-low : i < mostSlots
+      i-low = omega arith
+
+      miss : (a : Act) → seen b m ≡ a → (i′ : ℕ) → i′ < 2 ^ 10 → eqb (bitAnd (m .tag) mask) (bitAnd (tagOf T i′ s) mask) ≡ hitAct c i′ a
+      miss a ea i′ h = q .1 (m .tag) i′ s (bytesAt b m) h hs ∙ ap (hitAct c i′) (sym (seen-act b m) ∙ ea)
+
+      go : (a : Act) → seen b m ≡ a → Shape (m .tag) (bytesAt b m) a → Allowed a (length (dir l)) → i < length (apply (dir l) (seen b m))
+          → ((d′ i′ : ℕ) → d′ < 2 ^ 32 → i′ < length (dir l) → minus32 key d′ ≡ tagOf T i′ s → (holds b (wlook true mask key d′ ms) ≡ find c i′ l) × Answers asked (wlook true mask key d′ ms))
+          → (holds b (wlook true mask key d (m ∷ ms)) ≡ find c i (a ∷ l)) × Answers asked (wlook true mask key d (m ∷ ms))
+      go (mk j) ea sp ru h ih = sub (leb j i) refl (eqb j i) refl
+        where
+          t1 : tagType1 (m .tag) ≡ typeSplice
+          t1 = rw (sp .0) (of-type1 typeCreate j 0 (omega arith) (sp .1) (omega arith))
+
+          t2 : tagId (m .tag) ≡ j
+          t2 = rw (sp .0) (of-id typeCreate j 0 (sp .1) (omega arith))
+
+          t3 : eqb (m .tag) (tagOf typeCreate i 0) ≡ eqb j i
+          t3 = rw (sp .0) (eqb-create i j)
+
+          t4 : asIds (tagSplice (m .tag)) ≡ 2 ^ 10
+          t4 = rw (sp .0) (splice-mk j (sp .1))
+
+          len : length (apply (dir l) (seen b m)) ≡ suc (length (dir l))
+          len = rw ea (length-ins (dir l) j empty ru)
+
+          sub : (bl : Bool) → leb j i ≡ bl → (be : Bool) → eqb j i ≡ be → (holds b (wlook true mask key d (m ∷ ms)) ≡ find c i (mk j ∷ l)) × Answers asked (wlook true mask key d (m ∷ ms))
+          sub true el true ee = rw (e, t1, t2, of-id T i s (omega (arith, i-low)) hs, el, t3, ee) (refl, tt)
+          sub true el false ee =
+              let n : j ≢ i = eqb-false j i ee in
+              let le : j ≤ i = leb-true j i el in
+              let pos : 0 < i = omega arith in
+              rw (e, t1, t2, of-id T i s (omega (arith, i-low)) hs, el, t3, ee, t4, down key d T i s hg hd pos e, miss (mk j) ea (i - 1) (omega (arith, i-low)))
+              (ih (plus32 d (2 ^ 10)) (i - 1) (omega arith) (omega (arith, len)) (down key d T i s hg hd pos e))
+          sub false el be ee =
+              rw (e, t1, t2, of-id T i s (omega (arith, i-low)) hs, el, e, miss (mk j) ea i (omega (arith, i-low)))
+              (ih d i hd (omega (arith, leb-false j i el)) e)
+      go (rm j) ea sp ru h ih = sub (leb j i) refl
+        where
+          t1 : tagType1 (m .tag) ≡ typeSplice
+          t1 = rw (sp .0) (of-type1 typeDelete j 0 (omega arith) (sp .1) (omega arith))
+
+          t2 : tagId (m .tag) ≡ j
+          t2 = rw (sp .0) (of-id typeDelete j 0 (sp .1) (omega arith))
+
+          t3 : eqb (m .tag) (tagOf typeCreate i 0) ≡ false
+          t3 = rw (sp .0) (eqb-delete i j (omega (arith, i-low)))
+
+          t4 : asIds (tagSplice (m .tag)) ≡ 2 ^ 32 - 2 ^ 10
+          t4 = rw (sp .0) (splice-rm j (sp .1))
+
+          len : length (apply (dir l) (seen b m)) ≡ length (dir l) - 1
+          len = rw ea (length-del (dir l) j ru)
+
+          sub : (bl : Bool) → leb j i ≡ bl → (holds b (wlook true mask key d (m ∷ ms)) ≡ find c i (rm j ∷ l)) × Answers asked (wlook true mask key d (m ∷ ms))
+          sub true el =
+              rw (e, t1, t2, of-id T i s (omega (arith, i-low)) hs, el, t3, t4, up key d T i s hg hd (q .0) i-low hs e, miss (rm j) ea (i + 1) (omega (arith, i-low)))
+              (ih (plus32 d (2 ^ 32 - 2 ^ 10)) (i + 1) (omega arith) (omega (arith, len)) (up key d T i s hg hd (q .0) i-low hs e))
+          sub false el =
+              rw (e, t1, t2, of-id T i s (omega (arith, i-low)) hs, el, e, miss (rm j) ea i (omega (arith, i-low)))
+              (ih d i hd (omega (arith, len)) e)
+      go (put j k v) ea sp ru h ih = sub (eqb j i && eqb c k) refl (tagDelete (m .tag)) refl
+        where
+          len : length (apply (dir l) (seen b m)) ≡ length (dir l)
+          len = rw ea (length-set (dir l) j (upd (getD (dir l) j empty) k v))
+
+          sub : (hb : Bool) → eqb j i && eqb c k ≡ hb → (rb : Bool) → tagDelete (m .tag) ≡ rb → (holds b (wlook true mask key d (m ∷ ms)) ≡ find c i (put j k v ∷ l)) × Answers asked (wlook true mask key d (m ∷ ms))
+          sub true eh true er = rw (sp .0, e, miss (put j k v) ea i (omega (arith, i-low)), eh, er, sp .1, er) (refl, tt)
+          sub true eh false er =
+              let is : j ≡ i = eqb-true j i (both-true (eqb j i) (eqb c k) eh .0) in
+              rw (sp .0, e, miss (put j k v) ea i (omega (arith, i-low)), eh, er, sp .1, er)
+              (refl, answers (m .tag) d T asked i s hd ha e (sym is ∙ sp .2) (sp .3))
+          sub false eh rb er = rw (sp .0, e, miss (put j k v) ea i (omega (arith, i-low)), eh) (ih d i hd (omega (arith, len)) e)
+      go skip ea sp ru h ih = rw (sp, e, miss skip ea i (omega (arith, i-low))) (ih d i hd (rw ea at h) e)

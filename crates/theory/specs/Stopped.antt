@@ -1,0 +1,5 @@
+-- Demand 3, of the calls: a pair shows the machine of its log; images that read as before; a commit; a compaction.
+pub mod Shown
+pub mod ReadsAsBefore
+pub mod Commit
+pub mod Compaction

@@ -1,0 +1,179 @@
+-- DEMAND 3, COMPACTION: an accepted call, stopped after any number of its stores. Assumes nothing.
+use mathlib.Core.Path.{_≡_, refl, sym, ap, subst, _∙_}
+use mathlib.Core.Logic.{_⊎_, inl, inr}
+use mathlib.Core.Bool.{Bool, true, false, not}
+use mathlib.Core.List.{List, _++_}
+use Prim.Native.Nat.{ℕ, zero, suc, _+_, _-_, _^_, _<_, min}
+use native.Mathlib.Omega.{arith}
+use native.Mathlib.Nat.{min-eq-right}
+use lib.ListN.{length, take, length-append}
+use Rattle.format.specs.Word.{le32, allOnes, toLe32}
+use Rattle.format.specs.Crc.{crc}
+use Rattle.format.specs.Walk.{Event}
+use Rattle.format.specs.Log.{log, logEnd}
+use Rattle.format.specs.View.{at}
+use Rattle.format.specs.Fetch.{fetchOf}
+use Rattle.format.specs.Regular.{Regular}
+use Rattle.format.specs.Directory.{dirOf}
+use Rattle.format.specs.Commit.{Item, checkTag}
+use Rattle.format.specs.Stores.{erased, fill, compactBytes, compacted, compacting}
+use Rattle.format.specs.Writer.{checkLength, blockAt, isSecond, Images}
+use Rattle.format.specs.Compaction.{compactAccepted, compactCheckAt, compactStores, compactedTo, compactVerdict, compactImages}
+use Rattle.format.specs.declared.Geometry.{Geometry}
+use Rattle.format.specs.declared.LfsMdir.{LfsMdir}
+use Rattle.format.specs.declared.Fetched.the-variants as fetched
+use Rattle.theory.specs.Walk.Erased.{length-fill, length-erased}
+use Rattle.theory.specs.Log.TwoBlocks.{viewAt, view-log}
+use Rattle.theory.specs.Log.Stores.{commitEvents}
+use Rattle.theory.specs.Blocks.Append.{fill-all}
+use Rattle.theory.specs.Blocks.Compact.{AfterCompact}
+use Rattle.theory.specs.Compact.Acceptance.{compacted-regular}
+use Rattle.theory.specs.Fetch.FoundRecord.{found-answers}
+use Rattle.theory.specs.Fetch.FoundBlock.{found-sized}
+use Rattle.theory.specs.Compact.AcceptedVerdict.{found-then, behindOf, CompactsTo, accepted-compaction, compaction-written, compaction-length, compaction-stopped, compaction-keeps}
+use Rattle.format.specs.Machine.{Machine, machineOf}
+use Rattle.format.specs.Stopped.{Bytes, Shows, ReadsAs, CompactStopped}
+use Rattle.theory.specs.Stopped.Shown.{shows}
+use Rattle.theory.specs.Stopped.ReadsAsBefore.{reads-as, refound, refound-place}
+use Rattle.theory.specs.Fetch.Places.{same-place, both-blocks, lengths, few-slots, block-length}
+
+word-fits : (b : List ℕ) → Bytes b → le32 b < 2 ^ 32
+unfolding le32
+word-fits b h = omega (arith, h 0, h 1, h 2, h 3)
+
+pub block-bytes : (w : Bool) (b0 b1 : List ℕ) → Bytes b0 → Bytes b1 → Bytes (blockAt w b0 b1)
+block-bytes false b0 b1 h k = h
+block-bytes true b0 b1 h k = k
+
+not-not : (w : Bool) → not (not w) ≡ w
+not-not true = refl
+not-not false = refl
+
+-- seen from the other block
+turned : (w : Bool) (x y : List ℕ) → viewAt w x y ≡ viewAt (not w) y x
+turned true x y = refl
+turned false x y = refl
+
+module _ (g : Geometry) (b0 b1 : List ℕ) (n0 n1 count seed : ℕ) (w : Bool) (rev : ℕ) (is : List Item) (size : ℕ)
+    (h : compactVerdict g b0 b1 n0 n1 count seed ≡ compactAccepted w rev is size) (bytes : Bytes (blockAt w b0 b1)) where
+  abbrev x : List ℕ
+  x = blockAt w b0 b1
+
+  abbrev o : List ℕ
+  o = blockAt (not w) b0 b1
+
+  abbrev rest : ℕ
+  rest = length o - (compactCheckAt is + checkLength)
+
+  abbrev finished : List ℕ
+  finished = compacted rev is (checkTag size) rest
+
+  abbrev finishedLog : List Event
+  finishedLog = commitEvents (crc allOnes (toLe32 rev)) allOnes is (checkTag size)
+
+  compact-found : (m : LfsMdir) × (s : ℕ) × (fetchOf g b0 b1 n0 n1 count seed ≡ fetched.Found m s)
+  unfolding compactVerdict
+  compact-found = found-then (g .«prog_size») b0 b1 n0 (fetchOf g b0 b1 n0 n1 count seed) w rev is size h
+
+  compacts : CompactsTo g b0 b1 w rev is size
+  compacts = accepted-compaction g b0 b1 n0 n1 count seed w rev is size h
+
+  place : isSecond n0 (compact-found .0) ≡ w
+  place =
+      let a = found-answers g b0 b1 n0 n1 count seed (compact-found .0) (compact-found .1) (compact-found .2) in
+      a .place ∙ same-place b0 b1 (a .w) w (a .rev) (le32 x) (log (blockAt (a .w) b0 b1)) (log x) (a .answers) (compacts .answers)
+
+  bytes-length : length (compactBytes rev is (checkTag size)) + rest ≡ length o
+  unfolding compacted
+  bytes-length =
+      sym (ap (λ (k : ℕ). length (compactBytes rev is (checkTag size)) + k) (length-erased rest))
+      ∙ sym (length-append (compactBytes rev is (checkTag size)) (erased rest)) ∙ compaction-length g b0 b1 n0 n1 count seed w rev is size h
+
+  image-length : (n : ℕ) → length (compacting o rev is (checkTag size) rest n) ≡ length o
+  unfolding compacting
+  image-length zero = refl
+  image-length (suc k) =
+      length-append (fill k (compactBytes rev is (checkTag size))) (erased rest)
+      ∙ rw (length-fill k (compactBytes rev is (checkTag size)), length-erased rest) bytes-length
+
+  abbrev i : ℕ → Images
+  i n = compactImages g b0 b1 n0 n1 count seed n
+
+  abbrev f : Images
+  f = compactImages g b0 b1 n0 n1 count seed allOnes
+
+  left : (n : ℕ) → (blockAt (not w) (i n .b0) (i n .b1) ≡ compactedTo o rev is size n) × (blockAt w (i n .b0) (i n .b1) ≡ x)
+  left n = compaction-written g b0 b1 n0 n1 count seed w rev is size h n
+
+  image-lengths : (n : ℕ) → (length (i n .b0) ≡ length b0) × (length (i n .b1) ≡ length b1)
+  image-lengths n = lengths w (i n .b0) (i n .b1) b0 b1 (ap length (left n .1)) (ap length (left n .0) ∙ image-length (min n (compactStores is)))
+
+  all-stores : min allOnes (compactStores is) ≡ compactStores is
+  all-stores =
+      let z = found-sized g b0 b1 n0 n1 count seed (compact-found .0) (compact-found .1) (compact-found .2) in
+      min-eq-right (omega (arith, compacts .room, block-length g b0 b1 (not w) z, z .block .1))
+
+  whole : compacting o rev is (checkTag size) rest (suc (compactCheckAt is + checkLength)) ≡ finished
+  unfolding compacting compacted
+  whole =
+      ap (λ (l : List ℕ). l ++ erased rest)
+      (fill-all (compactCheckAt is + checkLength) (compactBytes rev is (checkTag size)) (omega (arith, bytes-length, compacts .room)))
+
+  finished-block : blockAt (not w) (f .b0) (f .b1) ≡ finished
+  finished-block =
+      let n : min allOnes (compactStores is) ≡ suc (compactCheckAt is + checkLength) = all-stores ∙ omega arith in
+      left allOnes .0 ∙ ap (compacting o rev is (checkTag size) rest) n ∙ whole
+
+  after : (n : ℕ) → AfterCompact w x (le32 x) (log x) is (checkTag size) (compactedTo o rev is size n) finished
+  after n = compaction-stopped g b0 b1 n0 n1 count seed w rev is size h (word-fits x bytes) n
+
+  compact-either : (n : ℕ) → ((i n .b0 ≡ f .b0) × (i n .b1 ≡ f .b1)) ⊎ ReadsAs g n0 n1 count seed b0 b1 (i n .b0) (i n .b1)
+  compact-either n = go (after n .either)
+    where
+      go : (compactedTo o rev is size n ≡ finished) ⊎ (viewAt w x (compactedTo o rev is size n) ≡ at w (le32 x) (log x))
+          → ((i n .b0 ≡ f .b0) × (i n .b1 ≡ f .b1)) ⊎ ReadsAs g n0 n1 count seed b0 b1 (i n .b0) (i n .b1)
+      go (inl e) = inl (both-blocks w (i n .b0) (i n .b1) (f .b0) (f .b1) (left n .1 ∙ sym (left allOnes .1)) (left n .0 ∙ e ∙ sym finished-block))
+      go (inr e) =
+          inr (reads-as g n0 n1 count seed b0 b1 (i n .b0) (i n .b1) (image-lengths n .0) (image-lengths n .1) (compact-found .0) (compact-found .1) (compact-found .2) (le32 x) (log x) w
+          (compacts .answers) (rw (left n .0, left n .1) e) (ap (take (logEnd (log x))) (left n .1)))
+
+  -- ---- the finished pair
+  finished-view : viewAt (not w) (blockAt (not w) (f .b0) (f .b1)) (blockAt (not (not w)) (f .b0) (f .b1)) ≡ at (not w) rev finishedLog
+  finished-view =
+      rw (not-not w, finished-block, left allOnes .1)
+      (sym (turned w x finished) ∙ after 0 .finished ∙ rw (compacts .next))
+
+  finished-log : log (blockAt (not w) (f .b0) (f .b1)) ≡ finishedLog
+  finished-log = view-log (not w) (blockAt (not w) (f .b0) (f .b1)) (blockAt (not (not w)) (f .b0) (f .b1)) rev finishedLog finished-view .0
+
+  regular-finished : Regular finishedLog ≡ true
+  regular-finished = rw (compacts .next, compacts .items) (compacted-regular x (le32 x) (log x) (behindOf (log x)) size rest (compacts .compacts))
+
+  same-machine : machineOf finishedLog ≡ machineOf (log x)
+  same-machine =
+      let k = compaction-keeps g b0 b1 n0 n1 count seed w rev is size h in
+      let d : dirOf finishedLog ≡ dirOf (log x) = rw (compacts .next) (after 0 .same) in
+      rw (d, k .0, k .1, k .2)
+
+  pub compact-finished : Shows g n0 n1 count seed (f .b0) (f .b1) (machineOf (log x))
+  compact-finished =
+      let few = few-slots (blockAt (not w) (f .b0) (f .b1)) finishedLog finished-log regular-finished in
+      let L = image-lengths allOnes in
+      let k = refound g n0 n1 count seed b0 b1 (f .b0) (f .b1) (L .0) (L .1) (compact-found .0) (compact-found .1) (compact-found .2) rev finishedLog few (not w) finished-view in
+      let p = refound-place g n0 n1 count seed b0 b1 (f .b0) (f .b1) (L .0) (L .1) (compact-found .0) (compact-found .1) (compact-found .2) rev finishedLog few (not w) in
+      let s = shows g (f .b0) (f .b1) n0 n1 count seed _ _ k (not w) p (rw finished-log regular-finished) in
+      subst (λ (M : Machine). Shows g n0 n1 count seed (f .b0) (f .b1) M) (ap machineOf finished-log ∙ same-machine) s
+
+  pub compact-before : Shows g n0 n1 count seed b0 b1 (machineOf (log x))
+  compact-before = shows g b0 b1 n0 n1 count seed (compact-found .0) (compact-found .1) (compact-found .2) w place (compacts .compacts .regular)
+
+-- DEMAND 3, COMPACTION
+pub stopped-compaction : (g : Geometry) (b0 b1 : List ℕ) (n0 n1 count seed n : ℕ) → Bytes b0 → Bytes b1
+    → CompactStopped g n0 n1 count seed b0 b1 (compactImages g b0 b1 n0 n1 count seed n .b0) (compactImages g b0 b1 n0 n1 count seed n .b1)
+stopped-compaction g b0 b1 n0 n1 count seed n y0 y1 w rev is size h =
+    let y = block-bytes w b0 b1 y0 y1 in
+    record {
+      either = compact-either g b0 b1 n0 n1 count seed w rev is size h y n;
+      old = compact-before g b0 b1 n0 n1 count seed w rev is size h y;
+      finished = compact-finished g b0 b1 n0 n1 count seed w rev is size h y;
+    }

@@ -1,2 +1,0 @@
--- The writer's definitions, run on document 01's listing block.
-pub mod Listing
