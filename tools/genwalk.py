@@ -728,6 +728,6 @@ pr(f'meets : {{M : Type 1}} (𝓤 : URA M) (H : Heap 𝓤) (A : Atoms 𝓤) (W :
 pr(f'meets 𝓤 H A W mem run 𝓣 {kns} =\n    walk-meets 𝓤 H A f.ended stayed W {nest([goes(p) for p in PS])} (f.clauses 𝓤 H A mem run)\n    (WpFn 𝓤 H (𝓣 .C) (𝓣 .Λ) code.function) (WpFn-mono 𝓤 H (W .laws) 𝓣 code.function) (walks 𝓤 H A W mem run 𝓣 (fmOf 𝓤 H (W .laws) 𝓣) {kns})\n')
 dash=FN.replace('_','-')
 pr(f'pub {dash}-spec : {{M : Type 1}} → stated.statement M\nunfolding code.routine tablesOf\n{dash}-spec 𝓤 H 𝓜 𝓖 𝓡 =\n    entered 𝓤 H (tripleOf 𝓤 H (𝓖 .A) f.signature (f.spec 𝓤 H (𝓖 .A) (𝓜 .mem) (𝓡 .run)))\n    (tables 𝓤 H 𝓜 𝓡 code.env .C) (tables 𝓤 H 𝓜 𝓡 code.env .Λ) #self code.function (code.unfolded 𝓤 H 𝓜 𝓡)\n    (meets 𝓤 H (𝓖 .A) (givenOf 𝓤 H 𝓜 𝓖) (𝓜 .mem) (𝓡 .run) (tablesOf 𝓤 H 𝓜 (tables 𝓤 H 𝓜 𝓡 code.env))')
-for g in names: pr(f'    (cited 𝓤 H (K-{g} 𝓤 H (𝓖 .A) (givenOf 𝓤 H 𝓜 𝓖) (𝓜 .mem) (𝓡 .run)) 𝓜 𝓡 code.env #{g} {g}-def.routine code.calls-{GC[g]}·{g.replace("_","-")} ({g}-thm.met 𝓤 H 𝓜 𝓖 𝓡))')
+for g in names: pr(f'    (cited 𝓤 H (K-{g} 𝓤 H (𝓖 .A) (givenOf 𝓤 H 𝓜 𝓖) (𝓜 .mem) (𝓡 .run)) 𝓜 𝓡 code.env #{g} {g}-def.routine code.calls-{GC[g].replace("_","-")}·{g.replace("_","-")} ({g}-thm.met 𝓤 H 𝓜 𝓖 𝓡))')
 o[-1]+=')'
 print('\n'.join(o))
