@@ -1,21 +1,21 @@
--- DEMAND 3: "Stop an accepted commit or compaction after any number of its stores: fetch gives the finished directory if the finished bytes are
--- there, else the old one; only the old record's erased mark may differ." What that says of a pair, of its images after a stop, and of both
--- calls. Assumes nothing.
+-- DEMAND 3: "Stop an accepted commit or compaction after any number of its stores: fetch gives the finished directory if
+-- the finished bytes are there, else the old one; only the old record's erased mark may differ." What that says of a pair,
+-- of its images after a stop, and of both calls. Fetch is any fetch: a restart asks with a seed of its own, and with the
+-- block count that it knows. Assumes nothing.
 use mathlib.Core.Path.{_≡_}
 use mathlib.Core.Logic.{_⊎_}
-use mathlib.Core.Bool.{Bool, true, false}
+use mathlib.Core.Bool.{Bool, true, false, _||_}
 use mathlib.Core.List.{List, []}
 use Prim.Native.Nat.{ℕ, _^_, _≤_, _<_}
 use lib.ListN.{length, getD}
-use Rattle.format.specs.Word.{allOnes}
 use Rattle.format.specs.Log.{log}
 use Rattle.format.specs.Gstate.{gstateHasMoveHere}
-use Rattle.format.specs.Fetch.{fetchOf}
+use Rattle.format.specs.Fetch.{tooHigh, fetchOf}
 use Rattle.format.specs.Lookup.{blockOf, longestBuffer, getsliceOf, getsliceBuffer}
 use Rattle.format.specs.Regular.{Regular}
 use Rattle.format.specs.Commit.{Item, written}
 use Rattle.format.specs.Entries.{itemsOf}
-use Rattle.format.specs.Writer.{accepted, blockAt, verdictOf, unlimited, commitImages}
+use Rattle.format.specs.Writer.{accepted, blockAt, verdictOf, Images, unlimited, commitImages}
 use Rattle.format.specs.Compaction.{compactAccepted, compactVerdict, compactImages}
 use Rattle.format.specs.declared.Geometry.{Geometry}
 use Rattle.format.specs.declared.LfsMdir.{LfsMdir}
@@ -33,13 +33,19 @@ abbrev pub unmarked : LfsMdir → LfsMdir
 unmarked m =
     record { pair = m .pair; rev = m .rev; off = m .off; etag = m .etag; count = m .count; erased = false; split = m .split; tail = m .tail }
 
-module _ (g : Geometry) (n0 n1 count seed : ℕ) where
-  -- A pair shows a machine: fetch gives a record with its number of slots and its tail, the log is regular, and with that record every
-  -- directory lookup, "for ids below count and no pending move", answers what the machine has, word and buffer.
+module _ (g : Geometry) (n0 n1 : ℕ) where
+  -- Fetch gives the record m, whoever asks: from every seed, and for every block count that the two numbers pass (0, which
+  -- means none, is one). `read` is the seed that comes back, of the one that was given.
+  abbrev pub Finds : List ℕ → List ℕ → LfsMdir → (ℕ → ℕ) → Type 0
+  Finds b0 b1 m read = (count seed : ℕ) → tooHigh count n0 || tooHigh count n1 ≡ false
+      → fetchOf g b0 b1 n0 n1 count seed ≡ Found m (read seed)
+
+  -- A pair shows a machine: fetch gives a record with its number of slots and its tail, the log is regular, and with that
+  -- record every directory lookup, "for ids below count and no pending move", answers what the machine has, word and buffer.
   pub record Shows (b0 b1 : List ℕ) (M : Machine) : Type 0 where
     pub dir : LfsMdir
-    pub read : ℕ
-    pub fetched : fetchOf g b0 b1 n0 n1 count seed ≡ Found dir read
+    pub read : ℕ → ℕ
+    pub fetched : Finds b0 b1 dir read
     pub slots : dir .count ≡ length (M .slots)
     pub split : dir .split ≡ M .split
     pub tail : dir .tail ≡ M .tail
@@ -49,36 +55,72 @@ module _ (g : Geometry) (n0 n1 count seed : ℕ) where
         → (getsliceOf g b0 b1 n0 n1 dir gdisk (askMask a) (askKey a size) 0 buffer ≡ heldGot (askId a) (asked M a))
         × (getsliceBuffer g b0 b1 n0 n1 dir gdisk (askMask a) (askKey a size) 0 buffer ≡ heldBuffer buffer (asked M a))
 
-  -- The images i0, i1 read as b0, b1 did: fetch gives the same seed and the same record but for the erased mark, and every lookup at offset 0
-  -- with it, whatever mask, key and global state, the same answer and buffer.
+  -- The images i0, i1 read as b0, b1 did: fetch gives the same record but for the erased mark, and from every seed the same
+  -- seed; and every lookup at offset 0 with it, whatever mask, key and global state, gives the same answer and buffer.
   pub record ReadsAs (b0 b1 i0 i1 : List ℕ) : Type 0 where
     pub before : LfsMdir
     pub after : LfsMdir
-    pub read : ℕ
-    pub fetched : fetchOf g b0 b1 n0 n1 count seed ≡ Found before read
-    pub refetched : fetchOf g i0 i1 n0 n1 count seed ≡ Found after read
+    pub read : ℕ → ℕ
+    pub fetched : Finds b0 b1 before read
+    pub refetched : Finds i0 i1 after read
     pub same : unmarked after ≡ unmarked before
     pub lookups : (gdisk : LfsGstate) (mask key : ℕ) (buffer : List ℕ)
         → (getsliceOf g i0 i1 n0 n1 after gdisk mask key 0 buffer ≡ getsliceOf g b0 b1 n0 n1 before gdisk mask key 0 buffer)
-        × (getsliceBuffer g i0 i1 n0 n1 after gdisk mask key 0 buffer ≡ getsliceBuffer g b0 b1 n0 n1 before gdisk mask key 0 buffer)
+        × (getsliceBuffer g i0 i1 n0 n1 after gdisk mask key 0 buffer
+        ≡ getsliceBuffer g b0 b1 n0 n1 before gdisk mask key 0 buffer)
 
-  -- i0, i1 are images of a call on b0, b1 that was stopped, f0, f1 those of the finished call; M is what the pair held before it, N what the
-  -- finished one holds
-  pub record Stopped (b0 b1 i0 i1 f0 f1 : List ℕ) (M N : Machine) : Type 0 where
-    pub either : ((i0 ≡ f0) × (i1 ≡ f1)) ⊎ ReadsAs b0 b1 i0 i1
+  -- i0, i1 are images of a call on b0, b1 that was stopped, f those of the finished call; M is what the pair held before
+  -- it, N what the finished one holds
+  pub record Stopped (b0 b1 i0 i1 : List ℕ) (f : Images) (M N : Machine) : Type 0 where
+    pub either : ((i0 ≡ f .b0) × (i1 ≡ f .b1)) ⊎ ReadsAs b0 b1 i0 i1
     pub old : Shows b0 b1 M
-    pub finished : Shows f0 f1 N
+    pub finished : Shows (f .b0) (f .b1) N
 
+module _ (g : Geometry) (b0 b1 : List ℕ) (n0 n1 count seed : ℕ) where
   -- a commit: what the finished pair holds is the old machine with the entries applied
-  abbrev pub CommitStopped : List ℕ → List ℕ → List Entry → List ℕ → List ℕ → List ℕ → Type 0
-  CommitStopped b0 b1 entries dat i0 i1 = (second : Bool) (is : List Item) (size : ℕ)
+  abbrev pub CommitStopped : List Entry → List ℕ → List ℕ → List ℕ → Type 0
+  CommitStopped entries dat i0 i1 = (second : Bool) (is : List Item) (size : ℕ)
       → verdictOf g b0 b1 n0 n1 count seed entries dat ≡ accepted second is size
-      → Stopped b0 b1 i0 i1 (commitImages g b0 b1 n0 n1 count seed entries dat unlimited .b0) (commitImages g b0 b1 n0 n1 count seed entries dat unlimited .b1)
-      (machineOf (log (blockAt second b0 b1))) (ran (machineOf (log (blockAt second b0 b1))) (written (itemsOf dat entries) []))
+      → Stopped g n0 n1 b0 b1 i0 i1 (commitImages g b0 b1 n0 n1 count seed entries dat unlimited)
+      (machineOf (log (blockAt second b0 b1)))
+      (ran (machineOf (log (blockAt second b0 b1))) (written (itemsOf dat entries) []))
 
   -- a compaction: the finished pair holds what the old one did
-  abbrev pub CompactStopped : List ℕ → List ℕ → List ℕ → List ℕ → Type 0
-  CompactStopped b0 b1 i0 i1 = (second : Bool) (rev : ℕ) (is : List Item) (size : ℕ)
+  abbrev pub CompactStopped : List ℕ → List ℕ → Type 0
+  CompactStopped i0 i1 = (second : Bool) (rev : ℕ) (is : List Item) (size : ℕ)
       → compactVerdict g b0 b1 n0 n1 count seed ≡ compactAccepted second rev is size
-      → Stopped b0 b1 i0 i1 (compactImages g b0 b1 n0 n1 count seed allOnes .b0) (compactImages g b0 b1 n0 n1 count seed allOnes .b1)
+      → Stopped g n0 n1 b0 b1 i0 i1 (compactImages g b0 b1 n0 n1 count seed unlimited)
       (machineOf (log (blockAt second b0 b1))) (machineOf (log (blockAt second b0 b1)))
+
+-- ---- what the calls that write leave in both images: their contracts cite these beside the answer
+module _ (g : Geometry) (b0 b1 : List ℕ) (n0 n1 count seed : ℕ) where
+  module _ (entries : List Entry) (dat : List ℕ) where
+    -- `lfs_dir_commit_stores` with the limit n: exactly its first n stores, and DEMAND 3 of what is there then
+    abbrev pub CommitStoresLeaves : ℕ → List ℕ → List ℕ → Type 0
+    CommitStoresLeaves n i0 i1 =
+        (i0 ≡ commitImages g b0 b1 n0 n1 count seed entries dat n .b0)
+        × (i1 ≡ commitImages g b0 b1 n0 n1 count seed entries dat n .b1)
+        × CommitStopped g b0 b1 n0 n1 count seed entries dat i0 i1
+
+    -- `lfs_dir_commit`: all of its stores; and DEMAND 3 wherever it is stopped, after each number n of them, of the images
+    -- that the call with this limit leaves
+    abbrev pub CommitLeaves : List ℕ → List ℕ → Type 0
+    CommitLeaves i0 i1 =
+        (i0 ≡ commitImages g b0 b1 n0 n1 count seed entries dat unlimited .b0)
+        × (i1 ≡ commitImages g b0 b1 n0 n1 count seed entries dat unlimited .b1)
+        × ((n : ℕ) → CommitStopped g b0 b1 n0 n1 count seed entries dat
+        (commitImages g b0 b1 n0 n1 count seed entries dat n .b0) (commitImages g b0 b1 n0 n1 count seed entries dat n .b1))
+
+  -- `lfs_dir_compact_stores` with the limit n
+  abbrev pub CompactStoresLeaves : ℕ → List ℕ → List ℕ → Type 0
+  CompactStoresLeaves n i0 i1 =
+      (i0 ≡ compactImages g b0 b1 n0 n1 count seed n .b0) × (i1 ≡ compactImages g b0 b1 n0 n1 count seed n .b1)
+      × CompactStopped g b0 b1 n0 n1 count seed i0 i1
+
+  -- `lfs_dir_compact`
+  abbrev pub CompactLeaves : List ℕ → List ℕ → Type 0
+  CompactLeaves i0 i1 =
+      (i0 ≡ compactImages g b0 b1 n0 n1 count seed unlimited .b0)
+      × (i1 ≡ compactImages g b0 b1 n0 n1 count seed unlimited .b1)
+      × ((n : ℕ) → CompactStopped g b0 b1 n0 n1 count seed
+      (compactImages g b0 b1 n0 n1 count seed n .b0) (compactImages g b0 b1 n0 n1 count seed n .b1))

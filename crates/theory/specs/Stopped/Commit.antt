@@ -120,12 +120,12 @@ module _ (g : Geometry) (b0 b1 : List ℕ) (n0 n1 count seed : ℕ) (entries : L
   after : (k : ℕ) → k ≤ allStores is → AfterAppend w o (appends .rev) (log x) is (checkTag size) (appending x (log x) is (checkTag size) k) (appending x (log x) is (checkTag size) (allStores is))
   after k hk = accepted-stopped x (log x) is size takes w o (appends .rev) (appends .answers) k hk
 
-  commit-either : (n : ℕ) → ((i n .b0 ≡ f .b0) × (i n .b1 ≡ f .b1)) ⊎ ReadsAs g n0 n1 count seed b0 b1 (i n .b0) (i n .b1)
+  commit-either : (n : ℕ) → ((i n .b0 ≡ f .b0) × (i n .b1 ≡ f .b1)) ⊎ ReadsAs g n0 n1 b0 b1 (i n .b0) (i n .b1)
   commit-either n = go (after (min n (allStores is)) (min-le-right n (allStores is)) .either)
     where
       go : (appending x (log x) is (checkTag size) (min n (allStores is)) ≡ appending x (log x) is (checkTag size) (allStores is))
           ⊎ (viewAt w (appending x (log x) is (checkTag size) (min n (allStores is))) o ≡ at w (appends .rev) (log x))
-          → ((i n .b0 ≡ f .b0) × (i n .b1 ≡ f .b1)) ⊎ ReadsAs g n0 n1 count seed b0 b1 (i n .b0) (i n .b1)
+          → ((i n .b0 ≡ f .b0) × (i n .b1 ≡ f .b1)) ⊎ ReadsAs g n0 n1 b0 b1 (i n .b0) (i n .b1)
       go (inl e) =
           inl (both-blocks w (i n .b0) (i n .b1) (f .b0) (f .b1) (commit-written n .0 ∙ e ∙ sym finished-block) (commit-written n .1 ∙ sym (commit-written unlimited .1)))
       go (inr e) =
@@ -145,23 +145,23 @@ module _ (g : Geometry) (b0 b1 : List ℕ) (n0 n1 count seed : ℕ) (entries : L
   regular-finished : Regular finishedLog ≡ true
   regular-finished = finished-regular x (log x) is size takes
 
-  pub commit-finished : Shows g n0 n1 count seed (f .b0) (f .b1) (ran (machineOf (log x)) (written (itemsOf dat entries) []))
+  pub commit-finished : Shows g n0 n1 (f .b0) (f .b1) (ran (machineOf (log x)) (written (itemsOf dat entries) []))
   commit-finished =
       let few = few-slots (blockAt w (f .b0) (f .b1)) finishedLog finished-log regular-finished in
       let L = image-lengths unlimited in
       let k = refound g n0 n1 count seed b0 b1 (f .b0) (f .b1) (L .0) (L .1) (commit-found .0) (commit-found .1) (commit-found .2) (appends .rev) finishedLog few w finished-view in
-      let p = refound-place g n0 n1 count seed b0 b1 (f .b0) (f .b1) (L .0) (L .1) (commit-found .0) (commit-found .1) (commit-found .2) (appends .rev) finishedLog few w in
+      let p = refound-place g n0 n1 count seed b0 b1 (f .b0) (f .b1) (L .0) (L .1) (commit-found .0) (commit-found .1) (commit-found .2) (appends .rev) finishedLog w in
       let s = shows g (f .b0) (f .b1) n0 n1 count seed _ _ k w p (rw finished-log regular-finished) in
       let e : machineOf (log (blockAt w (f .b0) (f .b1))) ≡ ran (machineOf (log x)) (written (itemsOf dat entries) [])
       = ap machineOf finished-log ∙ commit-ran (log x) allOnes (logEndTag (log x)) is (checkTag size) ∙ ap (λ (l : List Item). ran (machineOf (log x)) (written l [])) (appends .items) in
-      subst (λ (M : Machine). Shows g n0 n1 count seed (f .b0) (f .b1) M) e s
+      subst (λ (M : Machine). Shows g n0 n1 (f .b0) (f .b1) M) e s
 
-  pub commit-before : Shows g n0 n1 count seed b0 b1 (machineOf (log x))
+  pub commit-before : Shows g n0 n1 b0 b1 (machineOf (log x))
   commit-before = shows g b0 b1 n0 n1 count seed (commit-found .0) (commit-found .1) (commit-found .2) w place (takes .regular)
 
 -- DEMAND 3, COMMIT
 pub stopped-commit : (g : Geometry) (b0 b1 : List ℕ) (n0 n1 count seed : ℕ) (entries : List Entry) (dat : List ℕ) (n : ℕ)
-    → CommitStopped g n0 n1 count seed b0 b1 entries dat (commitImages g b0 b1 n0 n1 count seed entries dat n .b0) (commitImages g b0 b1 n0 n1 count seed entries dat n .b1)
+    → CommitStopped g b0 b1 n0 n1 count seed entries dat (commitImages g b0 b1 n0 n1 count seed entries dat n .b0) (commitImages g b0 b1 n0 n1 count seed entries dat n .b1)
 stopped-commit g b0 b1 n0 n1 count seed entries dat n w is size h =
     record {
       either = commit-either g b0 b1 n0 n1 count seed entries dat w is size h n;

@@ -127,11 +127,11 @@ module _ (g : Geometry) (b0 b1 : List ℕ) (n0 n1 count seed : ℕ) (w : Bool) (
   after : (n : ℕ) → AfterCompact w x (le32 x) (log x) is (checkTag size) (compactedTo o rev is size n) finished
   after n = compaction-stopped g b0 b1 n0 n1 count seed w rev is size h (word-fits x bytes) n
 
-  compact-either : (n : ℕ) → ((i n .b0 ≡ f .b0) × (i n .b1 ≡ f .b1)) ⊎ ReadsAs g n0 n1 count seed b0 b1 (i n .b0) (i n .b1)
+  compact-either : (n : ℕ) → ((i n .b0 ≡ f .b0) × (i n .b1 ≡ f .b1)) ⊎ ReadsAs g n0 n1 b0 b1 (i n .b0) (i n .b1)
   compact-either n = go (after n .either)
     where
       go : (compactedTo o rev is size n ≡ finished) ⊎ (viewAt w x (compactedTo o rev is size n) ≡ at w (le32 x) (log x))
-          → ((i n .b0 ≡ f .b0) × (i n .b1 ≡ f .b1)) ⊎ ReadsAs g n0 n1 count seed b0 b1 (i n .b0) (i n .b1)
+          → ((i n .b0 ≡ f .b0) × (i n .b1 ≡ f .b1)) ⊎ ReadsAs g n0 n1 b0 b1 (i n .b0) (i n .b1)
       go (inl e) = inl (both-blocks w (i n .b0) (i n .b1) (f .b0) (f .b1) (left n .1 ∙ sym (left allOnes .1)) (left n .0 ∙ e ∙ sym finished-block))
       go (inr e) =
           inr (reads-as g n0 n1 count seed b0 b1 (i n .b0) (i n .b1) (image-lengths n .0) (image-lengths n .1) (compact-found .0) (compact-found .1) (compact-found .2) (le32 x) (log x) w
@@ -155,21 +155,21 @@ module _ (g : Geometry) (b0 b1 : List ℕ) (n0 n1 count seed : ℕ) (w : Bool) (
       let d : dirOf finishedLog ≡ dirOf (log x) = rw (compacts .next) (after 0 .same) in
       rw (d, k .0, k .1, k .2)
 
-  pub compact-finished : Shows g n0 n1 count seed (f .b0) (f .b1) (machineOf (log x))
+  pub compact-finished : Shows g n0 n1 (f .b0) (f .b1) (machineOf (log x))
   compact-finished =
       let few = few-slots (blockAt (not w) (f .b0) (f .b1)) finishedLog finished-log regular-finished in
       let L = image-lengths allOnes in
       let k = refound g n0 n1 count seed b0 b1 (f .b0) (f .b1) (L .0) (L .1) (compact-found .0) (compact-found .1) (compact-found .2) rev finishedLog few (not w) finished-view in
-      let p = refound-place g n0 n1 count seed b0 b1 (f .b0) (f .b1) (L .0) (L .1) (compact-found .0) (compact-found .1) (compact-found .2) rev finishedLog few (not w) in
+      let p = refound-place g n0 n1 count seed b0 b1 (f .b0) (f .b1) (L .0) (L .1) (compact-found .0) (compact-found .1) (compact-found .2) rev finishedLog (not w) in
       let s = shows g (f .b0) (f .b1) n0 n1 count seed _ _ k (not w) p (rw finished-log regular-finished) in
-      subst (λ (M : Machine). Shows g n0 n1 count seed (f .b0) (f .b1) M) (ap machineOf finished-log ∙ same-machine) s
+      subst (λ (M : Machine). Shows g n0 n1 (f .b0) (f .b1) M) (ap machineOf finished-log ∙ same-machine) s
 
-  pub compact-before : Shows g n0 n1 count seed b0 b1 (machineOf (log x))
+  pub compact-before : Shows g n0 n1 b0 b1 (machineOf (log x))
   compact-before = shows g b0 b1 n0 n1 count seed (compact-found .0) (compact-found .1) (compact-found .2) w place (compacts .compacts .regular)
 
 -- DEMAND 3, COMPACTION
 pub stopped-compaction : (g : Geometry) (b0 b1 : List ℕ) (n0 n1 count seed n : ℕ) → Bytes b0 → Bytes b1
-    → CompactStopped g n0 n1 count seed b0 b1 (compactImages g b0 b1 n0 n1 count seed n .b0) (compactImages g b0 b1 n0 n1 count seed n .b1)
+    → CompactStopped g b0 b1 n0 n1 count seed (compactImages g b0 b1 n0 n1 count seed n .b0) (compactImages g b0 b1 n0 n1 count seed n .b1)
 stopped-compaction g b0 b1 n0 n1 count seed n y0 y1 w rev is size h =
     let y = block-bytes w b0 b1 y0 y1 in
     record {

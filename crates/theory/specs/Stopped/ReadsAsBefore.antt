@@ -1,6 +1,6 @@
 -- Images whose view is the old one, and whose answering block is the old one up to the end of its log, read as the old images did. Assumes nothing.
 use mathlib.Core.Path.{_≡_, refl, sym, ap, _∙_}
-use mathlib.Core.Bool.{Bool, true, false, not, cond, _&&_}
+use mathlib.Core.Bool.{Bool, true, false, not, cond, _&&_, _||_}
 use mathlib.Core.List.{List}
 use Prim.Native.Nat.{ℕ, _^_, _≤_}
 use native.Mathlib.Nat.{le-refl}
@@ -13,7 +13,7 @@ use Rattle.format.specs.Log.{logEnd, logEndTag}
 use Rattle.format.specs.Record.{countOf, seedOf}
 use Rattle.format.specs.Gstate.{gstateHasMoveHere}
 use Rattle.format.specs.View.{View, at, view}
-use Rattle.format.specs.Fetch.{geometryFits, pairFits, mdirOf, fewEnough, viewed, fetchOf}
+use Rattle.format.specs.Fetch.{geometryFits, pairFits, tooHigh, mdirOf, fewEnough, viewed, fetchOf}
 use Rattle.format.specs.Back.{back}
 use Rattle.format.specs.Look.{Found, noEntry}
 use Rattle.format.specs.Word.{minus32}
@@ -28,8 +28,8 @@ use Rattle.format.specs.declared.Got.the-variants as got
 use Rattle.theory.specs.Walk.Step.{both-true}
 use Rattle.theory.specs.Log.TwoBlocks.{viewAt}
 use Rattle.theory.specs.Lookup.AtStart.{FoundIn, back-in, wlook-in, back-same, slice-same}
-use Rattle.theory.specs.Stopped.Shown.{found-tested}
-use Rattle.format.specs.Stopped.{unmarked, ReadsAs}
+use Rattle.theory.specs.Stopped.Shown.{found-tested, fetch-viewed}
+use Rattle.format.specs.Stopped.{unmarked, Finds, ReadsAs}
 
 -- a lookup finds nothing behind the record's end
 searched-in : (b : List ℕ) (dir : LfsMdir) (gdisk : LfsGstate) (mask key : ℕ) → FoundIn (dir .off) (searched b dir gdisk mask key)
@@ -64,101 +64,123 @@ module _ (prog n k v : ℕ) (es : List Event) (x y : List ℕ) (same : take (log
       rw (searched-same gdisk mask key)
       (slice-same (logEnd es) y x same buffer (searched x (mdirOf prog n k x v es) gdisk mask key) (inside gdisk mask key) long)
 
--- ---- the record
-found-few : (j k m : LfsMdir) (t s : ℕ) → j .count ≡ k .count → fewEnough j t ≡ fetched.Found m s → (j ≡ m) × (fewEnough k t ≡ fetched.Found k s)
-found-few j k m t s e h = go (ltb 1_023 (j .count)) (ltb 1_023 (k .count)) (ap (ltb 1_023) e) h
-  where
-    go : (b c : Bool) → b ≡ c → cond b (fetched.Refused (TooMany j t)) (fetched.Found j t) ≡ fetched.Found m s
-        → (j ≡ m) × (cond c (fetched.Refused (TooMany k t)) (fetched.Found k t) ≡ fetched.Found k s)
-    go true c q h = (cc, cc)
-    go false true q h = (cc, cc)
-    go false false q h = (cc, cc)
+-- ---- fetch on two blocks whose view is known: w tells which answers
+abbrev numberAt : Bool → ℕ → ℕ → ℕ
+numberAt w n0 n1 = cond w n1 n0
 
--- ---- the pair: w tells which block answers
-module _ (g : Geometry) (n0 n1 count seed : ℕ) (b0 b1 i0 i1 : List ℕ) (long0 : length i0 ≡ length b0) (long1 : length i1 ≡ length b1) (m : LfsMdir) (s : ℕ)
-    (f : fetchOf g b0 b1 n0 n1 count seed ≡ fetched.Found m s) (v : ℕ) (es : List Event) where
+-- two images of the right sizes and numbers, with a view of few slots, are found: from every seed, for every block count
+module _ (g : Geometry) (n0 n1 : ℕ) (i0 i1 : List ℕ) (fits : pairFits g (length i0) (length i1) n0 n1 ≡ true) (v : ℕ)
+    (es : List Event) (few : ltb 1_023 (countOf 0 es) ≡ false) where
+  abbrev recordAt : Bool → LfsMdir
+  recordAt w = mdirOf (g .«prog_size») (numberAt w n0 n1) (numberAt w n1 n0) (blockAt w i0 i1) v es
+
+  few-finds : (w : Bool) (t : ℕ) → fewEnough (recordAt w) t ≡ fetched.Found (recordAt w) t
+  unfolding mdirOf
+  few-finds w t = rw few
+
+  pub finds-view : (w : Bool) → viewAt w (blockAt w i0 i1) (blockAt (not w) i0 i1) ≡ at w v es
+      → Finds g n0 n1 i0 i1 (recordAt w) (λ seed. seedOf seed es)
+  finds-view false h count seed low =
+      fetch-viewed g i0 i1 n0 n1 count seed fits low ∙ ap (viewed (g .«prog_size») n0 n1 i0 i1 seed) h
+      ∙ few-finds false (seedOf seed es)
+  finds-view true h count seed low =
+      fetch-viewed g i0 i1 n0 n1 count seed fits low ∙ ap (viewed (g .«prog_size») n0 n1 i0 i1 seed) h
+      ∙ few-finds true (seedOf seed es)
+
+-- ---- a pair that was found, and images of the same lengths
+few-counted : (k m : LfsMdir) (t s : ℕ) → fewEnough k t ≡ fetched.Found m s → ltb 1_023 (k .count) ≡ false
+few-counted k m t s h = go (ltb 1_023 (k .count)) h
+  where
+    go : (b : Bool) → cond b (fetched.Refused (TooMany k t)) (fetched.Found k t) ≡ fetched.Found m s → b ≡ false
+    go true h = cc
+    go false h = refl
+
+module _ (g : Geometry) (n0 n1 count seed : ℕ) (b0 b1 i0 i1 : List ℕ) (long0 : length i0 ≡ length b0)
+    (long1 : length i1 ≡ length b1) (m : LfsMdir) (s : ℕ) (f : fetchOf g b0 b1 n0 n1 count seed ≡ fetched.Found m s)
+    (v : ℕ) (es : List Event) where
   abbrev prog : ℕ
   prog = g .«prog_size»
+
+  old-fits : pairFits g (length b0) (length b1) n0 n1 ≡ true
+  old-fits = found-tested g b0 b1 n0 n1 count seed m s f .fits
+
+  new-fits : pairFits g (length i0) (length i1) n0 n1 ≡ true
+  new-fits = rw (long0, long1) old-fits
 
   apart : eqb n1 n0 ≡ false
   unfolding pairFits
   apart =
-      let t = both-true (geometryFits g && eqb (length b0) (g .«block_size») && eqb (length b1) (g .«block_size»)) (not (eqb n0 n1)) (found-tested g b0 b1 n0 n1 count seed m s f .fits) in
+      let t = both-true (geometryFits g && eqb (length b0) (g .«block_size») && eqb (length b1) (g .«block_size»))
+      (not (eqb n0 n1)) old-fits in
       ne-eqb n1 n0 (λ e. eqb-false n0 n1 (not-true (eqb n0 n1) (t .1)) (sym e))
 
-  -- fetch is what it makes of the view
-  refetches : (w : View) → view i0 i1 ≡ w → fetchOf g i0 i1 n0 n1 count seed ≡ viewed prog n0 n1 i0 i1 seed w
-  unfolding fetchOf
-  refetches w h =
-      let t = found-tested g b0 b1 n0 n1 count seed m s f in
-      rw (long0, long1, t .fits, t .low, h)
-
-  fetches : (w : View) → view b0 b1 ≡ w → viewed prog n0 n1 b0 b1 seed w ≡ fetched.Found m s
-  unfolding fetchOf
-  fetches w h =
-      let t = found-tested g b0 b1 n0 n1 count seed m s f in
-      rw (t .fits, t .low, h) at f
-
   -- the answering block is found by its number
-  module _ (n k : ℕ) (x y : List ℕ) (ofb : cond (eqb n n0) b0 b1 ≡ x) (ofi : cond (eqb n n0) i0 i1 ≡ y) (same : take (logEnd es) y ≡ take (logEnd es) x)
-      (long : length y ≡ length x) where
-    looked-up : (gdisk : LfsGstate) (mask key : ℕ) (buffer : List ℕ)
-        → (getsliceOf g i0 i1 n0 n1 (mdirOf prog n k y v es) gdisk mask key 0 buffer ≡ getsliceOf g b0 b1 n0 n1 (mdirOf prog n k x v es) gdisk mask key 0 buffer)
-        × (getsliceBuffer g i0 i1 n0 n1 (mdirOf prog n k y v es) gdisk mask key 0 buffer ≡ getsliceBuffer g b0 b1 n0 n1 (mdirOf prog n k x v es) gdisk mask key 0 buffer)
-    unfolding getsliceOf getsliceBuffer getsliceFits recordFits mdirOf
-    looked-up gdisk mask key buffer =
-        let r = sliced-same prog n k v es x y same long gdisk mask key buffer in
-        rw (long0, long1, ofb, ofi, r .0, r .1) (refl, refl)
+  numbered : (w : Bool) (c0 c1 : List ℕ) → cond (eqb (numberAt w n0 n1) n0) c0 c1 ≡ blockAt w c0 c1
+  numbered false c0 c1 = ap (λ (c : Bool). cond c c0 c1) (eq-eqb n0 n0 refl)
+  numbered true c0 c1 = ap (λ (c : Bool). cond c c0 c1) apart
 
-  counts : (n k : ℕ) (x y : List ℕ) → mdirOf prog n k x v es .count ≡ mdirOf prog n k y v es .count
+  long-at : (w : Bool) → length (blockAt w i0 i1) ≡ length (blockAt w b0 b1)
+  long-at false = long0
+  long-at true = long1
+
+  abbrev old : Bool → LfsMdir
+  old w = mdirOf prog (numberAt w n0 n1) (numberAt w n1 n0) (blockAt w b0 b1) v es
+
+  abbrev new : Bool → LfsMdir
+  new w = mdirOf prog (numberAt w n0 n1) (numberAt w n1 n0) (blockAt w i0 i1) v es
+
+  looked-up : (w : Bool) → take (logEnd es) (blockAt w i0 i1) ≡ take (logEnd es) (blockAt w b0 b1)
+      → (gdisk : LfsGstate) (mask key : ℕ) (buffer : List ℕ)
+      → (getsliceOf g i0 i1 n0 n1 (new w) gdisk mask key 0 buffer ≡ getsliceOf g b0 b1 n0 n1 (old w) gdisk mask key 0 buffer)
+      × (getsliceBuffer g i0 i1 n0 n1 (new w) gdisk mask key 0 buffer
+      ≡ getsliceBuffer g b0 b1 n0 n1 (old w) gdisk mask key 0 buffer)
+  unfolding getsliceOf getsliceBuffer getsliceFits recordFits mdirOf
+  looked-up w same gdisk mask key buffer =
+      let r = sliced-same prog (numberAt w n0 n1) (numberAt w n1 n0) v es (blockAt w b0 b1) (blockAt w i0 i1) same
+      (long-at w) gdisk mask key buffer in
+      rw (long0, long1, numbered w b0 b1, numbered w i0 i1, r .0, r .1) (refl, refl)
+
+  marks : (w : Bool) → unmarked (new w) ≡ unmarked (old w)
   unfolding mdirOf
-  counts n k x y = refl
+  marks w = refl
 
-  marks : (n k : ℕ) (x y : List ℕ) → unmarked (mdirOf prog n k y v es) ≡ unmarked (mdirOf prog n k x v es)
+  counts : (w : Bool) → old w .count ≡ countOf 0 es
   unfolding mdirOf
-  marks n k x y = refl
+  counts w = refl
 
-  pub reads-as : (w : Bool) → viewAt w (blockAt w b0 b1) (blockAt (not w) b0 b1) ≡ at w v es → viewAt w (blockAt w i0 i1) (blockAt (not w) i0 i1) ≡ at w v es
-      → take (logEnd es) (blockAt w i0 i1) ≡ take (logEnd es) (blockAt w b0 b1) → ReadsAs g n0 n1 count seed b0 b1 i0 i1
-  reads-as false h k same =
-      let r = found-few (mdirOf prog n0 n1 b0 v es) (mdirOf prog n0 n1 i0 v es) m (seedOf seed es) s (counts n0 n1 b0 i0) (fetches (at false v es) h) in
-      let yes : eqb n0 n0 ≡ true = eq-eqb n0 n0 refl in
+  found : viewed prog n0 n1 b0 b1 seed (view b0 b1) ≡ fetched.Found m s
+  found =
+      sym (fetch-viewed g b0 b1 n0 n1 count seed old-fits (found-tested g b0 b1 n0 n1 count seed m s f .low)) ∙ f
+
+  -- what was found counts few slots
+  found-few : (w : Bool) → viewAt w (blockAt w b0 b1) (blockAt (not w) b0 b1) ≡ at w v es → ltb 1_023 (countOf 0 es) ≡ false
+  found-few false h =
+      rw (counts false) at (few-counted (old false) m (seedOf seed es) s (sym (ap (viewed prog n0 n1 b0 b1 seed) h) ∙ found))
+  found-few true h =
+      rw (counts true) at (few-counted (old true) m (seedOf seed es) s (sym (ap (viewed prog n0 n1 b0 b1 seed) h) ∙ found))
+
+  pub reads-as : (w : Bool) → viewAt w (blockAt w b0 b1) (blockAt (not w) b0 b1) ≡ at w v es
+      → viewAt w (blockAt w i0 i1) (blockAt (not w) i0 i1) ≡ at w v es
+      → take (logEnd es) (blockAt w i0 i1) ≡ take (logEnd es) (blockAt w b0 b1) → ReadsAs g n0 n1 b0 b1 i0 i1
+  reads-as w h k same =
       record {
-        before = mdirOf prog n0 n1 b0 v es;
-        after = mdirOf prog n0 n1 i0 v es;
-        read = s;
-        fetched = f ∙ ap (λ (d : LfsMdir). fetched.Found d s) (sym (r .0));
-        refetched = refetches (at false v es) k ∙ r .1;
-        same = marks n0 n1 b0 i0;
-        lookups = looked-up n0 n1 b0 i0 (ap (λ (c : Bool). cond c b0 b1) yes) (ap (λ (c : Bool). cond c i0 i1) yes) same long0;
-      }
-  reads-as true h k same =
-      let r = found-few (mdirOf prog n1 n0 b1 v es) (mdirOf prog n1 n0 i1 v es) m (seedOf seed es) s (counts n1 n0 b1 i1) (fetches (at true v es) h) in
-      record {
-        before = mdirOf prog n1 n0 b1 v es;
-        after = mdirOf prog n1 n0 i1 v es;
-        read = s;
-        fetched = f ∙ ap (λ (d : LfsMdir). fetched.Found d s) (sym (r .0));
-        refetched = refetches (at true v es) k ∙ r .1;
-        same = marks n1 n0 b1 i1;
-        lookups = looked-up n1 n0 b1 i1 (ap (λ (c : Bool). cond c b0 b1) apart) (ap (λ (c : Bool). cond c i0 i1) apart) same long1;
+        before = old w;
+        after = new w;
+        read = λ seed. seedOf seed es;
+        fetched = finds-view g n0 n1 b0 b1 old-fits v es (found-few w h) w h;
+        refetched = finds-view g n0 n1 i0 i1 new-fits v es (found-few w h) w k;
+        same = marks w;
+        lookups = looked-up w same;
       }
 
--- ---- a finished pair is found
--- the pair i0, i1 has the sizes and numbers of a pair that was found, and a view with few slots: fetch finds it
-module _ (g : Geometry) (n0 n1 count seed : ℕ) (b0 b1 i0 i1 : List ℕ) (long0 : length i0 ≡ length b0) (long1 : length i1 ≡ length b1) (m : LfsMdir) (s : ℕ)
-    (f : fetchOf g b0 b1 n0 n1 count seed ≡ fetched.Found m s) (v : ℕ) (es : List Event) (few : countOf 0 es ≤ 1_023) where
-  -- n is the number of the block that answers
-  few-finds : (n k : ℕ) (x : List ℕ) → fewEnough (mdirOf (g .«prog_size») n k x v es) (seedOf seed es) ≡ fetched.Found (mdirOf (g .«prog_size») n k x v es) (seedOf seed es)
-  unfolding mdirOf
-  few-finds n k x = rw (le-ltb 1_023 (countOf 0 es) few)
+  -- ---- a finished pair is found
+  pub refound : countOf 0 es ≤ 1_023 → (w : Bool) → viewAt w (blockAt w i0 i1) (blockAt (not w) i0 i1) ≡ at w v es
+      → fetchOf g i0 i1 n0 n1 count seed ≡ fetched.Found (new w) (seedOf seed es)
+  refound few w h =
+      finds-view g n0 n1 i0 i1 new-fits v es (le-ltb 1_023 (countOf 0 es) few) w h count seed
+      (found-tested g b0 b1 n0 n1 count seed m s f .low)
 
-  pub refound : (w : Bool) → viewAt w (blockAt w i0 i1) (blockAt (not w) i0 i1) ≡ at w v es
-      → fetchOf g i0 i1 n0 n1 count seed ≡ fetched.Found (mdirOf (g .«prog_size») (cond w n1 n0) (cond w n0 n1) (blockAt w i0 i1) v es) (seedOf seed es)
-  refound false h = refetches g n0 n1 count seed b0 b1 i0 i1 long0 long1 m s f v es (at false v es) h ∙ few-finds n0 n1 i0
-  refound true h = refetches g n0 n1 count seed b0 b1 i0 i1 long0 long1 m s f v es (at true v es) h ∙ few-finds n1 n0 i1
-
-  pub refound-place : (w : Bool) → isSecond n0 (mdirOf (g .«prog_size») (cond w n1 n0) (cond w n0 n1) (blockAt w i0 i1) v es) ≡ w
+  pub refound-place : (w : Bool) → isSecond n0 (new w) ≡ w
   unfolding mdirOf
   refound-place false = ap not (eq-eqb n0 n0 refl)
-  refound-place true = ap not (apart g n0 n1 count seed b0 b1 i0 i1 long0 long1 m s f v es)
+  refound-place true = ap not apart

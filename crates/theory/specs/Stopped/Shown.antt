@@ -13,7 +13,7 @@ use Rattle.format.specs.Log.{log, logEnd, logEndTag}
 use Rattle.format.specs.Gstate.{gstateHasMoveHere}
 use Rattle.format.specs.Pair.{pairSync}
 use Rattle.format.specs.View.{View, none, at, view}
-use Rattle.format.specs.Fetch.{pairFits, tooHigh, mdirOf, viewed, fetchOf}
+use Rattle.format.specs.Fetch.{pairFits, tooHigh, mdirOf, fewEnough, viewed, fetchOf}
 use Rattle.format.specs.Record.{seedOf}
 use Rattle.format.specs.Back.{back}
 use Rattle.format.specs.Look.{wlook}
@@ -25,7 +25,8 @@ use Rattle.format.specs.Writer.{blockAt, isSecond}
 use Rattle.format.specs.declared.Geometry.{Geometry}
 use Rattle.format.specs.declared.LfsMdir.{LfsMdir}
 use Rattle.format.specs.declared.LfsGstate.{LfsGstate}
-use Rattle.format.specs.declared.Fetched.the-variants.{Found}
+use Rattle.format.specs.declared.Refusal.the-variants.{TooMany}
+use Rattle.format.specs.declared.Fetched.the-variants.{Found, Refused}
 use Rattle.format.specs.declared.Got.the-variants as got
 use Rattle.theory.specs.Walk.Step.{both-true}
 use Rattle.theory.specs.Lookup.Masks.{query-name, query-struct, query-attr}
@@ -41,7 +42,7 @@ use Rattle.format.specs.Machine.{machineOf, Ask, name, struct, attribute, move,
 use Rattle.theory.specs.Fetch.Places.{block-length}
 use Rattle.theory.specs.Lookup.AtStart.{back-in, wlook-in, slice-held}
 use Rattle.theory.specs.Lookup.MoveAnswer.{move-answer}
-use Rattle.format.specs.Stopped.{Shows}
+use Rattle.format.specs.Stopped.{Finds, Shows}
 
 -- ---- the search, on the bytes of a block with a regular log
 module _ (x : List ℕ) (some : log x ≢ []) (regular : Regular (log x) ≡ true) where
@@ -91,6 +92,39 @@ found-tested g b0 b1 n0 n1 count seed m s h =
     let p = past-test (not (pairFits g (length b0) (length b1) n0 n1)) _ _ m s h in
     let q = past-test (tooHigh count n0 || tooHigh count n1) _ _ m s (p .1) in
     record { fits = not-false _ (p .0); low = q .0; pair = viewed-pair (g .«prog_size») n0 n1 b0 b1 seed (view b0 b1) m s (q .1) }
+
+-- ---- what fetch finds once it finds from every seed, and for every block count that the numbers pass
+few-again : (k m : LfsMdir) (t s u : ℕ) → fewEnough k t ≡ Found m s → fewEnough k u ≡ Found m u
+few-again k m t s u h = go (ltb 1_023 (k .count)) h
+  where
+    go : (b : Bool) → cond b (Refused (TooMany k t)) (Found k t) ≡ Found m s
+        → cond b (Refused (TooMany k u)) (Found k u) ≡ Found m u
+    go true h = cc
+    go false h = cc
+
+viewed-again : (prog n0 n1 : ℕ) (b0 b1 : List ℕ) (seed : ℕ) (v : View) (m : LfsMdir) (s : ℕ)
+    → viewed prog n0 n1 b0 b1 seed v ≡ Found m s
+    → (read : ℕ → ℕ) × ((u : ℕ) → viewed prog n0 n1 b0 b1 u v ≡ Found m (read u))
+viewed-again prog n0 n1 b0 b1 seed none m s h = (λ u. u, λ u. cc)
+viewed-again prog n0 n1 b0 b1 seed (at false rev es) m s h =
+    (λ u. seedOf u es, λ u. few-again (mdirOf prog n0 n1 b0 rev es) m (seedOf seed es) s (seedOf u es) h)
+viewed-again prog n0 n1 b0 b1 seed (at true rev es) m s h =
+    (λ u. seedOf u es, λ u. few-again (mdirOf prog n1 n0 b1 rev es) m (seedOf seed es) s (seedOf u es) h)
+
+-- fetch is what it makes of the view, where its tests pass
+pub fetch-viewed : (g : Geometry) (b0 b1 : List ℕ) (n0 n1 count seed : ℕ) → pairFits g (length b0) (length b1) n0 n1 ≡ true
+    → tooHigh count n0 || tooHigh count n1 ≡ false
+    → fetchOf g b0 b1 n0 n1 count seed ≡ viewed (g .«prog_size») n0 n1 b0 b1 seed (view b0 b1)
+unfolding fetchOf
+fetch-viewed g b0 b1 n0 n1 count seed fits low = rw (fits, low)
+
+pub found-anywhere : (g : Geometry) (b0 b1 : List ℕ) (n0 n1 count seed : ℕ) (m : LfsMdir) (s : ℕ)
+    → fetchOf g b0 b1 n0 n1 count seed ≡ Found m s → (read : ℕ → ℕ) × Finds g n0 n1 b0 b1 m read
+found-anywhere g b0 b1 n0 n1 count seed m s h =
+    let t = found-tested g b0 b1 n0 n1 count seed m s h in
+    let v = viewed-again (g .«prog_size») n0 n1 b0 b1 seed (view b0 b1) m s
+    (sym (fetch-viewed g b0 b1 n0 n1 count seed (t .fits) (t .low)) ∙ h) in
+    (v .0, λ count′ seed′ low. fetch-viewed g b0 b1 n0 n1 count′ seed′ (t .fits) low ∙ v .1 seed′)
 
 -- a record's block, by either name
 pub block-is : (b0 b1 : List ℕ) (n0 : ℕ) (m : LfsMdir) (w : Bool) → isSecond n0 m ≡ w → blockOf b0 b1 n0 m ≡ blockAt w b0 b1
@@ -159,12 +193,12 @@ module _ (g : Geometry) (b0 b1 : List ℕ) (n0 n1 count seed : ℕ) (m : LfsMdir
         let r = slice-held x buffer (askId a) (wlook (hasIds (askMask a)) (askMask a) (askKey a size) 0 (back x (logEnd (log x)) (logEndTag (log x)))) i (k .1) in
         rw (fits buffer hb, block, still (askMask a) (askKey a size) gdisk hm, end, tag, ← k .0) r
 
-    pub shows : Shows g n0 n1 count seed b0 b1 (machineOf (log (blockAt w b0 b1)))
+    pub shows : Shows g n0 n1 b0 b1 (machineOf (log (blockAt w b0 b1)))
     shows =
         record {
           dir = m;
-          read = s;
-          fetched = f;
+          read = found-anywhere g b0 b1 n0 n1 count seed m s f .0;
+          fetched = found-anywhere g b0 b1 n0 n1 count seed m s f .1;
           slots = rw same at (reads .count′) ∙ slots-counted x regular;
           split = rw same at (reads .split′);
           tail = rw same at (reads .tail′);
