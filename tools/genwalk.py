@@ -29,7 +29,7 @@ def sig(name,crate=None):
         if mm: p.kind='mut' if mm.group(1) else 'shr'; p.el=mm.group(2); p.j=j; j+=1
         else: p.kind='struct'; p.ty=ty.split('::')[-1]
         ps.append(p)
-    s=P(); s.name=name; s.crate=crate; s.ps=ps; s.nl=j; s.ret=m.group(2) or 'unit'; s.rv=m.group(3); s.fact=re.sub('«([^»]*)»',lambda q:q.group(1).replace('_',''),(m.group(4) or '').strip()); return s
+    s=P(); s.name=name; s.crate=crate; s.ps=ps; s.nl=j; s.ret=m.group(2) or 'unit'; s.rv=m.group(3); s.fact=re.sub('«([^»]*)»',lambda q:q.group(1).replace('_',''),re.sub(r'\s+',' ',(m.group(4) or '').strip())); return s
 def row(t): return t if (t in W or t in('bool','unit')) else f'{t}-ty.the-row'
 def den(t): return 'ℕ' if t in W else {'bool':'Bool','unit':'Unit {0}'}.get(t,t)
 def makes(t):

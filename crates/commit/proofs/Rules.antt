@@ -5,7 +5,7 @@ use Prim.Native.Nat.{ℕ, suc}
 use lib.ListN.{length}
 use Rattle.format.specs.Fetch.{fetchOf}
 use Rattle.format.specs.Writer.{answerOf, verdictOf, unlimited, commitImages, commitOf, commitStoresOf}
-use Rattle.format.specs.Stopped.{CommitStopped}
+use Rattle.format.specs.Stopped.{CommitStopped, CommitLeaves, CommitStoresLeaves}
 use Rattle.format.specs.declared.Geometry.{Geometry}
 use Rattle.format.specs.declared.Entry.{Entry}
 use Rattle.format.specs.declared.Committed.{Committed}
@@ -30,7 +30,7 @@ module _ (es : List Entry) (dat b0 b1 : List ℕ) (st : State) where
 -- ---- demand 3, of what a call left
 stopped : (g : Geometry) (b0 b1 : List ℕ) (n0 n1 count seed : ℕ) (es : List Entry) (dat : List ℕ) (n : ℕ) (x0 y0 : List ℕ)
     → x0 ≡ commitImages g b0 b1 n0 n1 count seed es dat n .b0 → y0 ≡ commitImages g b0 b1 n0 n1 count seed es dat n .b1
-    → CommitStopped g n0 n1 count seed b0 b1 es dat x0 y0
+    → CommitStopped g b0 b1 n0 n1 count seed es dat x0 y0
 stopped g b0 b1 n0 n1 count seed es dat n x0 y0 ex ey = rw (ex, ey) (stopped-commit g b0 b1 n0 n1 count seed es dat n)
 
 -- ---- the steps, one after the other
@@ -52,23 +52,30 @@ module _ (b0 b1 : List ℕ) (es : List Entry) (dat : List ℕ) (g : Geometry) (n
   pub commit-glue : (n : ℕ) (r0 : State) (x0 y0 : List ℕ) (r1 : Committed) → n ≡ unlimited
       → trio r0 x0 y0 ≡ ranOf g b0 b1 n0 n1 count seed es dat n
       → r1 ≡ answeredOf r0 (fetchOf g x0 y0 n0 n1 count seed)
-      → (r1 ≡ commitOf g b0 b1 n0 n1 count seed es dat) × (x0 ≡ commitImages g b0 b1 n0 n1 count seed es dat unlimited .b0) × (y0 ≡ commitImages g b0 b1 n0 n1 count seed es dat unlimited .b1)
+      → (r1 ≡ commitOf g b0 b1 n0 n1 count seed es dat)
+      × CommitLeaves g b0 b1 n0 n1 count seed es dat x0 y0
   unfolding commitOf commitImages
   commit-glue n r0 x0 y0 r1 en e0 e1 =
       let e : trio r0 x0 y0 ≡ ranOf g b0 b1 n0 n1 count seed es dat unlimited = e0 ∙ ap (λ (k : ℕ). ranOf g b0 b1 n0 n1 count seed es dat k) en in
       let t = ran g b0 b1 n0 n1 count seed es dat unlimited in
       let ex : x0 ≡ commitImages g b0 b1 n0 n1 count seed es dat unlimited .b0 = ap (λ (u : Trio). u .b0) e ∙ t .first in
       let ey : y0 ≡ commitImages g b0 b1 n0 n1 count seed es dat unlimited .b1 = ap (λ (u : Trio). u .b1) e ∙ t .second in
-      (e1 ∙ ap (λ (u : Trio). answeredOf (u .st) (fetchOf g x0 y0 n0 n1 count seed)) e ∙ t .answers (fetchOf g x0 y0 n0 n1 count seed) ∙ (λ i. answerOf (fetchOf g (ex i) (ey i) n0 n1 count seed) (verdictOf g b0 b1 n0 n1 count seed es dat)), ex, ey)
+      let answers : r1 ≡ commitOf g b0 b1 n0 n1 count seed es dat =
+      e1 ∙ ap (λ (u : Trio). answeredOf (u .st) (fetchOf g x0 y0 n0 n1 count seed)) e
+      ∙ t .answers (fetchOf g x0 y0 n0 n1 count seed)
+      ∙ (λ i. answerOf (fetchOf g (ex i) (ey i) n0 n1 count seed) (verdictOf g b0 b1 n0 n1 count seed es dat)) in
+      (answers, (ex, ey, stopped-commit g b0 b1 n0 n1 count seed es dat))
 
   pub stores-glue : (stores : ℕ) (r0 : State) (x0 y0 : List ℕ) (r1 : Stored)
       → trio r0 x0 y0 ≡ ranOf g b0 b1 n0 n1 count seed es dat stores
       → r1 ≡ madeOf r0 stores
-      → (r1 ≡ commitStoresOf g b0 b1 n0 n1 count seed es dat stores) × (x0 ≡ commitImages g b0 b1 n0 n1 count seed es dat stores .b0) × (y0 ≡ commitImages g b0 b1 n0 n1 count seed es dat stores .b1)
-      × CommitStopped g n0 n1 count seed b0 b1 es dat x0 y0
+      → (r1 ≡ commitStoresOf g b0 b1 n0 n1 count seed es dat stores)
+      × CommitStoresLeaves g b0 b1 n0 n1 count seed es dat stores x0 y0
   unfolding commitStoresOf commitImages
   stores-glue stores r0 x0 y0 r1 e0 e1 =
       let t = ran g b0 b1 n0 n1 count seed es dat stores in
       let ex : x0 ≡ commitImages g b0 b1 n0 n1 count seed es dat stores .b0 = ap (λ (u : Trio). u .b0) e0 ∙ t .first in
-      let ey : y0 ≡ commitImages g b0 b1 n0 n1 count seed es dat stores .b1 = ap (λ (u : Trio). u .b1) e0 ∙ t .second in
-      (e1 ∙ ap (λ (u : Trio). madeOf (u .st) stores) e0 ∙ t .made, ex, ey, stopped g b0 b1 n0 n1 count seed es dat stores x0 y0 ex ey)
+      let ey : y0 ≡ commitImages g b0 b1 n0 n1 count seed es dat stores .b1 = ap (λ (u : Trio). u .b1) e0 ∙ t .second in (
+        e1 ∙ ap (λ (u : Trio). madeOf (u .st) stores) e0 ∙ t .made,
+        (ex, ey, stopped g b0 b1 n0 n1 count seed es dat stores x0 y0 ex ey),
+      )

@@ -3,8 +3,8 @@
 // `each` is the one loop over it, run twice, and hands an entry's numbers to `commit_steps::step`. Their proofs are walks that tools/genwalk.py writes.
 ghost use mathlib.Core.Path.{_≡_};
 ghost use lib.ListN.{length};
-ghost use Rattle.format.specs.Writer.{unlimited, commitImages, commitOf, commitStoresOf};
-ghost use Rattle.format.specs.Stopped.{CommitStopped};
+ghost use Rattle.format.specs.Writer.{commitOf, commitStoresOf};
+ghost use Rattle.format.specs.Stopped.{CommitLeaves, CommitStoresLeaves};
 ghost use Rattle.commit_steps.specs.State.{trio};
 ghost use Rattle.commit.specs.Passes.{eachOf, ranOf};
 use commit_steps::State;
@@ -49,7 +49,8 @@ fn run(
     commit_steps::seal(s3, b0, b1)
 }
 
-// "An accepted call answers what fetch gives on the finished pair from the same seed."
+// "An accepted call answers what fetch gives on the finished pair from the same seed." `CommitLeaves` says what stands in
+// both images then, and has demand 3: wherever the call is stopped, the pair reads as finished or as never begun.
 pub fn lfs_dir_commit(
     g: Geometry,
     b0: &mut [u8],
@@ -61,15 +62,18 @@ pub fn lfs_dir_commit(
     entries: &[Entry],
     dat: &[u8],
 ) -> Committed
-    ensures { λ r. ⌜ (r ≡ commitOf g (now (b0 .entry)) (now (b1 .entry)) n0 n1 «block_count» seed (now (entries .entry)) (now (dat .entry))) × (now (b0 .exit) ≡ commitImages g (now (b0 .entry)) (now (b1 .entry)) n0 n1 «block_count» seed (now (entries .entry)) (now (dat .entry)) unlimited .b0) × (now (b1 .exit) ≡ commitImages g (now (b0 .entry)) (now (b1 .entry)) n0 n1 «block_count» seed (now (entries .entry)) (now (dat .entry)) unlimited .b1) ⌝ }
+    ensures { λ r. ⌜ (r ≡ commitOf g (now (b0 .entry)) (now (b1 .entry)) n0 n1 «block_count» seed
+        (now (entries .entry)) (now (dat .entry)))
+        × CommitLeaves g (now (b0 .entry)) (now (b1 .entry)) n0 n1 «block_count» seed
+        (now (entries .entry)) (now (dat .entry)) (now (b0 .exit)) (now (b1 .exit)) ⌝ }
 {
     let all = commit_steps::unlimited();
     let s = run(g, b0, b1, n0, n1, block_count, seed, entries, dat, all);
     commit_steps::answer(s, g, b0, b1, n0, n1, block_count, seed)
 }
 
-// The same "with a limit of n stores: exactly the first n of demand 3's list are made (all, if n is larger) and the number made is the answer".
-// The last part of its contract is demand 3: whatever the limit, what stands in the images reads as the finished pair or as the old one.
+// The same "with a limit of n stores: exactly the first n of demand 3's list are made (all, if n is larger) and the number
+// made is the answer". `CommitStoresLeaves` has demand 3 of what stands in the images now.
 pub fn lfs_dir_commit_stores(
     g: Geometry,
     b0: &mut [u8],
@@ -82,7 +86,10 @@ pub fn lfs_dir_commit_stores(
     dat: &[u8],
     stores: u32,
 ) -> Stored
-    ensures { λ r. ⌜ (r ≡ commitStoresOf g (now (b0 .entry)) (now (b1 .entry)) n0 n1 «block_count» seed (now (entries .entry)) (now (dat .entry)) stores) × (now (b0 .exit) ≡ commitImages g (now (b0 .entry)) (now (b1 .entry)) n0 n1 «block_count» seed (now (entries .entry)) (now (dat .entry)) stores .b0) × (now (b1 .exit) ≡ commitImages g (now (b0 .entry)) (now (b1 .entry)) n0 n1 «block_count» seed (now (entries .entry)) (now (dat .entry)) stores .b1) × CommitStopped g n0 n1 «block_count» seed (now (b0 .entry)) (now (b1 .entry)) (now (entries .entry)) (now (dat .entry)) (now (b0 .exit)) (now (b1 .exit)) ⌝ }
+    ensures { λ r. ⌜ (r ≡ commitStoresOf g (now (b0 .entry)) (now (b1 .entry)) n0 n1 «block_count» seed
+        (now (entries .entry)) (now (dat .entry)) stores)
+        × CommitStoresLeaves g (now (b0 .entry)) (now (b1 .entry)) n0 n1 «block_count» seed
+        (now (entries .entry)) (now (dat .entry)) stores (now (b0 .exit)) (now (b1 .exit)) ⌝ }
 {
     let s = run(g, b0, b1, n0, n1, block_count, seed, entries, dat, stores);
     commit_steps::made(s, stores)

@@ -14,9 +14,9 @@ use Rattle.format.specs.Fetch.{fetchOf}
 use Rattle.format.specs.Regular.{Regular}
 use Rattle.format.specs.Commit.{checkTag}
 use Rattle.format.specs.Stores.{coincides}
-use Rattle.format.specs.Writer.{roundedEnd, checkSize, blockAt, isSecond, committedAs}
+use Rattle.format.specs.Writer.{roundedEnd, checkSize, blockAt, isSecond, unlimited, committedAs}
 use Rattle.format.specs.Compaction.{compactionItems, compactCheckAt, CompactVerdict, compactRefused, compactAccepted, placedAnew, compactable, compactVerdict, compactImagesAfter, compactAnswer, compactMade, compactImages, compactOf, compactStoresOf}
-use Rattle.format.specs.Stopped.{Bytes, CompactStopped}
+use Rattle.format.specs.Stopped.{Bytes, CompactLeaves, CompactStoresLeaves}
 use Rattle.format.specs.declared.Geometry.{Geometry}
 use Rattle.format.specs.declared.LfsMdir.{LfsMdir}
 use Rattle.format.specs.declared.Refusal.{Refusal}
@@ -76,9 +76,9 @@ module _ (g : Geometry) (b0 b1 : List ℕ) (n0 n1 count seed : ℕ) where
 
   -- with demand 3, which a call keeps whatever it leaves
   pub kept : (n : ℕ) (r : Stored) (c0 c1 : List ℕ) → Bytes b0 → Bytes b1 → Called n r c0 c1
-      → (r ≡ compactStoresOf g b0 b1 n0 n1 count seed n)
-      × ((c0 ≡ compactImages g b0 b1 n0 n1 count seed n .b0) × ((c1 ≡ compactImages g b0 b1 n0 n1 count seed n .b1) × CompactStopped g n0 n1 count seed b0 b1 c0 c1))
-  kept n r c0 c1 y0 y1 h = (h .0, (h .1 .0, (h .1 .1, rw (h .1 .0, h .1 .1) (stopped-compaction g b0 b1 n0 n1 count seed n y0 y1))))
+      → (r ≡ compactStoresOf g b0 b1 n0 n1 count seed n) × CompactStoresLeaves g b0 b1 n0 n1 count seed n c0 c1
+  kept n r c0 c1 y0 y1 h =
+      (h .0, (h .1 .0, h .1 .1, rw (h .1 .0, h .1 .1) (stopped-compaction g b0 b1 n0 n1 count seed n y0 y1)))
 
   leaves : (n : ℕ) (v : CompactVerdict) → compactVerdict g b0 b1 n0 n1 count seed ≡ v → (r : Stored) (c0 c1 : List ℕ) → Leaves n b0 b1 v r c0 c1 → Called n r c0 c1
   unfolding compactStoresOf compactImages
@@ -146,26 +146,34 @@ module _ (g : Geometry) (b0 b1 : List ℕ) (n0 n1 count seed : ℕ) where
 
   -- ---- the call with no limit: c0 and c1 are what the other leaves
   abbrev pub Answered : Committed → List ℕ → List ℕ → Type 0
-  Answered r c0 c1 =
-      (r ≡ compactOf g b0 b1 n0 n1 count seed)
-      × ((c0 ≡ compactImages g b0 b1 n0 n1 count seed allOnes .b0) × (c1 ≡ compactImages g b0 b1 n0 n1 count seed allOnes .b1))
+  Answered r c0 c1 = (r ≡ compactOf g b0 b1 n0 n1 count seed) × CompactLeaves g b0 b1 n0 n1 count seed c0 c1
 
-  module _ (c0 c1 : List ℕ) (e0 : c0 ≡ compactImages g b0 b1 n0 n1 count seed allOnes .b0) (e1 : c1 ≡ compactImages g b0 b1 n0 n1 count seed allOnes .b1) where
-    pub answered-refused : (r : Refusal) → stored.Refused r ≡ compactStoresOf g b0 b1 n0 n1 count seed allOnes → Answered (committed.Refused r) c0 c1
+  module _ (c0 c1 : List ℕ) (y0 : Bytes b0) (y1 : Bytes b1)
+      (l : CompactStoresLeaves g b0 b1 n0 n1 count seed unlimited c0 c1) where
+    abbrev e0 : c0 ≡ compactImages g b0 b1 n0 n1 count seed unlimited .b0
+    e0 = l .0
+
+    abbrev e1 : c1 ≡ compactImages g b0 b1 n0 n1 count seed unlimited .b1
+    e1 = l .1
+
+    left : CompactLeaves g b0 b1 n0 n1 count seed c0 c1
+    left = (l .0, l .1, λ n. stopped-compaction g b0 b1 n0 n1 count seed n y0 y1)
+
+    pub answered-refused : (r : Refusal) → stored.Refused r ≡ compactStoresOf g b0 b1 n0 n1 count seed unlimited → Answered (committed.Refused r) c0 c1
     unfolding compactOf compactStoresOf
-    answered-refused r h = (go (compactVerdict g b0 b1 n0 n1 count seed) h, (e0, e1))
+    answered-refused r h = (go (compactVerdict g b0 b1 n0 n1 count seed) h, left)
       where
-        go : (v : CompactVerdict) → stored.Refused r ≡ compactMade allOnes v
-            → committed.Refused r ≡ compactAnswer (fetchOf g (compactImages g b0 b1 n0 n1 count seed allOnes .b0) (compactImages g b0 b1 n0 n1 count seed allOnes .b1) n0 n1 count seed) v
+        go : (v : CompactVerdict) → stored.Refused r ≡ compactMade unlimited v
+            → committed.Refused r ≡ compactAnswer (fetchOf g (compactImages g b0 b1 n0 n1 count seed unlimited .b0) (compactImages g b0 b1 n0 n1 count seed unlimited .b1) n0 n1 count seed) v
         go (compactRefused x) k = let q : r ≡ x = cc in ap committed.Refused q
         go (compactAccepted w rev is size) k = cc
 
-    pub answered-made : (k : ℕ) → stored.Made k ≡ compactStoresOf g b0 b1 n0 n1 count seed allOnes → (f : Fetched) → f ≡ fetchOf g c0 c1 n0 n1 count seed
+    pub answered-made : (k : ℕ) → stored.Made k ≡ compactStoresOf g b0 b1 n0 n1 count seed unlimited → (f : Fetched) → f ≡ fetchOf g c0 c1 n0 n1 count seed
         → Answered (committedAs f) c0 c1
     unfolding compactOf compactStoresOf
-    answered-made k h f ef = (go (compactVerdict g b0 b1 n0 n1 count seed) h, (e0, e1))
+    answered-made k h f ef = (go (compactVerdict g b0 b1 n0 n1 count seed) h, left)
       where
-        go : (v : CompactVerdict) → stored.Made k ≡ compactMade allOnes v
-            → committedAs f ≡ compactAnswer (fetchOf g (compactImages g b0 b1 n0 n1 count seed allOnes .b0) (compactImages g b0 b1 n0 n1 count seed allOnes .b1) n0 n1 count seed) v
+        go : (v : CompactVerdict) → stored.Made k ≡ compactMade unlimited v
+            → committedAs f ≡ compactAnswer (fetchOf g (compactImages g b0 b1 n0 n1 count seed unlimited .b0) (compactImages g b0 b1 n0 n1 count seed unlimited .b1) n0 n1 count seed) v
         go (compactRefused x) k = cc
         go (compactAccepted w rev is size) k = ap committedAs ef ∙ rw (e0, e1)

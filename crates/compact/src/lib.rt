@@ -1,16 +1,15 @@
 // Compaction of a metadata pair: document 01's `lfs_dir_compact`, and the same with a limit of stores. The block that fetch did not answer from is
 // erased and gets the next revision and one commit of all that the pair holds. Any geometry, images, numbers, block count and seed.
 ghost use mathlib.Core.Path.{_≡_};
-ghost use Rattle.format.specs.Word.{allOnes};
-ghost use Rattle.format.specs.Compaction.{compactImages, compactOf, compactStoresOf};
-ghost use Rattle.format.specs.Stopped.{CompactStopped};
+ghost use Rattle.format.specs.Compaction.{compactOf, compactStoresOf};
+ghost use Rattle.format.specs.Stopped.{CompactLeaves, CompactStoresLeaves};
 use format::Committed;
 use format::Fetched;
 use format::Geometry;
 use format::Stored;
 
 // "exactly the first n of demand 3's list are made (all, if n is larger) and the number made is the answer": the erase is the first, then single
-// bytes rise. The last clause is demand 3: whatever the limit, what stands in the images reads as the finished pair or as the old one.
+// bytes rise. `CompactStoresLeaves` has demand 3 of what stands in the images now: the finished pair or the old one.
 pub fn lfs_dir_compact_stores(
     g: Geometry,
     b0: &mut [u8],
@@ -22,9 +21,8 @@ pub fn lfs_dir_compact_stores(
     stores: u32,
 ) -> Stored
     ensures { λ r. ⌜ r ≡ compactStoresOf g (now (b0 .entry)) (now (b1 .entry)) n0 n1 «block_count» seed stores ⌝ }
-    ensures { λ _. ⌜ now (b0 .exit) ≡ compactImages g (now (b0 .entry)) (now (b1 .entry)) n0 n1 «block_count» seed stores .b0 ⌝ }
-    ensures { λ _. ⌜ now (b1 .exit) ≡ compactImages g (now (b0 .entry)) (now (b1 .entry)) n0 n1 «block_count» seed stores .b1 ⌝ }
-    ensures { λ _. ⌜ CompactStopped g n0 n1 «block_count» seed (now (b0 .entry)) (now (b1 .entry)) (now (b0 .exit)) (now (b1 .exit)) ⌝ }
+    ensures { λ _. ⌜ CompactStoresLeaves g (now (b0 .entry)) (now (b1 .entry)) n0 n1 «block_count» seed stores
+        (now (b0 .exit)) (now (b1 .exit)) ⌝ }
 {
     match fetch::lfs_dir_fetch(g, b0, b1, n0, n1, block_count, seed) {
         Fetched::Refused(r) => Stored::Refused(r),
@@ -40,6 +38,7 @@ pub fn lfs_dir_compact_stores(
 }
 
 // "An accepted call answers what fetch gives on the finished pair from the same seed." No compaction has as many stores as the limit here.
+// `CompactLeaves` has demand 3 wherever the call is stopped.
 pub fn lfs_dir_compact(
     g: Geometry,
     b0: &mut [u8],
@@ -50,8 +49,8 @@ pub fn lfs_dir_compact(
     seed: u32,
 ) -> Committed
     ensures { λ r. ⌜ r ≡ compactOf g (now (b0 .entry)) (now (b1 .entry)) n0 n1 «block_count» seed ⌝ }
-    ensures { λ _. ⌜ now (b0 .exit) ≡ compactImages g (now (b0 .entry)) (now (b1 .entry)) n0 n1 «block_count» seed allOnes .b0 ⌝ }
-    ensures { λ _. ⌜ now (b1 .exit) ≡ compactImages g (now (b0 .entry)) (now (b1 .entry)) n0 n1 «block_count» seed allOnes .b1 ⌝ }
+    ensures { λ _. ⌜ CompactLeaves g (now (b0 .entry)) (now (b1 .entry)) n0 n1 «block_count» seed
+        (now (b0 .exit)) (now (b1 .exit)) ⌝ }
 {
     match lfs_dir_compact_stores(g, b0, b1, n0, n1, block_count, seed, 0xffff_ffff) {
         Stored::Refused(r) => Committed::Refused(r),

@@ -2,8 +2,8 @@
 use mathlib.Core.Path.{_≡_, ap, _∙_}
 use mathlib.Core.List.{List}
 use Prim.Native.Nat.{ℕ}
-use Rattle.format.specs.Writer.{unlimited, commitImages, commitOf, commitStoresOf}
-use Rattle.format.specs.Stopped.{CommitStopped}
+use Rattle.format.specs.Writer.{commitOf, commitStoresOf}
+use Rattle.format.specs.Stopped.{CommitLeaves, CommitStoresLeaves}
 use Rattle.format.specs.declared.Geometry.{Geometry}
 use Rattle.format.specs.declared.Entry.{Entry}
 use Rattle.format.specs.declared.Committed.{Committed}
@@ -14,15 +14,16 @@ use Rattle.lanolin_answers.specs.declared.StoredOut.{StoredOut}
 
 module _ (b0 b1 : List ℕ) (es : List Entry) (dat : List ℕ) (g : Geometry) (n0 n1 count seed : ℕ) where
   pub commit-glue : (r0 : Committed) (x0 y0 : List ℕ) (r1 : CommittedOut)
-      → (r0 ≡ commitOf g b0 b1 n0 n1 count seed es dat) × (x0 ≡ commitImages g b0 b1 n0 n1 count seed es dat unlimited .b0) × (y0 ≡ commitImages g b0 b1 n0 n1 count seed es dat unlimited .b1)
+      → (r0 ≡ commitOf g b0 b1 n0 n1 count seed es dat) × CommitLeaves g b0 b1 n0 n1 count seed es dat x0 y0
       → r1 ≡ committedOut seed r0
-      → (r1 ≡ committedOut seed (commitOf g b0 b1 n0 n1 count seed es dat)) × (x0 ≡ commitImages g b0 b1 n0 n1 count seed es dat unlimited .b0) × (y0 ≡ commitImages g b0 b1 n0 n1 count seed es dat unlimited .b1)
-  commit-glue r0 x0 y0 r1 said out = (out ∙ ap (committedOut seed) (said .0), said .1, said .2)
+      → (r1 ≡ committedOut seed (commitOf g b0 b1 n0 n1 count seed es dat))
+      × CommitLeaves g b0 b1 n0 n1 count seed es dat x0 y0
+  commit-glue r0 x0 y0 r1 said out = (out ∙ ap (committedOut seed) (said .0), said .1)
 
   pub stores-glue : (stores : ℕ) (r0 : Stored) (x0 y0 : List ℕ) (r1 : StoredOut)
-      → (r0 ≡ commitStoresOf g b0 b1 n0 n1 count seed es dat stores) × (x0 ≡ commitImages g b0 b1 n0 n1 count seed es dat stores .b0) × (y0 ≡ commitImages g b0 b1 n0 n1 count seed es dat stores .b1)
-      × CommitStopped g n0 n1 count seed b0 b1 es dat x0 y0
+      → (r0 ≡ commitStoresOf g b0 b1 n0 n1 count seed es dat stores)
+      × CommitStoresLeaves g b0 b1 n0 n1 count seed es dat stores x0 y0
       → r1 ≡ storedOut r0
-      → (r1 ≡ storedOut (commitStoresOf g b0 b1 n0 n1 count seed es dat stores)) × (x0 ≡ commitImages g b0 b1 n0 n1 count seed es dat stores .b0) × (y0 ≡ commitImages g b0 b1 n0 n1 count seed es dat stores .b1)
-      × CommitStopped g n0 n1 count seed b0 b1 es dat x0 y0
-  stores-glue stores r0 x0 y0 r1 said out = (out ∙ ap storedOut (said .0), said .1, said .2, said .3)
+      → (r1 ≡ storedOut (commitStoresOf g b0 b1 n0 n1 count seed es dat stores))
+      × CommitStoresLeaves g b0 b1 n0 n1 count seed es dat stores x0 y0
+  stores-glue stores r0 x0 y0 r1 said out = (out ∙ ap storedOut (said .0), said .1)

@@ -2,8 +2,8 @@
 // (docs/DECISIONS.md has the shapes). It is thin: no logic of its own, no `requires`. Results are document 01's numbers: 0, or the refusal.
 ghost use mathlib.Core.Path.{_≡_};
 ghost use Rattle.lanolin_answers.specs.Values.{committedOut, storedOut};
-ghost use Rattle.format.specs.Writer.{unlimited, commitImages, commitOf, commitStoresOf};
-ghost use Rattle.format.specs.Stopped.{CommitStopped};
+ghost use Rattle.format.specs.Writer.{commitOf, commitStoresOf};
+ghost use Rattle.format.specs.Stopped.{CommitLeaves, CommitStoresLeaves};
 use format::Entry;
 use format::Geometry;
 use lanolin_answers::CommittedOut;
@@ -34,7 +34,10 @@ pub extern "C" fn lanolin_commit(
     entries: &[Entry],
     dat: &[u8],
 ) -> CommittedOut
-    ensures { λ r. ⌜ (r ≡ committedOut seed (commitOf g (now (b0 .entry)) (now (b1 .entry)) n0 n1 «block_count» seed (now (entries .entry)) (now (dat .entry)))) × (now (b0 .exit) ≡ commitImages g (now (b0 .entry)) (now (b1 .entry)) n0 n1 «block_count» seed (now (entries .entry)) (now (dat .entry)) unlimited .b0) × (now (b1 .exit) ≡ commitImages g (now (b0 .entry)) (now (b1 .entry)) n0 n1 «block_count» seed (now (entries .entry)) (now (dat .entry)) unlimited .b1) ⌝ }
+    ensures { λ r. ⌜ (r ≡ committedOut seed (commitOf g (now (b0 .entry)) (now (b1 .entry)) n0 n1 «block_count» seed
+        (now (entries .entry)) (now (dat .entry))))
+        × CommitLeaves g (now (b0 .entry)) (now (b1 .entry)) n0 n1 «block_count» seed
+        (now (entries .entry)) (now (dat .entry)) (now (b0 .exit)) (now (b1 .exit)) ⌝ }
 {
     let c = commit::lfs_dir_commit(g, b0, b1, n0, n1, block_count, seed, entries, dat);
     lanolin_answers::committed_out(seed, c)
@@ -53,7 +56,10 @@ pub extern "C" fn lanolin_commit_stores(
     dat: &[u8],
     stores: u32,
 ) -> StoredOut
-    ensures { λ r. ⌜ (r ≡ storedOut (commitStoresOf g (now (b0 .entry)) (now (b1 .entry)) n0 n1 «block_count» seed (now (entries .entry)) (now (dat .entry)) stores)) × (now (b0 .exit) ≡ commitImages g (now (b0 .entry)) (now (b1 .entry)) n0 n1 «block_count» seed (now (entries .entry)) (now (dat .entry)) stores .b0) × (now (b1 .exit) ≡ commitImages g (now (b0 .entry)) (now (b1 .entry)) n0 n1 «block_count» seed (now (entries .entry)) (now (dat .entry)) stores .b1) × CommitStopped g n0 n1 «block_count» seed (now (b0 .entry)) (now (b1 .entry)) (now (entries .entry)) (now (dat .entry)) (now (b0 .exit)) (now (b1 .exit)) ⌝ }
+    ensures { λ r. ⌜ (r ≡ storedOut (commitStoresOf g (now (b0 .entry)) (now (b1 .entry)) n0 n1 «block_count» seed
+        (now (entries .entry)) (now (dat .entry)) stores))
+        × CommitStoresLeaves g (now (b0 .entry)) (now (b1 .entry)) n0 n1 «block_count» seed
+        (now (entries .entry)) (now (dat .entry)) stores (now (b0 .exit)) (now (b1 .exit)) ⌝ }
 {
     let s = commit::lfs_dir_commit_stores(
         g,

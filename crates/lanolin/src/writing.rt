@@ -1,8 +1,7 @@
 // Compaction for C callers, and the same with a limit of stores. Each export hands its numbers and slices to the call of the same name.
 ghost use mathlib.Core.Path.{_≡_};
-ghost use Rattle.format.specs.Word.{allOnes};
-ghost use Rattle.format.specs.Compaction.{compactImages, compactOf, compactStoresOf};
-ghost use Rattle.format.specs.Stopped.{CompactStopped};
+ghost use Rattle.format.specs.Compaction.{compactOf, compactStoresOf};
+ghost use Rattle.format.specs.Stopped.{CompactLeaves, CompactStoresLeaves};
 ghost use Rattle.lanolin_answers.specs.Values.{committedOut, storedOut};
 use format::Geometry;
 use lanolin_answers::CommittedOut;
@@ -21,8 +20,8 @@ pub extern "C" fn lanolin_compact(
     seed: u32,
 ) -> CommittedOut
     ensures { λ r. ⌜ r ≡ committedOut seed (compactOf g (now (b0 .entry)) (now (b1 .entry)) n0 n1 «block_count» seed) ⌝ }
-    ensures { λ _. ⌜ now (b0 .exit) ≡ compactImages g (now (b0 .entry)) (now (b1 .entry)) n0 n1 «block_count» seed allOnes .b0 ⌝ }
-    ensures { λ _. ⌜ now (b1 .exit) ≡ compactImages g (now (b0 .entry)) (now (b1 .entry)) n0 n1 «block_count» seed allOnes .b1 ⌝ }
+    ensures { λ _. ⌜ CompactLeaves g (now (b0 .entry)) (now (b1 .entry)) n0 n1 «block_count» seed
+        (now (b0 .exit)) (now (b1 .exit)) ⌝ }
 {
     committed_out(
         seed,
@@ -42,9 +41,8 @@ pub extern "C" fn lanolin_compact_stores(
     stores: u32,
 ) -> StoredOut
     ensures { λ r. ⌜ r ≡ storedOut (compactStoresOf g (now (b0 .entry)) (now (b1 .entry)) n0 n1 «block_count» seed stores) ⌝ }
-    ensures { λ _. ⌜ now (b0 .exit) ≡ compactImages g (now (b0 .entry)) (now (b1 .entry)) n0 n1 «block_count» seed stores .b0 ⌝ }
-    ensures { λ _. ⌜ now (b1 .exit) ≡ compactImages g (now (b0 .entry)) (now (b1 .entry)) n0 n1 «block_count» seed stores .b1 ⌝ }
-    ensures { λ _. ⌜ CompactStopped g n0 n1 «block_count» seed (now (b0 .entry)) (now (b1 .entry)) (now (b0 .exit)) (now (b1 .exit)) ⌝ }
+    ensures { λ _. ⌜ CompactStoresLeaves g (now (b0 .entry)) (now (b1 .entry)) n0 n1 «block_count» seed stores
+        (now (b0 .exit)) (now (b1 .exit)) ⌝ }
 {
     stored_out(compact::lfs_dir_compact_stores(g, b0, b1, n0, n1, block_count, seed, stores))
 }

@@ -21,7 +21,7 @@ use Rattle.theory.specs.Stopped.Shown.{block-is, shows}
 -- record's, and every directory lookup with the record answers what the machine has.
 pub directory-lookups : (g : Geometry) (b0 b1 : List ℕ) (n0 n1 count seed : ℕ) (dir : LfsMdir) (read : ℕ)
     → fetchOf g b0 b1 n0 n1 count seed ≡ Found dir read → Regular (log (blockOf b0 b1 n0 dir)) ≡ true
-    → Shows g n0 n1 count seed b0 b1 (machineOf (log (blockOf b0 b1 n0 dir)))
+    → Shows g n0 n1 b0 b1 (machineOf (log (blockOf b0 b1 n0 dir)))
 directory-lookups g b0 b1 n0 n1 count seed dir read f regular =
     let e : blockOf b0 b1 n0 dir ≡ blockAt (isSecond n0 dir) b0 b1 = block-is b0 b1 n0 dir (isSecond n0 dir) refl in
     rw e (shows g b0 b1 n0 n1 count seed dir read f (isSecond n0 dir) refl (rw e at regular))

@@ -112,8 +112,9 @@ takes-compaction = refl
 
 -- so of the commit: whatever n, the finished images or the old reading; and what the finished pair holds
 pub commit-example : (n : ℕ)
-    → Stopped geometry 0 1 0 0 first second (commitImages geometry first second 0 1 0 0 (deadline ∷ []) hour n .b0) (commitImages geometry first second 0 1 0 0 (deadline ∷ []) hour n .b1)
-    (commitImages geometry first second 0 1 0 0 (deadline ∷ []) hour unlimited .b0) (commitImages geometry first second 0 1 0 0 (deadline ∷ []) hour unlimited .b1)
+    → Stopped geometry 0 1 first second (commitImages geometry first second 0 1 0 0 (deadline ∷ []) hour n .b0)
+    (commitImages geometry first second 0 1 0 0 (deadline ∷ []) hour n .b1)
+    (commitImages geometry first second 0 1 0 0 (deadline ∷ []) hour unlimited)
     (machineOf (log first)) (ran (machineOf (log first)) (written (itemsOf hour (deadline ∷ [])) []))
 commit-example n = commit-stopped geometry first second 0 1 0 0 (deadline ∷ []) hour n false (itemsOf hour (deadline ∷ [])) 4 takes-commit
 
@@ -139,7 +140,17 @@ unfolding allBytes
 are-bytes = (refl, refl)
 
 pub compaction-example : (n : ℕ)
-    → Stopped geometry 0 1 0 0 first second (compactImages geometry first second 0 1 0 0 n .b0) (compactImages geometry first second 0 1 0 0 n .b1)
-    (compactImages geometry first second 0 1 0 0 allOnes .b0) (compactImages geometry first second 0 1 0 0 allOnes .b1) (machineOf (log first)) (machineOf (log first))
+    → Stopped geometry 0 1 first second (compactImages geometry first second 0 1 0 0 n .b0)
+    (compactImages geometry first second 0 1 0 0 n .b1) (compactImages geometry first second 0 1 0 0 unlimited)
+    (machineOf (log first)) (machineOf (log first))
 compaction-example n =
     compact-stopped geometry first second 0 1 0 0 n (bytes-of first (are-bytes .0)) (bytes-of second (are-bytes .1)) false 2 (compactionItems (log first)) 13 takes-compaction
+
+abbrev stopped : Images
+stopped = commitImages geometry first second 0 1 0 0 (deadline ∷ []) hour 10
+
+-- A restart fetches from a seed of its own, and with the block count that it knows: stopped after ten stores, the pair is
+-- found with the old end and the old deadline from the seed 7 and with two blocks.
+pub other-seed : seenBy (stopped .b0) (stopped .b1) (fetchOf geometry (stopped .b0) (stopped .b1) 0 1 2 7) ≡ old
+unfolding seenBy commitImages verdictOf commitFits pairFits geometryFits fetchOf tooHigh view rank log committed walk walkFrom walkIn classOf readBehind bodyLength tagLength tagFlipped be32 le32 toBe32 toLe32 xor crc crcByte crcBits crcBit mdirOf erasedOf stoppedStraight span eventLength tagAfter countOf counted splitOf tailOf forwardOf seedOf appended Regular regularFrom ruleOf ruleHolds countAfter judge entryBody placed roundedEnd checkSize roomClean allErased coincides fill entriesLength tagOf appending commitBytes getsliceBuffer getsliceFits recordFits searched back backs wlook splicedAt asIds
+other-seed = refl

@@ -1,34 +1,36 @@
--- Demand 3: "Stop an accepted commit or compaction after any number of its stores: fetch gives the finished directory if the finished bytes are
--- there, else the old one; only the old record's erased mark may differ." What that says is `CommitStopped` and `CompactStopped`
--- (format/specs/Stopped.antt); the calls with a limit of stores have it in their contracts. Assumes nothing.
+-- Demand 3: "Stop an accepted commit or compaction after any number of its stores: fetch gives the finished directory if
+-- the finished bytes are there, else the old one; only the old record's erased mark may differ." What that says is
+-- `CommitStopped` and `CompactStopped` (format/specs/Stopped.antt), of a fetch from every seed and with every block count
+-- that the two numbers pass; all four calls that write have it in their contracts. Assumes nothing.
 use mathlib.Core.Path.{_≡_, refl}
 use mathlib.Core.Bool.{Bool}
 use mathlib.Core.List.{List}
 use Prim.Native.Nat.{ℕ}
-use Rattle.format.specs.Word.{allOnes}
 use Rattle.format.specs.Commit.{Item}
 use Rattle.format.specs.Writer.{Verdict, refused, accepted, verdictOf, images, imagesAfter, unlimited, commitImages, commitOf}
-use Rattle.format.specs.Compaction.{CompactVerdict, compactRefused, compactAccepted, compactVerdict, compactImagesAfter, compactImages, compactOf}
+use Rattle.format.specs.Compaction.{CompactVerdict, compactRefused, compactAccepted, compactVerdict}
+use Rattle.format.specs.Compaction.{compactImagesAfter, compactImages, compactOf}
 use Rattle.format.specs.Stopped.{Bytes, CommitStopped, CompactStopped}
 use Rattle.format.specs.declared.Geometry.{Geometry}
 use Rattle.format.specs.declared.LfsMdir.{LfsMdir}
 use Rattle.format.specs.declared.Entry.{Entry}
 use Rattle.format.specs.declared.Refusal.{Refusal}
-use Rattle.format.specs.declared.Fetched.the-variants as fetched
 use Rattle.format.specs.declared.Committed.the-variants as committed
-use Rattle.theory.specs.Stopped.Commit.{stopped-commit, commit-finished}
-use Rattle.theory.specs.Stopped.Compaction.{block-bytes, stopped-compaction, compact-finished}
+use Rattle.theory.specs.Stopped.Commit.{stopped-commit, commit-refetched}
+use Rattle.theory.specs.Stopped.Compaction.{block-bytes, stopped-compaction, compact-refetched}
 
 module _ (g : Geometry) (b0 b1 : List ℕ) (n0 n1 count seed : ℕ) where
   -- ---- DEMAND 3
   -- every pair, every accepted commit, every n
   pub commit-stopped : (entries : List Entry) (dat : List ℕ) (n : ℕ)
-      → CommitStopped g n0 n1 count seed b0 b1 entries dat (commitImages g b0 b1 n0 n1 count seed entries dat n .b0) (commitImages g b0 b1 n0 n1 count seed entries dat n .b1)
+      → CommitStopped g b0 b1 n0 n1 count seed entries dat
+      (commitImages g b0 b1 n0 n1 count seed entries dat n .b0) (commitImages g b0 b1 n0 n1 count seed entries dat n .b1)
   commit-stopped = stopped-commit g b0 b1 n0 n1 count seed
 
   -- every pair of bytes, every accepted compaction, every n
   pub compact-stopped : (n : ℕ) → Bytes b0 → Bytes b1
-      → CompactStopped g n0 n1 count seed b0 b1 (compactImages g b0 b1 n0 n1 count seed n .b0) (compactImages g b0 b1 n0 n1 count seed n .b1)
+      → CompactStopped g b0 b1 n0 n1 count seed
+      (compactImages g b0 b1 n0 n1 count seed n .b0) (compactImages g b0 b1 n0 n1 count seed n .b1)
   compact-stopped = stopped-compaction g b0 b1 n0 n1 count seed
 
   -- ---- an accepted call is done
@@ -37,32 +39,42 @@ module _ (g : Geometry) (b0 b1 : List ℕ) (n0 n1 count seed : ℕ) where
       → (m : LfsMdir) × (s : ℕ) × (commitOf g b0 b1 n0 n1 count seed entries dat ≡ committed.Done m s)
   unfolding commitOf
   commit-done entries dat second is size h =
-      let f = commit-finished g b0 b1 n0 n1 count seed entries dat second is size h in
-      (f .dir, f .read, rw (h, f .fetched))
+      let f = commit-refetched g b0 b1 n0 n1 count seed entries dat second is size h in
+      (f .0, f .1, rw (h, f .2))
 
   pub compact-done : Bytes b0 → Bytes b1 → (second : Bool) (rev : ℕ) (is : List Item) (size : ℕ)
       → compactVerdict g b0 b1 n0 n1 count seed ≡ compactAccepted second rev is size
       → (m : LfsMdir) × (s : ℕ) × (compactOf g b0 b1 n0 n1 count seed ≡ committed.Done m s)
   unfolding compactOf
   compact-done y0 y1 second rev is size h =
-      let f = compact-finished g b0 b1 n0 n1 count seed second rev is size h (block-bytes second b0 b1 y0 y1) in
-      (f .dir, f .read, rw (h, f .fetched))
+      let f = compact-refetched g b0 b1 n0 n1 count seed second rev is size h (block-bytes second b0 b1 y0 y1) in
+      (f .0, f .1, rw (h, f .2))
 
   -- ---- so a refused one has altered nothing (demand 1, of the calls without a limit)
   pub commit-all-refused : (entries : List Entry) (dat : List ℕ) (r : Refusal)
-      → commitOf g b0 b1 n0 n1 count seed entries dat ≡ committed.Refused r → commitImages g b0 b1 n0 n1 count seed entries dat unlimited ≡ images b0 b1
+      → commitOf g b0 b1 n0 n1 count seed entries dat ≡ committed.Refused r
+      → commitImages g b0 b1 n0 n1 count seed entries dat unlimited ≡ images b0 b1
   unfolding commitImages
   commit-all-refused entries dat r h = go (verdictOf g b0 b1 n0 n1 count seed entries dat) refl
     where
-      go : (v : Verdict) → verdictOf g b0 b1 n0 n1 count seed entries dat ≡ v → imagesAfter unlimited b0 b1 v ≡ images b0 b1
+      go : (v : Verdict) → verdictOf g b0 b1 n0 n1 count seed entries dat ≡ v
+          → imagesAfter unlimited b0 b1 v ≡ images b0 b1
       go (refused q) e = refl
-      go (accepted w is size) e = let d = commit-done entries dat w is size e in let z : committed.Refused r ≡ committed.Done (d .0) (d .1) = cc in cc
+      go (accepted w is size) e =
+          let d = commit-done entries dat w is size e in
+          let z : committed.Refused r ≡ committed.Done (d .0) (d .1) = cc in
+          cc
 
   pub compact-all-refused : Bytes b0 → Bytes b1 → (r : Refusal)
-      → compactOf g b0 b1 n0 n1 count seed ≡ committed.Refused r → compactImages g b0 b1 n0 n1 count seed allOnes ≡ images b0 b1
+      → compactOf g b0 b1 n0 n1 count seed ≡ committed.Refused r
+      → compactImages g b0 b1 n0 n1 count seed unlimited ≡ images b0 b1
   unfolding compactImages
   compact-all-refused y0 y1 r h = go (compactVerdict g b0 b1 n0 n1 count seed) refl
     where
-      go : (v : CompactVerdict) → compactVerdict g b0 b1 n0 n1 count seed ≡ v → compactImagesAfter allOnes b0 b1 v ≡ images b0 b1
+      go : (v : CompactVerdict) → compactVerdict g b0 b1 n0 n1 count seed ≡ v
+          → compactImagesAfter unlimited b0 b1 v ≡ images b0 b1
       go (compactRefused q) e = refl
-      go (compactAccepted w rev is size) e = let d = compact-done y0 y1 w rev is size e in let z : committed.Refused r ≡ committed.Done (d .0) (d .1) = cc in cc
+      go (compactAccepted w rev is size) e =
+          let d = compact-done y0 y1 w rev is size e in
+          let z : committed.Refused r ≡ committed.Done (d .0) (d .1) = cc in
+          cc

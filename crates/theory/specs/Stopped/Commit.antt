@@ -34,7 +34,7 @@ use Rattle.theory.specs.Commit.AcceptedVerdict.{past, found-then, Append
 use Rattle.format.specs.Machine.{Machine, machineOf, ran}
 use Rattle.format.specs.Stopped.{Shows, ReadsAs, CommitStopped}
 use Rattle.theory.specs.Fetch.Places.{same-place, both-blocks, lengths, few-slots, block-length}
-use Rattle.theory.specs.Stopped.Shown.{shows}
+use Rattle.theory.specs.Stopped.Shown.{found-tested, shows}
 use Rattle.theory.specs.Stopped.ReadsAsBefore.{reads-as, refound, refound-place}
 use Rattle.theory.specs.Commit.MachineAfter.{commit-ran}
 
@@ -155,6 +155,12 @@ module _ (g : Geometry) (b0 b1 : List ℕ) (n0 n1 count seed : ℕ) (entries : L
       let e : machineOf (log (blockAt w (f .b0) (f .b1))) ≡ ran (machineOf (log x)) (written (itemsOf dat entries) [])
       = ap machineOf finished-log ∙ commit-ran (log x) allOnes (logEndTag (log x)) is (checkTag size) ∙ ap (λ (l : List Item). ran (machineOf (log x)) (written l [])) (appends .items) in
       subst (λ (M : Machine). Shows g n0 n1 (f .b0) (f .b1) M) e s
+
+  -- the call's own fetch of it
+  pub commit-refetched : (m : LfsMdir) × (s : ℕ) × (fetchOf g (f .b0) (f .b1) n0 n1 count seed ≡ fetched.Found m s)
+  commit-refetched =
+      let low = found-tested g b0 b1 n0 n1 count seed (commit-found .0) (commit-found .1) (commit-found .2) .low in
+      (commit-finished .dir, commit-finished .read seed, commit-finished .fetched count seed low)
 
   pub commit-before : Shows g n0 n1 b0 b1 (machineOf (log x))
   commit-before = shows g b0 b1 n0 n1 count seed (commit-found .0) (commit-found .1) (commit-found .2) w place (takes .regular)

@@ -17,7 +17,7 @@ use Rattle.format.specs.Regular.{Regular}
 use Rattle.format.specs.Directory.{dirOf}
 use Rattle.format.specs.Commit.{Item, checkTag}
 use Rattle.format.specs.Stores.{erased, fill, compactBytes, compacted, compacting}
-use Rattle.format.specs.Writer.{checkLength, blockAt, isSecond, Images}
+use Rattle.format.specs.Writer.{checkLength, blockAt, isSecond, Images, unlimited}
 use Rattle.format.specs.Compaction.{compactAccepted, compactCheckAt, compactStores, compactedTo, compactVerdict, compactImages}
 use Rattle.format.specs.declared.Geometry.{Geometry}
 use Rattle.format.specs.declared.LfsMdir.{LfsMdir}
@@ -33,7 +33,7 @@ use Rattle.theory.specs.Fetch.FoundBlock.{found-sized}
 use Rattle.theory.specs.Compact.AcceptedVerdict.{found-then, behindOf, CompactsTo, accepted-compaction, compaction-written, compaction-length, compaction-stopped, compaction-keeps}
 use Rattle.format.specs.Machine.{Machine, machineOf}
 use Rattle.format.specs.Stopped.{Bytes, Shows, ReadsAs, CompactStopped}
-use Rattle.theory.specs.Stopped.Shown.{shows}
+use Rattle.theory.specs.Stopped.Shown.{found-tested, shows}
 use Rattle.theory.specs.Stopped.ReadsAsBefore.{reads-as, refound, refound-place}
 use Rattle.theory.specs.Fetch.Places.{same-place, both-blocks, lengths, few-slots, block-length}
 
@@ -163,6 +163,12 @@ module _ (g : Geometry) (b0 b1 : List ℕ) (n0 n1 count seed : ℕ) (w : Bool) (
       let p = refound-place g n0 n1 count seed b0 b1 (f .b0) (f .b1) (L .0) (L .1) (compact-found .0) (compact-found .1) (compact-found .2) rev finishedLog (not w) in
       let s = shows g (f .b0) (f .b1) n0 n1 count seed _ _ k (not w) p (rw finished-log regular-finished) in
       subst (λ (M : Machine). Shows g n0 n1 (f .b0) (f .b1) M) (ap machineOf finished-log ∙ same-machine) s
+
+  -- the call's own fetch of it
+  pub compact-refetched : (m : LfsMdir) × (s : ℕ) × (fetchOf g (f .b0) (f .b1) n0 n1 count seed ≡ fetched.Found m s)
+  compact-refetched =
+      let low = found-tested g b0 b1 n0 n1 count seed (compact-found .0) (compact-found .1) (compact-found .2) .low in
+      (compact-finished .dir, compact-finished .read seed, compact-finished .fetched count seed low)
 
   pub compact-before : Shows g n0 n1 b0 b1 (machineOf (log x))
   compact-before = shows g b0 b1 n0 n1 count seed (compact-found .0) (compact-found .1) (compact-found .2) w place (compacts .compacts .regular)
