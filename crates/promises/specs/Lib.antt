@@ -7,6 +7,7 @@ pub mod Writes
 pub mod Exactly
 pub mod Accepted
 pub mod Decided
+pub mod Possible
 pub mod Numbers
 -- The directory machine, and demand 3.
 pub mod Directory
