@@ -8,6 +8,8 @@ pub mod Exactly
 pub mod Accepted
 pub mod Decided
 pub mod Possible
+pub mod PossibleLookups
+pub mod PossibleWrites
 pub mod Numbers
 -- The directory machine, and demand 3.
 pub mod Directory
