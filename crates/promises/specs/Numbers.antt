@@ -87,7 +87,7 @@ wordFrom number v = answerFrom (word.Is v) word.Refused NoEntry number 0
 abbrev pub committedFrom : ℤ → LfsMdir → ℕ → ℕ → Committed
 committedFrom number m s index = answerFrom (committed.Done m s) committed.Refused (TooMany m s) number index
 
--- with no record: not for -2
+-- -2 comes without a record: the exception
 abbrev pub storedFrom : ℤ → ℕ → ℕ → Stored
 storedFrom number made index = answerFrom (stored.Made made) stored.Refused (TooMany zeroMdir 0) number index
 
@@ -120,7 +120,7 @@ module _ {A : Type 0} (done : A) (refuse : Refusal → A) where
     commit-back known commit203 = refl
     commit-back known commit204 = refl
 
--- ---- kinds of call with fewer refusals than `lfs_dir_getslice`, or than a commit
+-- ---- the refusals of other calls are among those of `lfs_dir_getslice`, or among those of commit
 abbrev pub Within : (Refusal → Type 0) → (Refusal → Type 0) → Type 0
 Within R S = (r : Refusal) → R r → S r
 
@@ -186,7 +186,7 @@ abbrev pub CommittedTold : ℕ → Committed → Type 0
 CommittedTold seed f =
     committedFrom (committedResult f) (committedMdir f) (committedSeed seed f) (committedIndex f) ≡ f
 
--- the exception: of -2 the record and the seed are not among the values
+-- the exception is left out
 abbrev pub StoredTold : Stored → Type 0
 StoredTold f = storedResult f ≢ negℤ (pos 2) → storedFrom (storedResult f) (storedMade f) (storedIndex f) ≡ f
 

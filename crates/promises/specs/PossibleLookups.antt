@@ -10,8 +10,6 @@ use lib.ListN.{length, take}
 use lib.Dec.{eqb, ltb, leb}
 use borrow.Author.Tests.{leb-true, le-leb, eqb-true, eqb-false}
 use Rattle.format.specs.Word.{minus32}
-use Rattle.format.specs.Bytes.{inside}
-use Rattle.format.specs.View.{at}
 use Rattle.format.specs.Pair.{pairSync}
 use Rattle.format.specs.Fetch.{geometryFits, pairFits}
 use Rattle.format.specs.Tag.{tagId, tagSize, tagLength}
@@ -35,7 +33,7 @@ use Rattle.theory.specs.Lookup.AtStart.{FoundIn, back-in, wlook-in}
 use Rattle.promises.specs.Possible.{SliceRefuses, slice22, slice84, slice2, GetRefuses, get22, get2}
 use Rattle.promises.specs.Possible.{GstateRefuses, gstate22, GotOr, AlteredOr, behind, through}
 
--- ---- lookups
+-- ---- what was found is read
 slice-possible : (b : List ℕ) (offset size : ℕ) (f : Found) → GotOr SliceRefuses (sliceAnswer b offset size f)
 slice-possible b offset size noEntry = slice2
 slice-possible b offset size (found t off diff) =
@@ -56,6 +54,7 @@ move-possible : (b : List ℕ) (f : Found) → FoundIn (length b) f → AlteredO
 move-possible b noEntry h = tt
 move-possible b (found t off diff) h = rw (start-fits b 12 t off diff h) tt
 
+-- an info is refused as the first of its two lookups that is
 abbrev Informs : Informed → Type 0
 Informs i = AlteredOr GetRefuses (i .answer)
 
@@ -72,6 +71,7 @@ info-possible b nameMax name struct h k =
     (readBuffer b (nameMax + 1) name) (readBuffer b 8 struct)
     (start-possible b (nameMax + 1) name h) (start-possible b 8 struct k)
 
+-- ---- the four calls
 module _ (g : Geometry) (b0 b1 : List ℕ) (n0 n1 : ℕ) (dir : LfsMdir) (gdisk : LfsGstate) where
   abbrev fits : Bool
   fits = recordFits g (length b0) (length b1) n0 n1 dir

@@ -31,7 +31,7 @@ use Rattle.promises.specs.Possible.{commit203, commit204}
 use Rattle.promises.specs.Possible.{CompactRefuses, compactFetch, compact202, compact28, compact204}
 use Rattle.promises.specs.Possible.{CommittedOr, StoredOr, through, Fetches, fetch-possible}
 
--- ---- commit
+-- ---- commit: a verdict that is no refusal, or one of these
 abbrev Commits : Verdict → Type 0
 Commits (refused r) = CommitRefuses r
 Commits (accepted second is size) = Unit {0}
@@ -61,6 +61,7 @@ fetched-then : (f : Fetched) (on : LfsMdir → Verdict) → Fetches f → ((m : 
 fetched-then (fetched.Found m s) on h k = k m
 fetched-then (fetched.Refused r) on h k = commitFetch h
 
+-- an accepted call answers as fetch does on the finished pair
 verdict-answer : (f : Fetched) (v : Verdict) → Fetches f → Commits v → CommittedOr CommitRefuses (answerOf f v)
 verdict-answer f (refused r) h k = k
 verdict-answer (fetched.Found m s) (accepted second is size) h k = tt
@@ -70,7 +71,7 @@ verdict-made : (n : ℕ) (v : Verdict) → Commits v → StoredOr CommitRefuses 
 verdict-made n (refused r) h = h
 verdict-made n (accepted second is size) h = tt
 
--- ---- compaction
+-- ---- compaction, the same
 abbrev Compacts : CompactVerdict → Type 0
 Compacts (compactRefused r) = CompactRefuses r
 Compacts (compactAccepted second rev is size) = Unit {0}
