@@ -13,7 +13,6 @@ use Rattle.format.specs.Bytes.{inside, le32At, be32At, putAnswer}
 use Rattle.format.specs.Record.{seedOf}
 use Rattle.format.specs.View.{View, none, at, view}
 use Rattle.format.specs.Fetch.{pairFits, tooHigh, mdirOf, fewEnough, viewed, fetchOf}
-use Rattle.format.specs.Writer.{refused}
 use Rattle.format.specs.declared.Geometry.{Geometry}
 use Rattle.format.specs.declared.LfsMdir.{LfsMdir}
 use Rattle.format.specs.declared.Refusal.{Refusal}
