@@ -3,10 +3,14 @@
 -- Demand 1: a refused call alters nothing. (Of the calls that write without a limit: Stopped.)
 pub mod Refused
 pub mod Writes
--- Demand 2: when each call refuses or accepts, and that each contract decides.
+-- Demand 2: when each call refuses or accepts; that each contract decides; which refusals each call can give; and that
+-- an answer's number and values determine it.
 pub mod Exactly
 pub mod Accepted
 pub mod Decided
+pub mod Possible
+pub mod PossibleLookups
+pub mod PossibleWrites
 pub mod Numbers
 -- The directory machine, and demand 3.
 pub mod Directory

@@ -1,37 +1,31 @@
--- Demand 2: "Each answer's number and values determine the answer." For each kind of answer a function gives it back from document 01's number and
--- the values that come with it (format/specs/Answer.antt), for all answers that the calls can give. So two of them with equal number and values are
--- equal. One exception: -2 from a call with a limit of stores comes without the record and the seed. Assumes nothing.
-use mathlib.Core.Path.{_≡_, refl}
-use mathlib.Core.Bool.{Bool, true, false, not, cond, _||_}
+-- Demand 2: "Each answer's number and values determine the answer." For each type of answer a function gives it back
+-- from document 01's number and the values that come with it (format/specs/Answer.antt), whatever refusal the call can
+-- give (Possible). So two answers of a call with equal number and values are equal. One exception: -2 from a call with
+-- a limit of stores comes without the record and the seed. Assumes nothing.
+use mathlib.Core.Path.{_≡_, refl, ap}
+use mathlib.Core.Logic.{_≢_}
+use mathlib.Core.Bool.{cond}
 use mathlib.Core.List.{List}
 use Prim.Native.Nat.{ℕ, suc}
-use lib.ListN.{length, take}
-use lib.Dec.{eqb, ltb, leb}
-use lib.IntN.{ℤ, pos, negsuc}
-use Rattle.format.specs.Walk.{Event}
-use Rattle.format.specs.Record.{countOf, seedOf}
-use Rattle.format.specs.View.{View, none, at, view}
-use Rattle.format.specs.Fetch.{pairFits, tooHigh, mdirOf, fewEnough, viewed, fetchOf}
-use Rattle.format.specs.Look.{Found, noEntry, found}
-use Rattle.format.specs.Bytes.{inside, putAnswer}
-use Rattle.format.specs.Lookup.{recordFits, moveMask, moveKey, moveAnswer, getgstateOf, blockOf, searched, sliceAnswer, sliceEnd, getsliceFits, getsliceOf, getFits, getOf}
-use Rattle.format.specs.Tag.{tagSize}
-use Rattle.format.specs.Word.{le32, toLe32, allOnes, plus32}
-use Rattle.format.specs.Crc.{crc}
-use Rattle.format.specs.Regular.{Regular}
-use Rattle.format.specs.Commit.{Item, checkTag}
-use Rattle.format.specs.Stores.{coincides}
-use Rattle.format.specs.Entries.{itemsOf, Judged, bad, good, judge}
-use Rattle.format.specs.Log.{log, logEnd, logEndTag}
-use Rattle.format.specs.Writer.{roundedEnd, checkSize, checkAt, commitFits, roomClean, blockAt, isSecond, Verdict, refused, accepted, placed, appended, judgedBy, fetchedThen, verdictOf, Images, unlimited, committedAs, answerOf, commitImages, commitOf}
-use Rattle.format.specs.Compaction.{compactionItems, CompactVerdict, compactRefused, compactAccepted, compactCheckAt, placedAnew, compactable, compactFetched, compactVerdict, compactAnswer, compactImages, compactOf}
-use Rattle.format.specs.Answer.{fetchedResult, fetchedMdir, fetchedSeed, gotResult, gotTag, alteredResult, wordResult, wordValue, committedResult, committedMdir, committedSeed, committedIndex, storedResult, storedMade, storedIndex}
+use lib.Dec.{eqb}
+use lib.IntN.{ℤ, pos, negsuc, negℤ}
+use Rattle.format.specs.Arith.{alignDown, alignUp}
+use Rattle.format.specs.Bytes.{le32At, be32At, putAnswer}
+use Rattle.format.specs.Fetch.{fetchOf}
+use Rattle.format.specs.Lookup.{getsliceOf, getOf, getinfoOf, getgstateOf}
+use Rattle.format.specs.Writer.{commitOf, commitStoresOf}
+use Rattle.format.specs.Compaction.{compactOf, compactStoresOf}
+use Rattle.format.specs.Answer.{zeroMdir, refusalNumber, refusalMdir, refusalSeed, refusalIndex, wordResult, wordValue}
+use Rattle.format.specs.Answer.{alteredResult, fetchedResult, fetchedMdir, fetchedSeed, gotResult, gotTag}
+use Rattle.format.specs.Answer.{committedResult, committedMdir, committedSeed, committedIndex}
+use Rattle.format.specs.Answer.{storedResult, storedMade, storedIndex}
 use Rattle.format.specs.declared.Geometry.{Geometry}
 use Rattle.format.specs.declared.Entry.{Entry}
 use Rattle.format.specs.declared.LfsMdir.{LfsMdir}
 use Rattle.format.specs.declared.LfsGstate.{LfsGstate}
 use Rattle.format.specs.declared.Refusal.{Refusal}
-use Rattle.format.specs.declared.Refusal.the-variants.{Invalid, Corrupt, NoEntry, TooMany, BadEntry, Irregular, NoSpace, Unclean, Coincidence}
+use Rattle.format.specs.declared.Refusal.the-variants.{Invalid, Corrupt, NoEntry, TooMany}
+use Rattle.format.specs.declared.Refusal.the-variants.{BadEntry, Irregular, NoSpace, Unclean, Coincidence}
 use Rattle.format.specs.declared.Fetched.{Fetched}
 use Rattle.format.specs.declared.Fetched.the-variants as fetched
 use Rattle.format.specs.declared.Got.{Got}
@@ -45,43 +39,17 @@ use Rattle.format.specs.declared.Committed.{Committed}
 use Rattle.format.specs.declared.Committed.the-variants as committed
 use Rattle.format.specs.declared.Stored.{Stored}
 use Rattle.format.specs.declared.Stored.the-variants as stored
-
--- ---- which refusals each kind of call can give
--- "Fetch tests -22, -84, -2."
-abbrev pub ofFetch : Refusal → Bool
-ofFetch Invalid = true
-ofFetch Corrupt = true
-ofFetch (TooMany m s) = true
-ofFetch NoEntry = false
-ofFetch (BadEntry i) = false
-ofFetch Irregular = false
-ofFetch NoSpace = false
-ofFetch Unclean = false
-ofFetch Coincidence = false
-
--- a lookup: -22, -84, and -2 for "no entry"
-abbrev pub ofLookup : Refusal → Bool
-ofLookup Invalid = true
-ofLookup Corrupt = true
-ofLookup NoEntry = true
-ofLookup (TooMany m s) = false
-ofLookup (BadEntry i) = false
-ofLookup Irregular = false
-ofLookup NoSpace = false
-ofLookup Unclean = false
-ofLookup Coincidence = false
-
--- "Commit: -22, fetch's own refusals, -202, -201, -28, -203, -204."
-abbrev pub ofWriting : Refusal → Bool
-ofWriting Invalid = true
-ofWriting Corrupt = true
-ofWriting (TooMany m s) = true
-ofWriting (BadEntry i) = true
-ofWriting Irregular = true
-ofWriting NoSpace = true
-ofWriting Unclean = true
-ofWriting Coincidence = true
-ofWriting NoEntry = false
+use Rattle.promises.specs.Possible.{FetchRefuses, fetch22, fetch84, fetch2, SliceRefuses, slice22, slice84}
+use Rattle.promises.specs.Possible.{slice2, GetRefuses, get22, get2, GstateRefuses, gstate22, WordRefuses, word84}
+use Rattle.promises.specs.Possible.{AlignRefuses, align22, CommitRefuses, commit22, commitFetch, commit202}
+use Rattle.promises.specs.Possible.{commit201, commit28, commit203, commit204}
+use Rattle.promises.specs.Possible.{CompactRefuses, compactFetch, compact202, compact28, compact204}
+use Rattle.promises.specs.Possible.{FetchedOr, GotOr, AlteredOr, WordOr, CommittedOr, StoredOr}
+use Rattle.promises.specs.Possible.{le32-possible, be32-possible, put-possible}
+use Rattle.promises.specs.Possible.{aligndown-possible, alignup-possible, fetch-possible}
+use Rattle.promises.specs.PossibleLookups.{getslice-possible, get-possible, getinfo-possible, getgstate-possible}
+use Rattle.promises.specs.PossibleWrites.{commit-possible, commit-stores-possible}
+use Rattle.promises.specs.PossibleWrites.{compact-possible, compact-stores-possible}
 
 -- ---- the answer back from its number and values
 -- a number below zero, without its sign
@@ -89,7 +57,7 @@ abbrev below : ℤ → ℕ
 below (pos n) = 0
 below (negsuc n) = suc n
 
--- which refusal a number is, -2 apart: `two` is what it means
+-- which refusal a number is: `two` is what -2 means, `index` comes with -201
 abbrev pub refusalFrom : Refusal → ℤ → ℕ → Refusal
 refusalFrom two number index =
     cond (eqb (below number) 22) Invalid
@@ -100,315 +68,191 @@ refusalFrom two number index =
     (cond (eqb (below number) 28) NoSpace
     (cond (eqb (below number) 203) Unclean Coincidence))))))
 
-abbrev accepts : ℤ → Bool
-accepts number = eqb (below number) 0
+-- 0 is no refusal
+abbrev pub answerFrom : {A : Type 0} → A → (Refusal → A) → Refusal → ℤ → ℕ → A
+answerFrom done refuse two number index = cond (eqb (below number) 0) done (refuse (refusalFrom two number index))
 
 abbrev pub fetchedFrom : ℤ → LfsMdir → ℕ → Fetched
-fetchedFrom number m s = cond (accepts number) (fetched.Found m s) (fetched.Refused (refusalFrom (TooMany m s) number 0))
+fetchedFrom number m s = answerFrom (fetched.Found m s) fetched.Refused (TooMany m s) number 0
 
 abbrev pub gotFrom : ℤ → ℕ → Got
-gotFrom number tag = cond (accepts number) (got.Found tag) (got.Refused (refusalFrom NoEntry number 0))
+gotFrom number tag = answerFrom (got.Found tag) got.Refused NoEntry number 0
 
-abbrev pub committedFrom : ℤ → LfsMdir → ℕ → ℕ → Committed
-committedFrom number m s index = cond (accepts number) (committed.Done m s) (committed.Refused (refusalFrom (TooMany m s) number index))
-
-abbrev pub storedFrom : Refusal → ℤ → ℕ → ℕ → Stored
-storedFrom two number made index = cond (accepts number) (stored.Made made) (stored.Refused (refusalFrom two number index))
-
--- which answers are possible
-abbrev pub fetchedPossible : Fetched → Bool
-fetchedPossible (fetched.Found m s) = true
-fetchedPossible (fetched.Refused r) = ofFetch r
-
-abbrev pub gotPossible : Got → Bool
-gotPossible (got.Found t) = true
-gotPossible (got.Refused r) = ofLookup r
-
-abbrev pub committedPossible : Committed → Bool
-committedPossible (committed.Done m s) = true
-committedPossible (committed.Refused r) = ofWriting r
-
--- THE LAWS
-pub fetched-determined : (seed : ℕ) (f : Fetched) → fetchedPossible f ≡ true → fetchedFrom (fetchedResult f) (fetchedMdir f) (fetchedSeed seed f) ≡ f
-fetched-determined seed (fetched.Found m s) h = refl
-fetched-determined seed (fetched.Refused Invalid) h = refl
-fetched-determined seed (fetched.Refused Corrupt) h = refl
-fetched-determined seed (fetched.Refused (TooMany m s)) h = refl
-fetched-determined seed (fetched.Refused NoEntry) h = cc
-fetched-determined seed (fetched.Refused (BadEntry i)) h = cc
-fetched-determined seed (fetched.Refused Irregular) h = cc
-fetched-determined seed (fetched.Refused NoSpace) h = cc
-fetched-determined seed (fetched.Refused Unclean) h = cc
-fetched-determined seed (fetched.Refused Coincidence) h = cc
-
-pub got-determined : (f : Got) → gotPossible f ≡ true → gotFrom (gotResult f) (gotTag f) ≡ f
-got-determined (got.Found t) h = refl
-got-determined (got.Refused Invalid) h = refl
-got-determined (got.Refused Corrupt) h = refl
-got-determined (got.Refused NoEntry) h = refl
-got-determined (got.Refused (TooMany m s)) h = cc
-got-determined (got.Refused (BadEntry i)) h = cc
-got-determined (got.Refused Irregular) h = cc
-got-determined (got.Refused NoSpace) h = cc
-got-determined (got.Refused Unclean) h = cc
-got-determined (got.Refused Coincidence) h = cc
-
-pub committed-determined : (seed : ℕ) (f : Committed) → committedPossible f ≡ true
-    → committedFrom (committedResult f) (committedMdir f) (committedSeed seed f) (committedIndex f) ≡ f
-committed-determined seed (committed.Done m s) h = refl
-committed-determined seed (committed.Refused Invalid) h = refl
-committed-determined seed (committed.Refused Corrupt) h = refl
-committed-determined seed (committed.Refused (TooMany m s)) h = refl
-committed-determined seed (committed.Refused (BadEntry i)) h = refl
-committed-determined seed (committed.Refused Irregular) h = refl
-committed-determined seed (committed.Refused NoSpace) h = refl
-committed-determined seed (committed.Refused Unclean) h = refl
-committed-determined seed (committed.Refused Coincidence) h = refl
-committed-determined seed (committed.Refused NoEntry) h = cc
-
--- the exception: of -2 the record is not among the values
-abbrev pub storedPossible : Stored → Bool
-storedPossible (stored.Made n) = true
-storedPossible (stored.Refused (TooMany m s)) = false
-storedPossible (stored.Refused Invalid) = true
-storedPossible (stored.Refused Corrupt) = true
-storedPossible (stored.Refused (BadEntry i)) = true
-storedPossible (stored.Refused Irregular) = true
-storedPossible (stored.Refused NoSpace) = true
-storedPossible (stored.Refused Unclean) = true
-storedPossible (stored.Refused Coincidence) = true
-storedPossible (stored.Refused NoEntry) = false
-
-pub stored-determined : (two : Refusal) (f : Stored) → storedPossible f ≡ true → storedFrom two (storedResult f) (storedMade f) (storedIndex f) ≡ f
-stored-determined two (stored.Made n) h = refl
-stored-determined two (stored.Refused (TooMany m s)) h = cc
-stored-determined two (stored.Refused Invalid) h = refl
-stored-determined two (stored.Refused Corrupt) h = refl
-stored-determined two (stored.Refused (BadEntry i)) h = refl
-stored-determined two (stored.Refused Irregular) h = refl
-stored-determined two (stored.Refused NoSpace) h = refl
-stored-determined two (stored.Refused Unclean) h = refl
-stored-determined two (stored.Refused Coincidence) h = refl
-stored-determined two (stored.Refused NoEntry) h = cc
-
--- ---- an altered buffer or state, a word that was read, an info: -22, -84 and, of an info, -2 for "no entry"
 abbrev pub alteredFrom : ℤ → Altered
-alteredFrom number = cond (accepts number) altered.Done (altered.Refused (refusalFrom NoEntry number 0))
-
-abbrev pub alteredPossible : Altered → Bool
-alteredPossible altered.Done = true
-alteredPossible (altered.Refused r) = ofLookup r
-
-pub altered-determined : (f : Altered) → alteredPossible f ≡ true → alteredFrom (alteredResult f) ≡ f
-altered-determined altered.Done h = refl
-altered-determined (altered.Refused Invalid) h = refl
-altered-determined (altered.Refused Corrupt) h = refl
-altered-determined (altered.Refused NoEntry) h = refl
-altered-determined (altered.Refused (TooMany m s)) h = cc
-altered-determined (altered.Refused (BadEntry i)) h = cc
-altered-determined (altered.Refused Irregular) h = cc
-altered-determined (altered.Refused NoSpace) h = cc
-altered-determined (altered.Refused Unclean) h = cc
-altered-determined (altered.Refused Coincidence) h = cc
+alteredFrom number = answerFrom altered.Done altered.Refused NoEntry number 0
 
 abbrev pub wordFrom : ℤ → ℕ → Word
-wordFrom number v = cond (accepts number) (word.Is v) (word.Refused (refusalFrom NoEntry number 0))
+wordFrom number v = answerFrom (word.Is v) word.Refused NoEntry number 0
 
-abbrev pub wordPossible : Word → Bool
-wordPossible (word.Is v) = true
-wordPossible (word.Refused r) = ofLookup r
+abbrev pub committedFrom : ℤ → LfsMdir → ℕ → ℕ → Committed
+committedFrom number m s index = answerFrom (committed.Done m s) committed.Refused (TooMany m s) number index
 
-pub word-determined : (f : Word) → wordPossible f ≡ true → wordFrom (wordResult f) (wordValue f) ≡ f
-word-determined (word.Is v) h = refl
-word-determined (word.Refused Invalid) h = refl
-word-determined (word.Refused Corrupt) h = refl
-word-determined (word.Refused NoEntry) h = refl
-word-determined (word.Refused (TooMany m s)) h = cc
-word-determined (word.Refused (BadEntry i)) h = cc
-word-determined (word.Refused Irregular) h = cc
-word-determined (word.Refused NoSpace) h = cc
-word-determined (word.Refused Unclean) h = cc
-word-determined (word.Refused Coincidence) h = cc
+-- -2 comes without a record: the exception
+abbrev pub storedFrom : ℤ → ℕ → ℕ → Stored
+storedFrom number made index = answerFrom (stored.Made made) stored.Refused (TooMany zeroMdir 0) number index
+
+-- ---- a refusal of each kind of call comes back
+module _ {A : Type 0} (done : A) (refuse : Refusal → A) where
+  -- with no values: -2 means "no entry"
+  plain-back : {r : Refusal} → SliceRefuses r → answerFrom done refuse NoEntry (refusalNumber r) 0 ≡ refuse r
+  plain-back slice22 = refl
+  plain-back slice84 = refl
+  plain-back slice2 = refl
+
+  -- of a call that fetches: -2 means a count above 1,023, and `two` has the record and the seed as read
+  module _ (two : Refusal) (seed : ℕ) where
+    abbrev Known : Refusal → Type 0
+    Known r = refusalNumber r ≡ negℤ (pos 2) → two ≡ TooMany (refusalMdir r) (refusalSeed seed r)
+
+    fetch-back : {r : Refusal} (index : ℕ) → Known r → FetchRefuses r
+        → answerFrom done refuse two (refusalNumber r) index ≡ refuse r
+    fetch-back index known fetch22 = refl
+    fetch-back index known fetch84 = refl
+    fetch-back index known fetch2 = ap refuse (known refl)
+
+    commit-back : {r : Refusal} → Known r → CommitRefuses r
+        → answerFrom done refuse two (refusalNumber r) (refusalIndex r) ≡ refuse r
+    commit-back known commit22 = refl
+    commit-back {r} known (commitFetch h) = fetch-back (refusalIndex r) known h
+    commit-back known commit202 = refl
+    commit-back known commit201 = refl
+    commit-back known commit28 = refl
+    commit-back known commit203 = refl
+    commit-back known commit204 = refl
+
+-- ---- the refusals of other calls are among those of `lfs_dir_getslice`, or among those of commit
+abbrev pub Within : (Refusal → Type 0) → (Refusal → Type 0) → Type 0
+Within R S = (r : Refusal) → R r → S r
+
+get-plain : Within GetRefuses SliceRefuses
+get-plain Invalid get22 = slice22
+get-plain NoEntry get2 = slice2
+
+gstate-plain : Within GstateRefuses SliceRefuses
+gstate-plain Invalid gstate22 = slice22
+
+word-plain : Within WordRefuses SliceRefuses
+word-plain Corrupt word84 = slice84
+
+align-plain : Within AlignRefuses SliceRefuses
+align-plain Invalid align22 = slice22
+
+compact-written : Within CompactRefuses CommitRefuses
+compact-written r (compactFetch h) = commitFetch h
+compact-written Irregular compact202 = commit202
+compact-written NoSpace compact28 = commit28
+compact-written Coincidence compact204 = commit204
+
+-- ---- the laws, by the type of the answer: the number and the values give it back
+abbrev pub FetchedTold : ℕ → Fetched → Type 0
+FetchedTold seed f = fetchedFrom (fetchedResult f) (fetchedMdir f) (fetchedSeed seed f) ≡ f
+
+pub fetched-determined : (seed : ℕ) (f : Fetched) → FetchedOr FetchRefuses f → FetchedTold seed f
+fetched-determined seed (fetched.Found m s) h = refl
+fetched-determined seed (fetched.Refused r) h =
+    fetch-back (fetched.Found (refusalMdir r) (refusalSeed seed r)) fetched.Refused
+    (TooMany (refusalMdir r) (refusalSeed seed r)) seed 0 (λ e. refl) h
+
+abbrev pub GotTold : Got → Type 0
+GotTold f = gotFrom (gotResult f) (gotTag f) ≡ f
+
+abbrev pub WordTold : Word → Type 0
+WordTold f = wordFrom (wordResult f) (wordValue f) ≡ f
+
+abbrev pub AlteredTold : Altered → Type 0
+AlteredTold f = alteredFrom (alteredResult f) ≡ f
 
 -- an info comes with all its fields, so only its answer is to be told from a number
-pub informed-determined : (f : Informed) → alteredPossible (f .answer) ≡ true → _≡_ {A = Informed} (record { answer = alteredFrom (alteredResult (f .answer)); info = f .info }) f
-informed-determined f h = rw (altered-determined (f .answer) h)
+abbrev pub InformedTold : Informed → Type 0
+InformedTold f = _≡_ {A = Informed} (record { answer = alteredFrom (alteredResult (f .answer)); info = f .info }) f
 
--- ---- and the calls give no other answers
-few-possible : (m : LfsMdir) (s : ℕ) → fetchedPossible (fewEnough m s) ≡ true
-few-possible m s = go (ltb 1_023 (m .count))
-  where
-    go : (b : Bool) → fetchedPossible (cond b (fetched.Refused (TooMany m s)) (fetched.Found m s)) ≡ true
-    go true = refl
-    go false = refl
+module _ (R : Refusal → Type 0) (plain : Within R SliceRefuses) where
+  pub got-determined : (f : Got) → GotOr R f → GotTold f
+  got-determined (got.Found t) h = refl
+  got-determined (got.Refused r) h = plain-back (got.Found 0) got.Refused (plain r h)
 
-viewed-possible : (prog n0 n1 : ℕ) (b0 b1 : List ℕ) (seed : ℕ) (v : View) → fetchedPossible (viewed prog n0 n1 b0 b1 seed v) ≡ true
-viewed-possible prog n0 n1 b0 b1 seed none = refl
-viewed-possible prog n0 n1 b0 b1 seed (at false rev es) = few-possible (mdirOf prog n0 n1 b0 rev es) (seedOf seed es)
-viewed-possible prog n0 n1 b0 b1 seed (at true rev es) = few-possible (mdirOf prog n1 n0 b1 rev es) (seedOf seed es)
+  pub word-determined : (f : Word) → WordOr R f → WordTold f
+  word-determined (word.Is v) h = refl
+  word-determined (word.Refused r) h = plain-back (word.Is 0) word.Refused (plain r h)
 
-pub fetch-possible : (g : Geometry) (b0 b1 : List ℕ) (n0 n1 count seed : ℕ) → fetchedPossible (fetchOf g b0 b1 n0 n1 count seed) ≡ true
-unfolding fetchOf
-fetch-possible g b0 b1 n0 n1 count seed =
-    go (not (pairFits g (length b0) (length b1) n0 n1)) (tooHigh count n0 || tooHigh count n1) (viewed (g .«prog_size») n0 n1 b0 b1 seed (view b0 b1))
-    (viewed-possible (g .«prog_size») n0 n1 b0 b1 seed (view b0 b1))
-  where
-    go : (p q : Bool) (f : Fetched) → fetchedPossible f ≡ true → fetchedPossible (cond p (fetched.Refused Invalid) (cond q (fetched.Refused Corrupt) f)) ≡ true
-    go true q f h = refl
-    go false true f h = refl
-    go false false f h = h
+  pub altered-determined : (f : Altered) → AlteredOr R f → AlteredTold f
+  altered-determined altered.Done h = refl
+  altered-determined (altered.Refused r) h = plain-back altered.Done altered.Refused (plain r h)
 
-behind-test : (p : Bool) (f : Got) → gotPossible f ≡ true → gotPossible (cond p f (got.Refused Invalid)) ≡ true
-behind-test true f h = h
-behind-test false f h = refl
+  pub informed-determined : (f : Informed) → AlteredOr R (f .answer) → InformedTold f
+  informed-determined f h = rw (altered-determined (f .answer) h)
 
-slice-possible : (b : List ℕ) (offset size : ℕ) (f : Found) → gotPossible (sliceAnswer b offset size f) ≡ true
-slice-possible b offset size noEntry = refl
-slice-possible b offset size (found t tagOff diff) = go (leb (sliceEnd t tagOff offset size) (length b))
-  where
-    go : (p : Bool) → gotPossible (cond p (got.Found (plus32 t diff)) (got.Refused Corrupt)) ≡ true
-    go true = refl
-    go false = refl
+abbrev pub CommittedTold : ℕ → Committed → Type 0
+CommittedTold seed f =
+    committedFrom (committedResult f) (committedMdir f) (committedSeed seed f) (committedIndex f) ≡ f
 
-altered-behind : (p : Bool) (f : Altered) → alteredPossible f ≡ true → alteredPossible (cond p f (altered.Refused Invalid)) ≡ true
-altered-behind true f h = h
-altered-behind false f h = refl
+-- the exception is left out
+abbrev pub StoredTold : Stored → Type 0
+StoredTold f = storedResult f ≢ negℤ (pos 2) → storedFrom (storedResult f) (storedMade f) (storedIndex f) ≡ f
 
-move-possible : (b : List ℕ) (f : Found) → alteredPossible (moveAnswer b f) ≡ true
-move-possible b noEntry = refl
-move-possible b (found t tagOff diff) = go (leb (sliceEnd t tagOff 0 12) (length b))
-  where
-    go : (p : Bool) → alteredPossible (cond p altered.Done (altered.Refused Corrupt)) ≡ true
-    go true = refl
-    go false = refl
+module _ (R : Refusal → Type 0) (written : Within R CommitRefuses) where
+  pub committed-determined : (seed : ℕ) (f : Committed) → CommittedOr R f → CommittedTold seed f
+  committed-determined seed (committed.Done m s) h = refl
+  committed-determined seed (committed.Refused r) h =
+      commit-back (committed.Done (refusalMdir r) (refusalSeed seed r)) committed.Refused
+      (TooMany (refusalMdir r) (refusalSeed seed r)) seed (λ e. refl) (written r h)
 
-module _ (g : Geometry) (b0 b1 : List ℕ) (n0 n1 : ℕ) (dir : LfsMdir) (gdisk : LfsGstate) (mask key : ℕ) where
-  pub getslice-possible : (offset : ℕ) (buffer : List ℕ) → gotPossible (getsliceOf g b0 b1 n0 n1 dir gdisk mask key offset buffer) ≡ true
-  unfolding getsliceOf
-  getslice-possible offset buffer =
-      behind-test (getsliceFits g b0 b1 n0 n1 dir buffer) _ (slice-possible (blockOf b0 b1 n0 dir) offset (length buffer) (searched (blockOf b0 b1 n0 dir) dir gdisk mask key))
+  pub stored-determined : (f : Stored) → StoredOr R f → StoredTold f
+  stored-determined (stored.Made n) h other = refl
+  stored-determined (stored.Refused r) h other =
+      commit-back (stored.Made 0) stored.Refused (TooMany zeroMdir 0) 0 (λ e. absurd (other e)) (written r h)
 
-  pub get-possible : (buffer : List ℕ) → gotPossible (getOf g b0 b1 n0 n1 dir gdisk mask key buffer) ≡ true
-  unfolding getOf
-  get-possible buffer = behind-test (getFits key buffer) _ (getslice-possible 0 (take (tagSize key) buffer))
+-- ---- the same, of each call
+pub le32-told : (s : List ℕ) (off : ℕ) → WordTold (le32At s off)
+le32-told s off = word-determined WordRefuses word-plain (le32At s off) (le32-possible s off)
 
-  pub getgstate-possible : alteredPossible (getgstateOf g b0 b1 n0 n1 dir gdisk) ≡ true
-  unfolding getgstateOf
-  getgstate-possible = altered-behind (recordFits g (length b0) (length b1) n0 n1 dir) _ (move-possible (blockOf b0 b1 n0 dir) (searched (blockOf b0 b1 n0 dir) dir gdisk moveMask moveKey))
+pub be32-told : (s : List ℕ) (off : ℕ) → WordTold (be32At s off)
+be32-told s off = word-determined WordRefuses word-plain (be32At s off) (be32-possible s off)
 
-pub put-possible : (s : List ℕ) (off : ℕ) → alteredPossible (putAnswer s off) ≡ true
-put-possible s off = go (inside s off)
-  where
-    go : (p : Bool) → alteredPossible (cond p altered.Done (altered.Refused Corrupt)) ≡ true
-    go true = refl
-    go false = refl
+pub put-told : (s : List ℕ) (off : ℕ) → AlteredTold (putAnswer s off)
+put-told s off = altered-determined WordRefuses word-plain (putAnswer s off) (put-possible s off)
 
--- ---- writing
-from-fetch : (r : Refusal) → ofFetch r ≡ true → ofWriting r ≡ true
-from-fetch Invalid h = refl
-from-fetch Corrupt h = refl
-from-fetch (TooMany m s) h = refl
-from-fetch NoEntry h = cc
-from-fetch (BadEntry i) h = refl
-from-fetch Irregular h = refl
-from-fetch NoSpace h = refl
-from-fetch Unclean h = refl
-from-fetch Coincidence h = refl
+pub aligndown-told : (a m : ℕ) → WordTold (alignDown a m)
+aligndown-told a m = word-determined AlignRefuses align-plain (alignDown a m) (aligndown-possible a m)
 
--- a fetch's answer, handed on
-as-possible : (f : Fetched) → fetchedPossible f ≡ true → committedPossible (committedAs f) ≡ true
-as-possible (fetched.Found m s) h = refl
-as-possible (fetched.Refused r) h = from-fetch r h
+pub alignup-told : (a m : ℕ) → WordTold (alignUp a m)
+alignup-told a m = word-determined AlignRefuses align-plain (alignUp a m) (alignup-possible a m)
 
-verdictPossible : Verdict → Bool
-verdictPossible (refused r) = ofWriting r
-verdictPossible (accepted w is size) = true
+module _ (g : Geometry) (b0 b1 : List ℕ) (n0 n1 : ℕ) (dir : LfsMdir) (gdisk : LfsGstate) where
+  pub getslice-told : (mask key offset : ℕ) (buffer : List ℕ)
+      → GotTold (getsliceOf g b0 b1 n0 n1 dir gdisk mask key offset buffer)
+  getslice-told mask key offset buffer =
+      got-determined SliceRefuses (λ r h. h) _ (getslice-possible g b0 b1 n0 n1 dir gdisk mask key offset buffer)
+
+  pub get-told : (mask key : ℕ) (buffer : List ℕ) → GotTold (getOf g b0 b1 n0 n1 dir gdisk mask key buffer)
+  get-told mask key buffer =
+      got-determined GetRefuses get-plain _ (get-possible g b0 b1 n0 n1 dir gdisk mask key buffer)
+
+  pub getinfo-told : (nameMax id : ℕ) → InformedTold (getinfoOf g b0 b1 n0 n1 dir gdisk nameMax id)
+  getinfo-told nameMax id =
+      informed-determined GetRefuses get-plain _ (getinfo-possible g b0 b1 n0 n1 dir gdisk nameMax id)
+
+  pub getgstate-told : AlteredTold (getgstateOf g b0 b1 n0 n1 dir gdisk)
+  getgstate-told = altered-determined GstateRefuses gstate-plain _ (getgstate-possible g b0 b1 n0 n1 dir gdisk)
 
 module _ (g : Geometry) (b0 b1 : List ℕ) (n0 n1 count seed : ℕ) where
-  after-fetch : (f : Fetched) (on : LfsMdir → Verdict) → fetchedPossible f ≡ true → ((m : LfsMdir) → verdictPossible (on m) ≡ true) → verdictPossible (fetchedThen f on) ≡ true
-  unfolding verdictPossible
-  after-fetch (fetched.Found m s) on h k = k m
-  after-fetch (fetched.Refused r) on h k = from-fetch r h
+  pub fetch-told : FetchedTold seed (fetchOf g b0 b1 n0 n1 count seed)
+  fetch-told = fetched-determined seed _ (fetch-possible g b0 b1 n0 n1 count seed)
 
-  -- the tests, whatever they say
-  tests-possible : (a b c d : Bool) (j : Judged) (w : Bool) (is : List Item) (size : ℕ)
-      → verdictPossible (cond a (refused Irregular) (judgedBy j (cond b (refused NoSpace) (cond c (refused Unclean) (cond d (refused Coincidence) (accepted w is size)))))) ≡ true
-  unfolding verdictPossible
-  tests-possible true b c d j w is size = refl
-  tests-possible false b c d (bad i) w is size = refl
-  tests-possible false true c d (good n) w is size = refl
-  tests-possible false false true d (good n) w is size = refl
-  tests-possible false false false true (good n) w is size = refl
-  tests-possible false false false false (good n) w is size = refl
+  pub commit-told : (entries : List Entry) (dat : List ℕ)
+      → CommittedTold seed (commitOf g b0 b1 n0 n1 count seed entries dat)
+  commit-told entries dat =
+      committed-determined CommitRefuses (λ r h. h) seed _ (commit-possible g b0 b1 n0 n1 count seed entries dat)
 
-  appended-possible : (prog : ℕ) (w : Bool) (b : List ℕ) (es : List Event) (entries : List Entry) (dat : List ℕ) → verdictPossible (appended prog w b es entries dat) ≡ true
-  unfolding appended placed
-  appended-possible prog w b es entries dat =
-      let is : List Item = itemsOf dat entries in
-      tests-possible (not (Regular es)) (ltb (length b) (roundedEnd prog (checkAt es is))) (not (roomClean prog b (logEnd es) (logEndTag es)))
-      (coincides allOnes (logEndTag es) is (checkTag (checkSize prog (checkAt es is)))) (judge dat 0 (countOf 0 es) entries) w is (checkSize prog (checkAt es is))
+  pub commit-stores-told : (entries : List Entry) (dat : List ℕ) (n : ℕ)
+      → StoredTold (commitStoresOf g b0 b1 n0 n1 count seed entries dat n)
+  commit-stores-told entries dat n =
+      stored-determined CommitRefuses (λ r h. h) _ (commit-stores-possible g b0 b1 n0 n1 count seed entries dat n)
 
-  verdict-possible : (entries : List Entry) (dat : List ℕ) → verdictPossible (verdictOf g b0 b1 n0 n1 count seed entries dat) ≡ true
-  unfolding verdictOf verdictPossible
-  verdict-possible entries dat =
-      go (not (commitFits g (length b0) (length b1) n0 n1 (length entries) (length dat)))
-      (fetchedThen (fetchOf g b0 b1 n0 n1 count seed)
-      (λ m. appended (g .«prog_size») (isSecond n0 m) (blockAt (isSecond n0 m) b0 b1) (log (blockAt (isSecond n0 m) b0 b1)) entries dat))
-      (after-fetch (fetchOf g b0 b1 n0 n1 count seed)
-      (λ m. appended (g .«prog_size») (isSecond n0 m) (blockAt (isSecond n0 m) b0 b1) (log (blockAt (isSecond n0 m) b0 b1)) entries dat) (fetch-possible g b0 b1 n0 n1 count seed)
-      (λ m. appended-possible (g .«prog_size») (isSecond n0 m) (blockAt (isSecond n0 m) b0 b1) (log (blockAt (isSecond n0 m) b0 b1)) entries dat))
-    where
-      go : (p : Bool) (v : Verdict) → verdictPossible v ≡ true → verdictPossible (cond p (refused Invalid) v) ≡ true
-      go true v h = refl
-      go false v h = h
+  pub compact-told : CommittedTold seed (compactOf g b0 b1 n0 n1 count seed)
+  compact-told =
+      committed-determined CompactRefuses compact-written seed _ (compact-possible g b0 b1 n0 n1 count seed)
 
-  pub commit-possible : (entries : List Entry) (dat : List ℕ) → committedPossible (commitOf g b0 b1 n0 n1 count seed entries dat) ≡ true
-  unfolding commitOf verdictPossible
-  commit-possible entries dat = go (verdictOf g b0 b1 n0 n1 count seed entries dat) (verdict-possible entries dat)
-    where
-      f : Images
-      f = commitImages g b0 b1 n0 n1 count seed entries dat unlimited
-
-      go : (v : Verdict) → verdictPossible v ≡ true → committedPossible (answerOf (fetchOf g (f .b0) (f .b1) n0 n1 count seed) v) ≡ true
-      go (refused r) h = h
-      go (accepted w is size) h = as-possible (fetchOf g (f .b0) (f .b1) n0 n1 count seed) (fetch-possible g (f .b0) (f .b1) n0 n1 count seed)
-
-  -- compaction
-  compactPossible : CompactVerdict → Bool
-  compactPossible (compactRefused r) = ofWriting r
-  compactPossible (compactAccepted w rev is size) = true
-
-  anew-possible : (a b c : Bool) (w : Bool) (rev : ℕ) (is : List Item) (size : ℕ)
-      → compactPossible (cond a (compactRefused Irregular) (cond b (compactRefused NoSpace) (cond c (compactRefused Coincidence) (compactAccepted w rev is size)))) ≡ true
-  unfolding compactPossible
-  anew-possible true b c w rev is size = refl
-  anew-possible false true c w rev is size = refl
-  anew-possible false false true w rev is size = refl
-  anew-possible false false false w rev is size = refl
-
-  compactable-possible : (prog : ℕ) (w : Bool) (b : List ℕ) (es : List Event) → compactPossible (compactable prog w b es) ≡ true
-  unfolding compactable placedAnew
-  compactable-possible prog w b es =
-      let is : List Item = compactionItems es in
-      let rev : ℕ = plus32 (le32 b) 1 in
-      let at : ℕ = compactCheckAt (compactionItems es) in
-      anew-possible (not (Regular es)) (ltb (length b) (roundedEnd prog at)) (coincides (crc allOnes (toLe32 rev)) allOnes is (checkTag (checkSize prog at))) w rev is (checkSize prog at)
-
-  compact-verdict-possible : compactPossible (compactVerdict g b0 b1 n0 n1 count seed) ≡ true
-  unfolding compactVerdict compactPossible
-  compact-verdict-possible = go (fetchOf g b0 b1 n0 n1 count seed) (fetch-possible g b0 b1 n0 n1 count seed)
-    where
-      go : (f : Fetched) → fetchedPossible f ≡ true → compactPossible (compactFetched (g .«prog_size») b0 b1 n0 f) ≡ true
-      go (fetched.Refused r) h = from-fetch r h
-      go (fetched.Found m s) h = compactable-possible (g .«prog_size») (isSecond n0 m) (blockAt (isSecond n0 m) b0 b1) (log (blockAt (isSecond n0 m) b0 b1))
-
-  pub compact-possible : committedPossible (compactOf g b0 b1 n0 n1 count seed) ≡ true
-  unfolding compactOf compactPossible
-  compact-possible = go (compactVerdict g b0 b1 n0 n1 count seed) compact-verdict-possible
-    where
-      f : Images
-      f = compactImages g b0 b1 n0 n1 count seed allOnes
-
-      go : (v : CompactVerdict) → compactPossible v ≡ true → committedPossible (compactAnswer (fetchOf g (f .b0) (f .b1) n0 n1 count seed) v) ≡ true
-      go (compactRefused r) h = h
-      go (compactAccepted w rev is size) h = as-possible (fetchOf g (f .b0) (f .b1) n0 n1 count seed) (fetch-possible g (f .b0) (f .b1) n0 n1 count seed)
+  pub compact-stores-told : (n : ℕ) → StoredTold (compactStoresOf g b0 b1 n0 n1 count seed n)
+  compact-stores-told n =
+      stored-determined CompactRefuses compact-written _ (compact-stores-possible g b0 b1 n0 n1 count seed n)

@@ -1,0 +1,160 @@
+-- Demand 2: the lookups give no refusals but those of Possible. At offset 0 none answers -84: what is read is in the
+-- entry that matched, and that ends at the record's end or before it, so in the block. Assumes nothing.
+use mathlib.Core.Path.{_≡_}
+use mathlib.Core.Bool.{Bool, true, not, _&&_}
+use mathlib.Core.List.{List}
+use Prim.Native.Nat.{ℕ, _+_, _^_, _≤_}
+use native.Mathlib.Nat.{min-le-left}
+use native.Mathlib.Omega.{arith}
+use lib.ListN.{length, take}
+use lib.Dec.{eqb, ltb, leb}
+use borrow.Author.Tests.{leb-true, le-leb, eqb-true, eqb-false}
+use Rattle.format.specs.Word.{minus32}
+use Rattle.format.specs.Pair.{pairSync}
+use Rattle.format.specs.Fetch.{geometryFits, pairFits}
+use Rattle.format.specs.Tag.{tagId, tagSize, tagLength}
+use Rattle.format.specs.Kind.{noSlot}
+use Rattle.format.specs.Gstate.{gstateHasMoveHere}
+use Rattle.format.specs.Back.{back}
+use Rattle.format.specs.Look.{Found, noEntry, found}
+use Rattle.format.specs.Lookup.{recordFits, blockOf, hasIds, searchedFrom, searched, sliceEnd, sliceAnswer}
+use Rattle.format.specs.Lookup.{longestBuffer, getsliceFits, getsliceOf, getFits, getOf, nameMask, nameKey, structMask}
+use Rattle.format.specs.Lookup.{structKey, readAnswer, readBuffer, infoFrom, infoOf, getinfoFits, getinfoOf}
+use Rattle.format.specs.Lookup.{moveMask, moveKey, moveAnswer, getgstateOf}
+use Rattle.format.specs.declared.Geometry.{Geometry}
+use Rattle.format.specs.declared.LfsMdir.{LfsMdir}
+use Rattle.format.specs.declared.LfsGstate.{LfsGstate}
+use Rattle.format.specs.declared.Got.{Got}
+use Rattle.format.specs.declared.Got.the-variants as got
+use Rattle.format.specs.declared.Informed.{Informed}
+use Rattle.format.proofs.Tags.{length-size}
+use Rattle.theory.specs.Walk.Step.{both-true}
+use Rattle.theory.specs.Lookup.AtStart.{FoundIn, back-in, wlook-in}
+use Rattle.promises.specs.Possible.{SliceRefuses, slice22, slice84, slice2, GetRefuses, get22, get2}
+use Rattle.promises.specs.Possible.{GstateRefuses, gstate22, GotOr, AlteredOr, behind, through}
+
+-- ---- what was found is read
+slice-possible : (b : List ℕ) (offset size : ℕ) (f : Found) → GotOr SliceRefuses (sliceAnswer b offset size f)
+slice-possible b offset size noEntry = slice2
+slice-possible b offset size (found t off diff) =
+    through (GotOr SliceRefuses) (leb (sliceEnd t off offset size) (length b)) tt slice84
+
+-- at offset 0, what was found before the block's end is read before it
+start-fits : (b : List ℕ) (size t off diff : ℕ) → FoundIn (length b) (found t off diff)
+    → leb (sliceEnd t off 0 size) (length b) ≡ true
+start-fits b size t off diff h =
+    let z : tagLength t ≡ 4 + tagSize t = length-size t (eqb-false (tagSize t) 0x3ff (h .1)) in
+    le-leb (sliceEnd t off 0 size) (length b) (omega (arith, h .0, min-le-left (tagSize t) size))
+
+start-possible : (b : List ℕ) (size : ℕ) (f : Found) → FoundIn (length b) f → GotOr GetRefuses (sliceAnswer b 0 size f)
+start-possible b size noEntry h = get2
+start-possible b size (found t off diff) h = rw (start-fits b size t off diff h) tt
+
+move-possible : (b : List ℕ) (f : Found) → FoundIn (length b) f → AlteredOr GstateRefuses (moveAnswer b f)
+move-possible b noEntry h = tt
+move-possible b (found t off diff) h = rw (start-fits b 12 t off diff h) tt
+
+-- an info is refused as the first of its two lookups that is
+abbrev Informs : Informed → Type 0
+Informs i = AlteredOr GetRefuses (i .answer)
+
+info-from : (x y : Got) (name struct : List ℕ) → GotOr GetRefuses x → GotOr GetRefuses y
+    → Informs (infoFrom x name y struct)
+info-from (got.Refused r) y name struct h k = h
+info-from (got.Found t) (got.Refused r) name struct h k = k
+info-from (got.Found t) (got.Found u) name struct h k = tt
+
+info-possible : (b : List ℕ) (nameMax : ℕ) (name struct : Found) → FoundIn (length b) name → FoundIn (length b) struct
+    → Informs (infoOf b nameMax name struct)
+info-possible b nameMax name struct h k =
+    info-from (readAnswer b (nameMax + 1) name) (readAnswer b 8 struct)
+    (readBuffer b (nameMax + 1) name) (readBuffer b 8 struct)
+    (start-possible b (nameMax + 1) name h) (start-possible b 8 struct k)
+
+-- ---- the four calls
+module _ (g : Geometry) (b0 b1 : List ℕ) (n0 n1 : ℕ) (dir : LfsMdir) (gdisk : LfsGstate) where
+  abbrev fits : Bool
+  fits = recordFits g (length b0) (length b1) n0 n1 dir
+
+  abbrev block : List ℕ
+  block = blockOf b0 b1 n0 dir
+
+  abbrev search : ℕ → ℕ → Found
+  search mask key = searched block dir gdisk mask key
+
+  -- the record's end is in the block that it was read from
+  end-inside : fits ≡ true → dir .off ≤ length block
+  unfolding recordFits pairFits
+  end-inside h =
+      let size : ℕ = g .«block_size» in
+      let one : Bool = geometryFits g && eqb (length b0) size in
+      let two : Bool = one && eqb (length b1) size in
+      let pair : Bool = two && not (eqb n0 n1) && pairSync (dir .pair) (record { n0 = n0; n1 = n1 }) in
+      let end = both-true pair (leb (dir .off) size) h in
+      let second = both-true one _ (both-true two _ (both-true (two && not (eqb n0 n1)) _ (end .0) .0) .0) in
+      let first = both-true (geometryFits g) _ (second .0) in
+      let inside : dir .off ≤ size = leb-true (dir .off) size (end .1) in
+      through (λ (b : List ℕ). dir .off ≤ length b) (eqb (dir .pair .n0) n0)
+      (rw (eqb-true (length b0) size (first .1)) inside) (rw (eqb-true (length b1) size (second .1)) inside)
+
+  -- a search finds nothing behind the record's end
+  search-inside : (mask key : ℕ) → fits ≡ true → FoundIn (length block) (search mask key)
+  unfolding searched
+  search-inside mask key h =
+      through In (hasIds mask && gstateHasMoveHere gdisk (dir .pair))
+      (through In (eqb (tagId (gdisk .tag)) (tagId key)) tt
+      (through In (ltb (tagId (gdisk .tag)) (tagId key)) (from (minus32 0 (2 ^ 10))) (from 0)))
+      (from 0)
+    where
+      In : Found → Type 0
+      In f = FoundIn (length block) f
+
+      from : (diff : ℕ) → FoundIn (length block) (searchedFrom block dir mask key diff)
+      from diff =
+          wlook-in (length block) (hasIds mask) mask key diff (back block (dir .off) (dir .etag))
+          (back-in block (dir .off) (dir .etag) (length block) (end-inside h))
+
+  pub getslice-possible : (mask key offset : ℕ) (buffer : List ℕ)
+      → GotOr SliceRefuses (getsliceOf g b0 b1 n0 n1 dir gdisk mask key offset buffer)
+  unfolding getsliceOf
+  getslice-possible mask key offset buffer =
+      through (GotOr SliceRefuses) (getsliceFits g b0 b1 n0 n1 dir buffer)
+      (slice-possible block offset (length buffer) (search mask key)) slice22
+
+  -- at offset 0 without -84
+  pub getslice-start-possible : (mask key : ℕ) (buffer : List ℕ)
+      → GotOr GetRefuses (getsliceOf g b0 b1 n0 n1 dir gdisk mask key 0 buffer)
+  unfolding getsliceOf getsliceFits
+  getslice-start-possible mask key buffer =
+      behind (GotOr GetRefuses) (fits && leb (length buffer) longestBuffer)
+      (λ e. start-possible block (length buffer) (search mask key) (search-inside mask key (both-true _ _ e .0))) get22
+
+  pub get-possible : (mask key : ℕ) (buffer : List ℕ)
+      → GotOr GetRefuses (getOf g b0 b1 n0 n1 dir gdisk mask key buffer)
+  unfolding getOf
+  get-possible mask key buffer =
+      through (GotOr GetRefuses) (getFits key buffer)
+      (getslice-start-possible mask key (take (tagSize key) buffer)) get22
+
+  pub getgstate-possible : AlteredOr GstateRefuses (getgstateOf g b0 b1 n0 n1 dir gdisk)
+  unfolding getgstateOf
+  getgstate-possible =
+      behind (AlteredOr GstateRefuses) fits
+      (λ e. move-possible block (search moveMask moveKey) (search-inside moveMask moveKey e)) gstate22
+
+  pub getinfo-possible : (nameMax id : ℕ) → AlteredOr GetRefuses (getinfoOf g b0 b1 n0 n1 dir gdisk nameMax id .answer)
+  unfolding getinfoOf getinfoFits
+  getinfo-possible nameMax id =
+      behind Informs (fits && leb 1 nameMax && leb nameMax 255 && leb id noSlot)
+      (λ e. through Informs (eqb id noSlot) tt (read (both-true _ _ (both-true _ _ (both-true _ _ e .0) .0) .0))) get22
+    where
+      name : Found
+      name = search nameMask (nameKey id nameMax)
+
+      struct : Found
+      struct = search structMask (structKey id)
+
+      read : fits ≡ true → Informs (infoOf block nameMax name struct)
+      read e =
+          info-possible block nameMax name struct (search-inside nameMask (nameKey id nameMax) e)
+          (search-inside structMask (structKey id) e)

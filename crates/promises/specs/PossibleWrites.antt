@@ -1,0 +1,151 @@
+-- Demand 2: commit and compaction, without a limit of stores and with one, give no refusals but those of Possible.
+-- Assumes nothing.
+use mathlib.Core.Bool.{Bool, not}
+use mathlib.Core.List.{List}
+use Prim.Native.Nat.{ℕ}
+use lib.ListN.{length}
+use lib.Dec.{ltb}
+use Rattle.format.specs.Word.{le32, toLe32, allOnes, plus32}
+use Rattle.format.specs.Crc.{crc}
+use Rattle.format.specs.Walk.{Event}
+use Rattle.format.specs.Log.{log, logEnd, logEndTag}
+use Rattle.format.specs.Record.{countOf}
+use Rattle.format.specs.Fetch.{fetchOf}
+use Rattle.format.specs.Regular.{Regular}
+use Rattle.format.specs.Commit.{Item, checkTag}
+use Rattle.format.specs.Stores.{coincides}
+use Rattle.format.specs.Entries.{itemsOf, Judged, bad, good, judge}
+use Rattle.format.specs.Writer.{roundedEnd, checkSize, checkAt, commitFits, roomClean, blockAt, isSecond}
+use Rattle.format.specs.Writer.{Verdict, refused, accepted, placed, appended, judgedBy, fetchedThen, verdictOf}
+use Rattle.format.specs.Writer.{Images, unlimited, answerOf, storesMade, commitImages, commitOf, commitStoresOf}
+use Rattle.format.specs.Compaction.{CompactVerdict, compactRefused, compactAccepted, compactionItems, compactCheckAt}
+use Rattle.format.specs.Compaction.{placedAnew, compactable, compactFetched, compactVerdict, compactAnswer, compactMade}
+use Rattle.format.specs.Compaction.{compactImages, compactOf, compactStoresOf}
+use Rattle.format.specs.declared.Geometry.{Geometry}
+use Rattle.format.specs.declared.Entry.{Entry}
+use Rattle.format.specs.declared.LfsMdir.{LfsMdir}
+use Rattle.format.specs.declared.Fetched.{Fetched}
+use Rattle.format.specs.declared.Fetched.the-variants as fetched
+use Rattle.promises.specs.Possible.{CommitRefuses, commit22, commitFetch, commit202, commit201, commit28}
+use Rattle.promises.specs.Possible.{commit203, commit204}
+use Rattle.promises.specs.Possible.{CompactRefuses, compactFetch, compact202, compact28, compact204}
+use Rattle.promises.specs.Possible.{CommittedOr, StoredOr, through, Fetches, fetch-possible}
+
+-- ---- commit: a verdict that is no refusal, or one of these
+abbrev Commits : Verdict → Type 0
+Commits (refused r) = CommitRefuses r
+Commits (accepted second is size) = Unit {0}
+
+judged-possible : (j : Judged) (v : Verdict) → Commits v → Commits (judgedBy j v)
+judged-possible (bad i) v h = commit201
+judged-possible (good c) v h = h
+
+placed-possible : (prog : ℕ) (second : Bool) (b : List ℕ) (es : List Event) (is : List Item)
+    → Commits (placed prog second b es is)
+unfolding placed
+placed-possible prog second b es is =
+    through Commits (ltb (length b) (roundedEnd prog (checkAt es is))) commit28
+    (through Commits (not (roomClean prog b (logEnd es) (logEndTag es))) commit203
+    (through Commits (coincides allOnes (logEndTag es) is (checkTag (checkSize prog (checkAt es is)))) commit204 tt))
+
+appended-possible : (prog : ℕ) (second : Bool) (b : List ℕ) (es : List Event) (entries : List Entry) (dat : List ℕ)
+    → Commits (appended prog second b es entries dat)
+unfolding appended
+appended-possible prog second b es entries dat =
+    through Commits (not (Regular es)) commit202
+    (judged-possible (judge dat 0 (countOf 0 es) entries) (placed prog second b es (itemsOf dat entries))
+    (placed-possible prog second b es (itemsOf dat entries)))
+
+fetched-then : (f : Fetched) (on : LfsMdir → Verdict) → Fetches f → ((m : LfsMdir) → Commits (on m))
+    → Commits (fetchedThen f on)
+fetched-then (fetched.Found m s) on h k = k m
+fetched-then (fetched.Refused r) on h k = commitFetch h
+
+-- an accepted call answers as fetch does on the finished pair
+verdict-answer : (f : Fetched) (v : Verdict) → Fetches f → Commits v → CommittedOr CommitRefuses (answerOf f v)
+verdict-answer f (refused r) h k = k
+verdict-answer (fetched.Found m s) (accepted second is size) h k = tt
+verdict-answer (fetched.Refused r) (accepted second is size) h k = commitFetch h
+
+verdict-made : (n : ℕ) (v : Verdict) → Commits v → StoredOr CommitRefuses (storesMade n v)
+verdict-made n (refused r) h = h
+verdict-made n (accepted second is size) h = tt
+
+-- ---- compaction, the same
+abbrev Compacts : CompactVerdict → Type 0
+Compacts (compactRefused r) = CompactRefuses r
+Compacts (compactAccepted second rev is size) = Unit {0}
+
+anew-possible : (prog block : ℕ) (second : Bool) (rev : ℕ) (is : List Item)
+    → Compacts (placedAnew prog block second rev is)
+unfolding placedAnew
+anew-possible prog block second rev is =
+    let check : ℕ = checkTag (checkSize prog (compactCheckAt is)) in
+    through Compacts (ltb block (roundedEnd prog (compactCheckAt is))) compact28
+    (through Compacts (coincides (crc allOnes (toLe32 rev)) allOnes is check) compact204 tt)
+
+compactable-possible : (prog : ℕ) (second : Bool) (b : List ℕ) (es : List Event)
+    → Compacts (compactable prog second b es)
+unfolding compactable
+compactable-possible prog second b es =
+    through Compacts (not (Regular es)) compact202
+    (anew-possible prog (length b) second (plus32 (le32 b) 1) (compactionItems es))
+
+compact-fetched : (prog : ℕ) (b0 b1 : List ℕ) (n0 : ℕ) (f : Fetched) → Fetches f
+    → Compacts (compactFetched prog b0 b1 n0 f)
+compact-fetched prog b0 b1 n0 (fetched.Refused r) h = compactFetch h
+compact-fetched prog b0 b1 n0 (fetched.Found m s) h =
+    let b : List ℕ = blockAt (isSecond n0 m) b0 b1 in
+    compactable-possible prog (isSecond n0 m) b (log b)
+
+compact-answer : (f : Fetched) (v : CompactVerdict) → Fetches f → Compacts v
+    → CommittedOr CompactRefuses (compactAnswer f v)
+compact-answer f (compactRefused r) h k = k
+compact-answer (fetched.Found m s) (compactAccepted second rev is size) h k = tt
+compact-answer (fetched.Refused r) (compactAccepted second rev is size) h k = compactFetch h
+
+compact-made : (n : ℕ) (v : CompactVerdict) → Compacts v → StoredOr CompactRefuses (compactMade n v)
+compact-made n (compactRefused r) h = h
+compact-made n (compactAccepted second rev is size) h = tt
+
+-- ---- the four calls that write: without a limit of stores, and with one
+module _ (g : Geometry) (b0 b1 : List ℕ) (n0 n1 count seed : ℕ) where
+  verdict-possible : (entries : List Entry) (dat : List ℕ) → Commits (verdictOf g b0 b1 n0 n1 count seed entries dat)
+  unfolding verdictOf
+  verdict-possible entries dat =
+      through Commits (not (commitFits g (length b0) (length b1) n0 n1 (length entries) (length dat))) commit22
+      (fetched-then (fetchOf g b0 b1 n0 n1 count seed) _ (fetch-possible g b0 b1 n0 n1 count seed)
+      (λ m. let b : List ℕ = blockAt (isSecond n0 m) b0 b1 in
+      appended-possible (g .«prog_size») (isSecond n0 m) b (log b) entries dat))
+
+  pub commit-possible : (entries : List Entry) (dat : List ℕ)
+      → CommittedOr CommitRefuses (commitOf g b0 b1 n0 n1 count seed entries dat)
+  unfolding commitOf
+  commit-possible entries dat =
+      let after : Images = commitImages g b0 b1 n0 n1 count seed entries dat unlimited in
+      verdict-answer (fetchOf g (after .b0) (after .b1) n0 n1 count seed)
+      (verdictOf g b0 b1 n0 n1 count seed entries dat)
+      (fetch-possible g (after .b0) (after .b1) n0 n1 count seed) (verdict-possible entries dat)
+
+  pub commit-stores-possible : (entries : List Entry) (dat : List ℕ) (n : ℕ)
+      → StoredOr CommitRefuses (commitStoresOf g b0 b1 n0 n1 count seed entries dat n)
+  unfolding commitStoresOf
+  commit-stores-possible entries dat n =
+      verdict-made n (verdictOf g b0 b1 n0 n1 count seed entries dat) (verdict-possible entries dat)
+
+  compact-verdict-possible : Compacts (compactVerdict g b0 b1 n0 n1 count seed)
+  unfolding compactVerdict
+  compact-verdict-possible =
+      compact-fetched (g .«prog_size») b0 b1 n0 (fetchOf g b0 b1 n0 n1 count seed)
+      (fetch-possible g b0 b1 n0 n1 count seed)
+
+  pub compact-possible : CommittedOr CompactRefuses (compactOf g b0 b1 n0 n1 count seed)
+  unfolding compactOf
+  compact-possible =
+      let after : Images = compactImages g b0 b1 n0 n1 count seed allOnes in
+      compact-answer (fetchOf g (after .b0) (after .b1) n0 n1 count seed) (compactVerdict g b0 b1 n0 n1 count seed)
+      (fetch-possible g (after .b0) (after .b1) n0 n1 count seed) compact-verdict-possible
+
+  pub compact-stores-possible : (n : ℕ) → StoredOr CompactRefuses (compactStoresOf g b0 b1 n0 n1 count seed n)
+  unfolding compactStoresOf
+  compact-stores-possible n = compact-made n (compactVerdict g b0 b1 n0 n1 count seed) compact-verdict-possible
