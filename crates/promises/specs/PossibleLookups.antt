@@ -3,21 +3,18 @@
 use mathlib.Core.Path.{_≡_}
 use mathlib.Core.Bool.{Bool, true, not, _&&_}
 use mathlib.Core.List.{List}
-use Prim.Native.Nat.{ℕ, _+_, _^_, _≤_}
+use Prim.Native.Nat.{ℕ, _+_, _≤_}
 use native.Mathlib.Nat.{min-le-left}
 use native.Mathlib.Omega.{arith}
 use lib.ListN.{length, take}
-use lib.Dec.{eqb, ltb, leb}
+use lib.Dec.{eqb, leb}
 use borrow.Author.Tests.{leb-true, le-leb, eqb-true, eqb-false}
-use Rattle.format.specs.Word.{minus32}
 use Rattle.format.specs.Pair.{pairSync}
 use Rattle.format.specs.Fetch.{geometryFits, pairFits}
-use Rattle.format.specs.Tag.{tagId, tagSize, tagLength}
+use Rattle.format.specs.Tag.{tagSize, tagLength}
 use Rattle.format.specs.Kind.{noSlot}
-use Rattle.format.specs.Gstate.{gstateHasMoveHere}
-use Rattle.format.specs.Back.{back}
 use Rattle.format.specs.Look.{Found, noEntry, found}
-use Rattle.format.specs.Lookup.{recordFits, blockOf, hasIds, searchedFrom, searched, sliceEnd, sliceAnswer}
+use Rattle.format.specs.Lookup.{recordFits, blockOf, searched, sliceEnd, sliceAnswer}
 use Rattle.format.specs.Lookup.{longestBuffer, getsliceFits, getsliceOf, getFits, getOf, nameMask, nameKey, structMask}
 use Rattle.format.specs.Lookup.{structKey, readAnswer, readBuffer, infoFrom, infoOf, getinfoFits, getinfoOf}
 use Rattle.format.specs.Lookup.{moveMask, moveKey, moveAnswer, getgstateOf}
@@ -29,7 +26,7 @@ use Rattle.format.specs.declared.Got.the-variants as got
 use Rattle.format.specs.declared.Informed.{Informed}
 use Rattle.format.proofs.Tags.{length-size}
 use Rattle.theory.specs.Walk.Step.{both-true}
-use Rattle.theory.specs.Lookup.AtStart.{FoundIn, back-in, wlook-in}
+use Rattle.theory.specs.Lookup.AtStart.{FoundIn, searched-in}
 use Rattle.promises.specs.Possible.{SliceRefuses, slice22, slice84, slice2, GetRefuses, get22, get2}
 use Rattle.promises.specs.Possible.{GstateRefuses, gstate22, GotOr, AlteredOr, behind, through}
 
@@ -99,20 +96,7 @@ module _ (g : Geometry) (b0 b1 : List ℕ) (n0 n1 : ℕ) (dir : LfsMdir) (gdisk 
 
   -- a search finds nothing behind the record's end
   search-inside : (mask key : ℕ) → fits ≡ true → FoundIn (length block) (search mask key)
-  unfolding searched
-  search-inside mask key h =
-      through In (hasIds mask && gstateHasMoveHere gdisk (dir .pair))
-      (through In (eqb (tagId (gdisk .tag)) (tagId key)) tt
-      (through In (ltb (tagId (gdisk .tag)) (tagId key)) (from (minus32 0 (2 ^ 10))) (from 0)))
-      (from 0)
-    where
-      In : Found → Type 0
-      In f = FoundIn (length block) f
-
-      from : (diff : ℕ) → FoundIn (length block) (searchedFrom block dir mask key diff)
-      from diff =
-          wlook-in (length block) (hasIds mask) mask key diff (back block (dir .off) (dir .etag))
-          (back-in block (dir .off) (dir .etag) (length block) (end-inside h))
+  search-inside mask key h = searched-in (length block) block dir gdisk mask key (end-inside h)
 
   pub getslice-possible : (mask key offset : ℕ) (buffer : List ℕ)
       → GotOr SliceRefuses (getsliceOf g b0 b1 n0 n1 dir gdisk mask key offset buffer)

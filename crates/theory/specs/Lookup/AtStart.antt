@@ -1,5 +1,5 @@
--- A lookup at offset 0 on the bytes of a block: it reads nothing behind where the walk back begins, and it answers what the place it finds holds.
--- Assumes nothing.
+-- A lookup at offset 0 on the bytes of a block: it reads nothing behind where the walk back begins, and it answers what the
+-- place it finds holds. Assumes nothing.
 use mathlib.Core.Path.{_≡_, refl, sym, ap, _∙_}
 use mathlib.Core.Bool.{Bool, true, false, cond, _&&_}
 use mathlib.Core.List.{List, [], _∷_}
@@ -9,13 +9,16 @@ use native.Mathlib.Nat.{zero-add, add-zero, suc-add, min-zero, zero-min, suc-min
 use lib.ListN.{length, take, drop, getD, length-drop}
 use lib.Seq.{take-nil, take-take, drop-drop, getD-take, length-take-le}
 use lib.Bits.{bitAnd}
-use lib.Dec.{leb, eqb}
+use lib.Dec.{leb, ltb, eqb}
 use borrow.Author.Tests.{leb-true, le-leb, eqb-false}
 use Rattle.format.specs.Word.{be32, xor, minus32}
-use Rattle.format.specs.Tag.{tagSize, tagDelete, tagLength}
+use Rattle.format.specs.Tag.{tagId, tagSize, tagDelete, tagLength}
 use Rattle.format.specs.Back.{Met, hop, backs, back}
 use Rattle.format.specs.Look.{Found, noEntry, found, splicedAt, createAt, diffAfter, wlook}
-use Rattle.format.specs.Lookup.{sliceStart, sliceEnd, sliceAnswer, sliceBuffer}
+use Rattle.format.specs.Gstate.{gstateHasMoveHere}
+use Rattle.format.specs.Lookup.{hasIds, searchedFrom, searched, sliceStart, sliceEnd, sliceAnswer, sliceBuffer}
+use Rattle.format.specs.declared.LfsMdir.{LfsMdir}
+use Rattle.format.specs.declared.LfsGstate.{LfsGstate}
 use Rattle.format.specs.declared.Got.the-variants as got
 use Rattle.format.proofs.Tags.{length-size}
 use Rattle.format.proofs.Words.{be32-at, tagLength-ge}
@@ -60,6 +63,26 @@ wlook-in n ids mask key d (m ∷ ms) h =
     go false true true e k = tt
     go false true false e k = (h .0, e)
     go false false c e k = k
+
+-- so a lookup whose record ends before n finds nothing behind n, with a pending move or without
+pub searched-in : (n : ℕ) (b : List ℕ) (dir : LfsMdir) (gdisk : LfsGstate) (mask key : ℕ) → dir .off ≤ n
+    → FoundIn n (searched b dir gdisk mask key)
+unfolding searched
+searched-in n b dir gdisk mask key h =
+    go (hasIds mask && gstateHasMoveHere gdisk (dir .pair)) (eqb (tagId (gdisk .tag)) (tagId key))
+    (ltb (tagId (gdisk .tag)) (tagId key)) (from (minus32 0 (2 ^ 10))) (from 0)
+  where
+    from : (d : ℕ) → FoundIn n (searchedFrom b dir mask key d)
+    from d = wlook-in n (hasIds mask) mask key d (back b (dir .off) (dir .etag)) (back-in b (dir .off) (dir .etag) n h)
+
+    go : (p q r : Bool) → FoundIn n (searchedFrom b dir mask key (minus32 0 (2 ^ 10)))
+        → FoundIn n (searchedFrom b dir mask key 0)
+        → FoundIn n (cond p (cond q noEntry (cond r (searchedFrom b dir mask key (minus32 0 (2 ^ 10)))
+        (searchedFrom b dir mask key 0))) (searchedFrom b dir mask key 0))
+    go true true r h k = tt
+    go true false true h k = h
+    go true false false h k = k
+    go false q r h k = k
 
 -- ---- two blocks that agree up to e
 pub piece : (p k : ℕ) (l : List ℕ) → take k (drop p l) ≡ drop p (take (p + k) l)

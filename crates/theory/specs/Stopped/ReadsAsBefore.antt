@@ -2,22 +2,17 @@
 use mathlib.Core.Path.{_≡_, refl, sym, ap, _∙_}
 use mathlib.Core.Bool.{Bool, true, false, not, cond, _&&_, _||_}
 use mathlib.Core.List.{List}
-use Prim.Native.Nat.{ℕ, _^_, _≤_}
+use Prim.Native.Nat.{ℕ, _≤_}
 use native.Mathlib.Nat.{le-refl}
 use lib.ListN.{length, take}
 use lib.Dec.{ltb, eqb}
 use borrow.Author.Tests.{eq-eqb, ne-eqb, eqb-false, not-true, le-ltb}
-use Rattle.format.specs.Tag.{tagId}
 use Rattle.format.specs.Walk.{Event}
 use Rattle.format.specs.Log.{logEnd, logEndTag}
 use Rattle.format.specs.Record.{countOf, seedOf}
-use Rattle.format.specs.Gstate.{gstateHasMoveHere}
 use Rattle.format.specs.View.{View, at, view}
 use Rattle.format.specs.Fetch.{geometryFits, pairFits, tooHigh, mdirOf, fewEnough, viewed, fetchOf}
-use Rattle.format.specs.Back.{back}
-use Rattle.format.specs.Look.{Found, noEntry}
-use Rattle.format.specs.Word.{minus32}
-use Rattle.format.specs.Lookup.{recordFits, hasIds, searchedFrom, searched, sliceAnswer, sliceBuffer, getsliceFits, getsliceOf, getsliceBuffer}
+use Rattle.format.specs.Lookup.{recordFits, searched, sliceAnswer, sliceBuffer, getsliceFits, getsliceOf, getsliceBuffer}
 use Rattle.format.specs.Writer.{blockAt, isSecond}
 use Rattle.format.specs.declared.Geometry.{Geometry}
 use Rattle.format.specs.declared.LfsMdir.{LfsMdir}
@@ -27,25 +22,9 @@ use Rattle.format.specs.declared.Fetched.the-variants as fetched
 use Rattle.format.specs.declared.Got.the-variants as got
 use Rattle.theory.specs.Walk.Step.{both-true}
 use Rattle.theory.specs.Log.TwoBlocks.{viewAt}
-use Rattle.theory.specs.Lookup.AtStart.{FoundIn, back-in, wlook-in, back-same, slice-same}
+use Rattle.theory.specs.Lookup.AtStart.{FoundIn, searched-in, back-same, slice-same}
 use Rattle.theory.specs.Stopped.Shown.{found-tested, fetch-viewed}
 use Rattle.format.specs.Stopped.{unmarked, Finds, ReadsAs}
-
--- a lookup finds nothing behind the record's end
-searched-in : (b : List ℕ) (dir : LfsMdir) (gdisk : LfsGstate) (mask key : ℕ) → FoundIn (dir .off) (searched b dir gdisk mask key)
-unfolding searched
-searched-in b dir gdisk mask key =
-    go (hasIds mask && gstateHasMoveHere gdisk (dir .pair)) (eqb (tagId (gdisk .tag)) (tagId key)) (ltb (tagId (gdisk .tag)) (tagId key)) (from (minus32 0 (2 ^ 10))) (from 0)
-  where
-    from : (d : ℕ) → FoundIn (dir .off) (searchedFrom b dir mask key d)
-    from d = wlook-in (dir .off) (hasIds mask) mask key d (back b (dir .off) (dir .etag)) (back-in b (dir .off) (dir .etag) (dir .off) (le-refl (dir .off)))
-
-    go : (p q r : Bool) → FoundIn (dir .off) (searchedFrom b dir mask key (minus32 0 (2 ^ 10))) → FoundIn (dir .off) (searchedFrom b dir mask key 0)
-        → FoundIn (dir .off) (cond p (cond q noEntry (cond r (searchedFrom b dir mask key (minus32 0 (2 ^ 10))) (searchedFrom b dir mask key 0))) (searchedFrom b dir mask key 0))
-    go true true r h k = tt
-    go true false true h k = h
-    go true false false h k = k
-    go false q r h k = k
 
 -- ---- n is the answering block's number, k the other's; x stood in it, and y stands in it now
 module _ (prog n k v : ℕ) (es : List Event) (x y : List ℕ) (same : take (logEnd es) y ≡ take (logEnd es) x) (long : length y ≡ length x) where
@@ -55,7 +34,7 @@ module _ (prog n k v : ℕ) (es : List Event) (x y : List ℕ) (same : take (log
 
   inside : (gdisk : LfsGstate) (mask key : ℕ) → FoundIn (logEnd es) (searched x (mdirOf prog n k x v es) gdisk mask key)
   unfolding mdirOf
-  inside gdisk mask key = searched-in x (mdirOf prog n k x v es) gdisk mask key
+  inside gdisk mask key = searched-in (logEnd es) x (mdirOf prog n k x v es) gdisk mask key (le-refl (logEnd es))
 
   sliced-same : (gdisk : LfsGstate) (mask key : ℕ) (buffer : List ℕ)
       → (sliceAnswer y 0 (length buffer) (searched y (mdirOf prog n k y v es) gdisk mask key) ≡ sliceAnswer x 0 (length buffer) (searched x (mdirOf prog n k x v es) gdisk mask key))
