@@ -328,7 +328,7 @@ module _ {M : Type 1} (𝓤 : URA M) (H : Heap 𝓤) (A : Atoms 𝓤) (W : Given
           loops = via 𝓤 (Inv (length xs-es)) (into (length xs-es) (record { i = 0; s = x-st; v = v-st; z-b0 = xs-b0; z-b1 = xs-b1 }) (zero-add (length xs-es), g-st, refl, refl, each-start xs-es xs-dat xs-b0 xs-b1 x-st)) (loop-rule 𝓤 H (W .laws) 𝓣 _<_ (Nat·lt-wfRel .wf) En turn-1 Left Inv turns (length xs-es))
 
           body : ent 𝓤 (⋆ 𝓤 H A Start) (Wp 𝓤 H C Λ En t-1 (atReturn 𝓤 H En Post))
-          body  =
+          body =
               qed W Start ∵ exec ! C Λ En t-1 (atRet En Post) $
               assigns ! (of-opd ! (load ! (from ! (stop !)) (look ! 15 refl))) (from ! (stop !)) (init ! 16 refl (typed-State x-st v-st g-st)) $
               assigns ! (of-opd ! (lit ! tt)) (from ! (stop !)) (init ! 17 refl (tt, record { fits = lit< tt })) $
@@ -344,7 +344,6 @@ module _ {M : Type 1} (𝓤 : URA M) (H : Heap 𝓤) (A : Atoms 𝓤) (W : Given
 
         walk : ent 𝓤 (onEntry 𝓤 H A f.signature (κ-es, (κ-dat, (κ-b0, (κ-b1, tt)))) (q-es, (q-dat, (q-b0, (q-b1, tt)))) x at) (WpFn 𝓤 H C Λ code.function (s-es ∷ s-dat ∷ s-b0 ∷ s-b1 ∷ v-st ∷ []) Post)
         walk = apart (WpFn 𝓤 H C Λ code.function (s-es ∷ s-dat ∷ s-b0 ∷ s-b1 ∷ v-st ∷ []) Post) begins
-
 
   walks : (𝓣 : Tables 𝓤 H) → FmC 𝓤 H (W .laws) (𝓣 .C) → Triple 𝓤 (𝓣 .C #step) K-step → Walks 𝓤 H A f.ended stayed (WpFn 𝓤 H (𝓣 .C) (𝓣 .Λ) code.function) (f.clauses 𝓤 H A at-mem run)
   walks 𝓣 fm known-step = walked 𝓤 H A f.ended stayed (f.clauses 𝓤 H A at-mem run) (WpFn 𝓤 H (𝓣 .C) (𝓣 .Λ) code.function) (λ κs. (slice-vals, (slice-vals, (slice-vals, (slice-vals, (LL.vals State-ty.the-type State-laws.the-laws, tt))))))
