@@ -113,9 +113,8 @@ def definitions():
 
 
 def whole_map(grouped):
-    out = ["# Map", "",
-           "Written by `tools/map.py` from crates.txt and the files' first lines; the gate checks that it is up to date.",
-           "", "## The crates", "",
+    out = ["# Map", "", "Written by `tools/map.py` from crates.txt and the files' first lines; the gate checks that it "
+           "is up to date.", "", "## The crates", "",
            "An arrow leads from a crate to one that it stands on. Left out are the arrows that follow from others, and",
            "Rattle's own libraries; the tables name all that a crate stands on.", ""] + picture(grouped)
     for heading, crates in grouped.items():
