@@ -95,7 +95,7 @@ def verdict(folder):
     for at, name, said in errors(folder):
         kinds.setdefault(kind(folder, at, name, said), f"{at}: {name}: {said.splitlines()[0][:400]}")
     if "rest" in kinds:
-        return "FAULT: refused for its text, at " + kinds["rest"]
+        return "FAULT: refused for its text or its list of needs, at " + kinds["rest"]
     if "fact" in kinds:
         return ""
     if "call" in kinds:
