@@ -39,7 +39,8 @@ FACTS = re.compile("|".join((
     r"list the missing equation with its arguments",
     CONTRACT.pattern)))
 # A type that states nothing, but is that of a value: then the text is what doesn't fit.
-VALUE = re.compile(r"(expected|this has) type `(ℕ|ℤ|Bool|List \S+|Type \d)`")
+VALUE = re.compile(r"((expected|this has) type|the two types are|\(expected\) and) "
+                   r"`([\w·.]+\.)?(ℕ|ℤ|Bool|List \S+|Type \d)`")
 # The expected type and that found, as far as a first argument with a name.
 ARGUMENT = re.compile(r"expected type `([({]\S+ : )?.*?this has type `([({]\S+ : )?", re.S)
 OPERATION = re.compile(r"`search`: no proof of `\(borrow\.Rule\.|it is not proved that ")
