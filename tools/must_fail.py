@@ -1,0 +1,124 @@
+#!/usr/bin/env python3
+"""Says whether every must-fail edit was refused by a fact, and exits 1 if one was not.
+
+    tools/must_fail.py [FOLDER]   FOLDER: where rt left the edited crates, target/must-fail if none is named
+
+An edit states a wrong answer, so what refuses it must be that the answer is wrong: an equation or an inequality that
+fails, a contract of which no proof is found. Where the edited text is refused for a name out of scope, for its syntax,
+its binders or its arguments, the edit says nothing: a right answer in that text would be refused too. rt counts both
+alike, so this reads what the prover said of each: FOLDER/CRATE/LABEL/.log.
+
+Errors that only follow from another are passed over. Of the others there are
+
+  facts      an edit must have one
+  needs      what an operation asks (a cast, a result that must fit) or a call. An edit with no fact beside its need is
+             refused before the contract is reached: a warning for an operation, whose type may have no number for the
+             wrong answer, and a fault for a call
+  the rest   a fault, whatever stands beside it. The prover has many words for a text that doesn't fit, so those for
+             facts are listed here, and the rest is what is not among them
+"""
+import glob
+import os
+import re
+import sys
+
+ROOT = os.path.join(os.path.dirname(os.path.abspath(__file__)), "..")
+
+# Where an error begins: in a file of the crate, or in a proof that rattle made. It goes on in indented lines.
+BEGINS = re.compile(r"(?:(?P<at>\S+:\d+:\d+): error: (?:`(?P<name>[^`]*)`: )?"
+                    r"|note: (?P<made>\S+:\d+:\d+): (?=it is not proved))(?P<said>.*)")
+FOLLOWS = "was not admitted (it has holes or undetermined implicits, or was rejected)"
+CONTRACT = re.compile(r"it is not proved that what the function ensures holds when it returns")
+FACTS = re.compile("|".join((
+    r"(as printed|computed as far as they go), the two (types|sides) ",
+    r"expected type `",
+    r"`(search|cc)`: no proof of `",
+    r"`omega`: the goal does not follow",
+    r"`(rw|simp)`: no occurrence of the path's left endpoint in the goal",
+    r"give a proof of that as the last argument, `(rw|simp) L t`",
+    r"list the missing equation with its arguments",
+    CONTRACT.pattern)))
+# A type that states nothing, but is that of a value: then the text is what doesn't fit.
+VALUE = re.compile(r"((expected|this has) type|the two types are|\(expected\) and) "
+                   r"`([\w·.]+\.)?(ℕ|ℤ|Bool|List \S+|Type \d)`")
+# The expected type and that found, as far as a first argument with a name.
+ARGUMENT = re.compile(r"expected type `([({]\S+ : )?.*?this has type `([({]\S+ : )?", re.S)
+OPERATION = re.compile(r"`search`: no proof of `\(borrow\.Rule\.|it is not proved that ")
+# What a call asks, searched for in the list of all needs: where an edit adds or takes away one, the list is shifted.
+LISTED = re.compile(r"`search`: no proof of `\S+\.Reads\.Asked ")
+
+
+def errors(folder):
+    """The errors of an edited crate: where, in which declaration, and what was said."""
+    found, last = [], None
+    with open(os.path.join(folder, ".log"), encoding="utf-8", errors="replace") as log:
+        for line in log:
+            begins = BEGINS.match(line)
+            if begins:
+                at = (begins["at"] or begins["made"]).split(folder + "/")[-1]
+                last = [at, begins["name"] or "", begins["said"]]
+                found.append(last)
+            elif last and line.startswith("  "):
+                last[2] += "\n" + line.rstrip()
+            else:
+                last = None
+    return [error for error in found if FOLLOWS not in error[2]]
+
+
+def need_of(folder, at, name):
+    """Whose need a declaration of a proof meets: '' where it is a lemma or a part of the contract."""
+    if name.startswith(("returns", "loop")):
+        return ""
+    with open(os.path.join(folder, at.split(":")[0]), encoding="utf-8") as file:
+        if f"\n{name} : tie.Need-" not in file.read():
+            return ""
+    return "call" if "-requires" in name else "operation"
+
+
+def misfits(said):
+    """Whether a value or a function stands where something else is expected."""
+    begin = None if "the two types differ only where" in said else ARGUMENT.search(said)
+    return bool(VALUE.search(said) or begin and (begin[1] is None) != (begin[2] is None))
+
+
+def kind(folder, at, name, said):
+    first = said.split("\n")[0]
+    if OPERATION.match(first) and not CONTRACT.match(first):
+        return "operation"
+    if not FACTS.match(first) or LISTED.match(first) or misfits(said):
+        return "rest"
+    return need_of(folder, at, name) or "fact"
+
+
+def verdict(folder):
+    """What is to be said of an edit: '' where a fact refuses it, and else what the error is."""
+    kinds = {}
+    for at, name, said in errors(folder):
+        kinds.setdefault(kind(folder, at, name, said), f"{at}: {name}: {said.splitlines()[0][:400]}")
+    if "rest" in kinds:
+        return "FAULT: refused for its text or its list of needs, at " + kinds["rest"]
+    if "fact" in kinds:
+        return ""
+    if "call" in kinds:
+        return "FAULT: refused for what a call asks, at " + kinds["call"]
+    if "operation" in kinds:
+        return "warning: refused for what an operation asks, at " + kinds["operation"]
+    return "FAULT: no error is named"
+
+
+def main(args):
+    if len(args) > 1:
+        sys.exit(__doc__)
+    folder = os.path.abspath(args[0] if args else os.path.join(ROOT, "target", "must-fail"))
+    edits = sorted(os.path.dirname(log) for log in glob.glob(os.path.join(folder, "*", "*", ".log")))
+    verdicts = [(os.path.relpath(edit, folder), verdict(edit)) for edit in edits]
+    for edit, said in verdicts:
+        if said:
+            print(f"must-fail {edit}: {said}")
+    faults = sum(said.startswith("FAULT") for _, said in verdicts)
+    by_fact = sum(not said for _, said in verdicts)
+    print(f"must-fail edits: {len(edits)}, refused by a fact {by_fact}, faults {faults}")
+    sys.exit(1 if faults or not edits else 0)
+
+
+main(sys.argv[1:])
