@@ -5,7 +5,8 @@ walk() { c=$1; f=$2; shift 2; mkdir -p "crates/$c/proofs/$f"; python3 tools/genw
 steps='Rattle.commit_steps.specs.State.{stepOf, begunOf, decidedOf, sealedOf, answeredOf, madeOf}'
 walk commit each --loop 'trio {s} {b0} {b1} ≡ eachOf {i} {es} {dat} {b00} {b10} {st}' --use 'Rattle.commit.specs.Passes.{noEntry, entryAt}' --use "$steps"
 walk commit run --use "$steps"
-walk commit lfs_dir_commit --glue commit-glue --use "$steps" --use 'Rattle.format.specs.Fetch.{fetchOf}'
+walk commit lfs_dir_commit --glue commit-glue --use "$steps" --use 'Rattle.format.specs.Fetch.{fetchOf}' \
+  --use 'Rattle.format.specs.Writer.{unlimited}'
 walk commit lfs_dir_commit_stores --glue stores-glue --use "$steps"
 walk lanolin lanolin_commit --glue commit-glue
 walk lanolin lanolin_commit_stores --glue stores-glue

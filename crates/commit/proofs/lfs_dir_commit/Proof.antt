@@ -54,6 +54,7 @@ use Rattle.commit_steps.specs.State.{trio}
 use Rattle.commit.specs.Passes.{eachOf, ranOf}
 use Rattle.commit_steps.specs.State.{stepOf, begunOf, decidedOf, sealedOf, answeredOf, madeOf}
 use Rattle.format.specs.Fetch.{fetchOf}
+use Rattle.format.specs.Writer.{unlimited}
 use Rattle.commit.proofs.Again.{LentAgain, lends-at, comes-at, LentShared, shares-at, unshared-at}
 use Rattle.commit.proofs.Rules.{commit-glue}
 use Rattle.format.specs.declared.Committed.{Committed}
