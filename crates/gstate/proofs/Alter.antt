@@ -28,7 +28,8 @@ use denote.Triple.Clauses.{Ended}
 use denote.Exit.{yes}
 use Rattle.format.specs.declared.LfsGstate.{LfsGstate}
 use Rattle.format.proofs.LfsGstate.Laws as T′
-use Rattle.gstate.proofs.Lent.{R, state, mach, typed, made, written-out, looks-in, Promise, promised, Core, calls-core, Walk, Stands, stands}
+use Rattle.gstate.proofs.Lent.{R, state, mach, typed, made, written-out, looks-in, Promise, promised}
+use Rattle.gstate.proofs.Lent.{Core, calls-core, Met, Walk, Stands, stands}
 
 -- the parameter that is read. Nothing is said of it at exit, so the walk may let it go
 abbrev read : Slot 2
@@ -59,7 +60,8 @@ module _ (Says : LfsGstate → LfsGstate → LfsGstate → Type 0) (k : Name) wh
   abbrev core : {M : Type 1} (𝓤 : URA M) (H : Heap 𝓤) (A : Atoms 𝓤) → Contract 𝓤
   core 𝓤 H A = Core (state ∷ state ∷ []) R (λ a r. Says (a .0) (a .1 .0) r) 𝓤 H A
 
-  walk : {M : Type 1} (𝓤 : URA M) (H : Heap 𝓤) (A : Atoms 𝓤) (W : Given 𝓤 H A) → Walk ended promise stayed function k 𝓤 H A W (core 𝓤 H A) (λ κs. (ptr-vals, (ptr-vals, tt)))
+  walk : {M : Type 1} (𝓤 : URA M) (H : Heap 𝓤) (A : Atoms 𝓤) (W : Given 𝓤 H A)
+      → Walk ended promise stayed function 𝓤 H A W (Met 𝓤 H k (core 𝓤 H A)) (λ κs. (ptr-vals, (ptr-vals, tt)))
   walk 𝓤 H A W C Λ fm known (κ, (κ′, _)) (q, (q′, _)) bounds (a, (a′, _)) are =
       let b : ℕ = a .ptr .0 in
       let o : ℕ = a .ptr .1 in
@@ -96,8 +98,9 @@ module _ (Says : LfsGstate → LfsGstate → LfsGstate → Type 0) (k : Name) wh
       feqI ! (List Val) (vptr b o ∷ []) (vptr b o ∷ []) refl $ fjoin3 ! $ nothing ! $ nothing ! $ fjoin ! $ move ! (1 ∷ 0 ∷ []) $ fjoin ! $
       feqI ! (List Val) (vunit ∷ []) (vunit ∷ []) refl $ move ! (1 ∷ 0 ∷ []) $ done !))))))))))
 
-  pub alters : {M : Type 1} (𝓤 : URA M) (H : Heap 𝓤) (𝓜 : Model 𝓤 H) (𝓖 : GhostRules 𝓤 H) (𝓡 : Running 𝓤 H 𝓜) → Stands ended promise stayed function k 𝓤 H 𝓜 𝓖 𝓡 (core 𝓤 H (𝓖 .A))
+  pub alters : {M : Type 1} (𝓤 : URA M) (H : Heap 𝓤) (𝓜 : Model 𝓤 H) (𝓖 : GhostRules 𝓤 H) (𝓡 : Running 𝓤 H 𝓜)
+      → Stands ended promise stayed function 𝓤 H 𝓜 𝓖 𝓡 (Met 𝓤 H k (core 𝓤 H (𝓖 .A)))
   alters 𝓤 H 𝓜 𝓖 𝓡 =
-      stands ended promise stayed function k 𝓤 H 𝓜 𝓖 𝓡 (core 𝓤 H (𝓖 .A))
+      stands ended promise stayed function 𝓤 H 𝓜 𝓖 𝓡 (Met 𝓤 H k (core 𝓤 H (𝓖 .A)))
       (goes-ref 𝓤 H (𝓖 .A) (givenOf 𝓤 H 𝓜 𝓖) 2 0 tt state, (goes-dropped 𝓤 H (𝓖 .A) (givenOf 𝓤 H 𝓜 𝓖) 2 read yes (λ κs x f. refl), tt))
       (λ κs. (ptr-vals, (ptr-vals, tt))) (λ κs. (mut-tells (named 0) (κs .0) R, (shr-tells (named 1) (κs .1 .0) R, tt))) (walk 𝓤 H (𝓖 .A) (givenOf 𝓤 H 𝓜 𝓖))

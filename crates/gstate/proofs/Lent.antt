@@ -5,7 +5,9 @@
 --     looks-in             a `&` is looked into
 --     Promise, promised    a contract that asks nothing and ensures one fact of the arguments, the result and the parameters at exit
 --     Core, calls-core     a core's contract, where its parameters are plain data; and a call of it. The operands are read one place further on, behind what the call is handed
---     Walk, stands         a walk of a thin function's MIR, over any tables that have its core; and that the function's own routine then meets its contract
+--     Met                  what is known of a function's callee, in a table of calls: that it meets its contract
+--     Walk, stands         a walk of a thin function's MIR, over any table with what is known of its callees; and that
+--                          the function's own routine then meets its contract
 -- Assumes nothing.
 use Prim.Native.Nat.{ℕ}
 use mathlib.Core.List.{[], _∷_, List}
@@ -121,7 +123,10 @@ module _ (ps : List (Slot 0)) (Res : RattleType) (Says : Denots (typesAt ps tt) 
         peeks t Res (Is Res) (shows 𝓤 H A Res) r (v ∷ []) (λ is. next v r e is))))
 
 -- ---- from a walk to the function's own routine
-module _ (T : Ended) (P : Promise T) (hs : Stays (T .signature .params) (T .kept)) (f : Fn) (k : Name) where
+abbrev pub Met : {M : Type 1} (𝓤 : URA M) (H : Heap 𝓤) → Name → Contract 𝓤 → Calls 𝓤 H → Type 1
+Met 𝓤 H k c C = Triple 𝓤 (C k) c
+
+module _ (T : Ended) (P : Promise T) (hs : Stays (T .signature .params) (T .kept)) (f : Fn) where
   abbrev rows : Lfts (T .signature .lifetimes) → List RattleType
   rows κs = typesAt (T .signature .params) κs
 
@@ -130,21 +135,26 @@ module _ (T : Ended) (P : Promise T) (hs : Stays (T .signature .params) (T .kept
     c = promised 𝓤 T P
 
     -- the parameters' machine values are written out by sp, and their relations are in hand
-    abbrev pub Walk : (W : Given 𝓤 H A) → Contract 𝓤 → ((κs : Lfts (T .signature .lifetimes)) → Spells (rows κs)) → Type 2
-    Walk W core sp = (C : Calls 𝓤 H) (Λ : Loops 𝓤 H) → FmC 𝓤 H (W .laws) C → Triple 𝓤 (C k) core
+    abbrev pub Walk : (W : Given 𝓤 H A) → (Calls 𝓤 H → Type 1)
+        → ((κs : Lfts (T .signature .lifetimes)) → Spells (rows κs)) → Type 2
+    Walk W known sp = (C : Calls 𝓤 H) (Λ : Loops 𝓤 H) → FmC 𝓤 H (W .laws) C → known C
         → (κs : Lfts (T .signature .lifetimes)) (qs : Shares (T .signature .lifetimes)) (bounds : AllOutlive (T .signature .lifetimes) (T .signature .outlives) κs) (a : Args (T .signature) κs)
         → Are (rows κs) (Ises (rows κs)) a (valss (rows κs) (sp κs) a)
         → ent 𝓤 (onEntry 𝓤 H A (T .signature) κs qs a (valss (rows κs) (sp κs) a))
         (WpFn 𝓤 H C Λ f (flat (rows κs) (valss (rows κs) (sp κs) a)) (walkOf 𝓤 H A T hs c .post ((κs, qs, bounds, a, valss (rows κs) (sp κs) a), tt)))
 
-  module _ {M : Type 1} (𝓤 : URA M) (H : Heap 𝓤) (𝓜 : Model 𝓤 H) (𝓖 : GhostRules 𝓤 H) (𝓡 : Running 𝓤 H 𝓜) (core : Contract 𝓤) where
-    -- what a crate has of the function and of its core: the environment and the function's key there, its MIR, and the theorem of what the core's key means there
+  module _ {M : Type 1} (𝓤 : URA M) (H : Heap 𝓤) (𝓜 : Model 𝓤 H) (𝓖 : GhostRules 𝓤 H) (𝓡 : Running 𝓤 H 𝓜)
+      (known : Calls 𝓤 H → Type 1) where
+    -- what a crate has of the function and of what it calls: the environment and the function's key there, its MIR,
+    -- and what is known of the callees there
     abbrev pub Stands : Type 2
-    Stands = (γ : Routines) (self : Name) → Closed 𝓤 H (tables 𝓤 H 𝓜 𝓡 γ .C) (tables 𝓤 H 𝓜 𝓡 γ .Λ) self f → Triple 𝓤 (𝓡 .run (γ k)) core
+    Stands = (γ : Routines) (self : Name) → Closed 𝓤 H (tables 𝓤 H 𝓜 𝓡 γ .C) (tables 𝓤 H 𝓜 𝓡 γ .Λ) self f
+        → known (λ k. 𝓡 .run (γ k))
         → Meets 𝓤 H (𝓖 .A) (T .signature) (𝓡 .run (γ self)) (closing 𝓤 H (𝓖 .A) T (c 𝓤 H (𝓖 .A)))
 
     pub stands : AllGo 𝓤 H (𝓖 .A) (givenOf 𝓤 H 𝓜 𝓖) (T .signature .lifetimes) (T .signature .params) (T .kept) hs → (sp : (κs : Lfts (T .signature .lifetimes)) → Spells (rows κs))
-        → ((κs : Lfts (T .signature .lifetimes)) → Tellss (rows κs) (Ises (rows κs)) (sp κs)) → Walk 𝓤 H (𝓖 .A) (givenOf 𝓤 H 𝓜 𝓖) core sp → Stands
+        → ((κs : Lfts (T .signature .lifetimes)) → Tellss (rows κs) (Ises (rows κs)) (sp κs))
+        → Walk 𝓤 H (𝓖 .A) (givenOf 𝓤 H 𝓜 𝓖) known sp → Stands
     unfolding tablesOf
     stands go sp tells walk γ self closed met =
         let A : Atoms 𝓤 = 𝓖 .A in

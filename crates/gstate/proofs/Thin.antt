@@ -22,10 +22,10 @@ use contract.Running.{Running, GhostRules, givenOf}
 use types.Kit.{Given, ‵, _⊛_, _$_, _∵_, !, qed, move, keep, split, join, fsplit, fsplit3, fjoin, suffices, frame, done}
 use types.Run.{look, look-raw, init, forget, stop, hop, from, load, of-opd, and-then, no-more, assigns, land, returns, enter, alloc1, alloc0, params1, pass1, pass0, free1, free0}
 use denote.RattleType.{RattleType, owns}
-use denote.Laws.{Is, Typed, Lawful}
+use denote.Laws.{Is, Typed, Makes, Lawful}
 use denote.Memory.{pointee}
 use denote.Builtin.{RefOf, bool, u32}
-use denote.Plain.{UInt, uint-vals, uint-tells, uint-makes, bool-lawful, uint-lawful}
+use denote.Plain.{UInt, uint-vals, uint-tells, uint-makes, bool-makes, bool-lawful, uint-lawful}
 use denote.Ref.{RefT, ShrRef, now, ptr-vals, shr-tells}
 use denote.Signature.{Slot, plain}
 use denote.Steps.{shuts, nothing}
@@ -35,32 +35,48 @@ use denote.Triple.Clauses.{Ended}
 use denote.Exit.{yes}
 use Rattle.format.specs.declared.LfsGstate.{LfsGstate}
 use Rattle.format.proofs.LfsGstate.Laws as T′
-use Rattle.gstate.proofs.Lent.{R, state, mach, typed, made, looks-in, Promise, promised, Core, calls-core, Walk, Stands, stands}
+use Rattle.gstate.proofs.Lent.{R, state, mach, typed, made, looks-in, Promise, promised}
+use Rattle.gstate.proofs.Lent.{Core, calls-core, Met, Walk, Stands, stands}
 
 pub record Answer : Type 2 where
   pub row : RattleType
   pub ty : Ty
   pub one : row .mir ≡ ty ∷ []
   pub lawful : {M : Type 1} (𝓤 : URA M) (H : Heap 𝓤) (A : Atoms 𝓤) → Given 𝓤 H A → Lawful 𝓤 H A row
+  pub makes : {M : Type 1} (𝓤 : URA M) (H : Heap 𝓤) (A : Atoms 𝓤) → Given 𝓤 H A → Makes 𝓤 H A row (Is row)
 
 abbrev pub truth : Answer
-truth = record { row = bool; ty = tyBool; one = refl; lawful = λ 𝓤 H A W. bool-lawful 𝓤 H A W }
+truth = record {
+  row = bool;
+  ty = tyBool;
+  one = refl;
+  lawful = λ 𝓤 H A W. bool-lawful 𝓤 H A W;
+  makes = λ 𝓤 H A W. bool-makes 𝓤 H A W;
+}
 
 abbrev pub number : Width → Answer
-number w = record { row = UInt w; ty = tyInt w; one = refl; lawful = λ 𝓤 H A W. uint-lawful 𝓤 H A W w }
+number w = record {
+  row = UInt w;
+  ty = tyInt w;
+  one = refl;
+  lawful = λ 𝓤 H A W. uint-lawful 𝓤 H A W w;
+  makes = λ 𝓤 H A W. uint-makes 𝓤 H A W w;
+}
 
-answer-typed : (Ans : Answer) {M : Type 1} {𝓤 : URA M} {H : Heap 𝓤} {A : Atoms 𝓤} → Given 𝓤 H A → (r : Ans .row .Denot) (v : Val) → Is (Ans .row) r (v ∷ []) → Holds (hasTy (Ans .ty) v) × WT v
+pub answer-typed : (Ans : Answer) {M : Type 1} {𝓤 : URA M} {H : Heap 𝓤} {A : Atoms 𝓤} → Given 𝓤 H A
+    → (r : Ans .row .Denot) (v : Val) → Is (Ans .row) r (v ∷ []) → Holds (hasTy (Ans .ty) v) × WT v
 answer-typed Ans {M} {𝓤} {H} {A} W r v is = subst (λ (τs : List Ty). Typed τs (v ∷ [])) (Ans .one) (Ans .lawful 𝓤 H A W .typed r _ is) .0
 
 -- the parameter that is lent. Nothing is said of it at exit, so a walk may let it go
-abbrev lent : Slot 1
+abbrev pub lent : Slot 1
 lent = RefOf (0 ∷ []) tt state (λ _. tt)
 
 -- a parameter that is a number, beside it
-abbrev word : {n : ℕ} → Slot n
+abbrev pub word : {n : ℕ} → Slot n
 word = plain (λ _. u32)
 
-word-typed : {M : Type 1} {𝓤 : URA M} {H : Heap 𝓤} {A : Atoms 𝓤} → Given 𝓤 H A → (n : ℕ) (v : Val) → Is u32 n (v ∷ []) → Holds (hasTy (tyInt w32) v) × WT v
+pub word-typed : {M : Type 1} {𝓤 : URA M} {H : Heap 𝓤} {A : Atoms 𝓤} → Given 𝓤 H A
+    → (n : ℕ) (v : Val) → Is u32 n (v ∷ []) → Holds (hasTy (tyInt w32) v) × WT v
 word-typed = answer-typed (number w32)
 
 -- ---- fn f(a: &LfsGstate) -> T { core(*a) }
@@ -86,7 +102,8 @@ module _ (Ans : Answer) (Says : LfsGstate → Ans .row .Denot → Type 0) (k : N
   abbrev core : {M : Type 1} (𝓤 : URA M) (H : Heap 𝓤) (A : Atoms 𝓤) → Contract 𝓤
   core 𝓤 H A = Core (state ∷ []) (Ans .row) (λ a r. Says (a .0) r) 𝓤 H A
 
-  walk : {M : Type 1} (𝓤 : URA M) (H : Heap 𝓤) (A : Atoms 𝓤) (W : Given 𝓤 H A) → Walk ended promise stayed function k 𝓤 H A W (core 𝓤 H A) (λ κs. (ptr-vals, tt))
+  walk : {M : Type 1} (𝓤 : URA M) (H : Heap 𝓤) (A : Atoms 𝓤) (W : Given 𝓤 H A)
+      → Walk ended promise stayed function 𝓤 H A W (Met 𝓤 H k (core 𝓤 H A)) (λ κs. (ptr-vals, tt))
   walk 𝓤 H A W C Λ fm known (κ, _) (q, _) bounds (a, _) are =
       let b : ℕ = a .ptr .0 in
       let o : ℕ = a .ptr .1 in
@@ -109,9 +126,10 @@ module _ (Ans : Answer) (Says : LfsGstate → Ans .row .Denot → Type 0) (k : N
       suffices ! _ (ends-at 𝓤 H A ended stayed (promised 𝓤 ended promise) W (((κ, tt), (q, tt), tt, (a, tt), (vptr b o ∷ [], tt)), tt) v r (tt, tt) (tt, tt)) $ says ! e $
       keep ! (1 ∷ 0 ∷ []) $ nothing ! $ move ! (1 ∷ 0 ∷ []) $ join ! $ frame ! $ nothing ! $ nothing ! $ fjoin ! $ frame ! $ done !)))))
 
-  pub reads : {M : Type 1} (𝓤 : URA M) (H : Heap 𝓤) (𝓜 : Model 𝓤 H) (𝓖 : GhostRules 𝓤 H) (𝓡 : Running 𝓤 H 𝓜) → Stands ended promise stayed function k 𝓤 H 𝓜 𝓖 𝓡 (core 𝓤 H (𝓖 .A))
+  pub reads : {M : Type 1} (𝓤 : URA M) (H : Heap 𝓤) (𝓜 : Model 𝓤 H) (𝓖 : GhostRules 𝓤 H) (𝓡 : Running 𝓤 H 𝓜)
+      → Stands ended promise stayed function 𝓤 H 𝓜 𝓖 𝓡 (Met 𝓤 H k (core 𝓤 H (𝓖 .A)))
   reads 𝓤 H 𝓜 𝓖 𝓡 =
-      stands ended promise stayed function k 𝓤 H 𝓜 𝓖 𝓡 (core 𝓤 H (𝓖 .A))
+      stands ended promise stayed function 𝓤 H 𝓜 𝓖 𝓡 (Met 𝓤 H k (core 𝓤 H (𝓖 .A)))
       (goes-dropped 𝓤 H (𝓖 .A) (givenOf 𝓤 H 𝓜 𝓖) 1 lent yes (λ κs x f. refl), tt)
       (λ κs. (ptr-vals, tt)) (λ κs. (shr-tells (named 0) (κs .0) R, tt)) (walk 𝓤 H (𝓖 .A) (givenOf 𝓤 H 𝓜 𝓖))
 
@@ -138,7 +156,9 @@ module _ (Ans : Answer) (Says : LfsGstate → ℕ → ℕ → Ans .row .Denot �
   abbrev pair-core : {M : Type 1} (𝓤 : URA M) (H : Heap 𝓤) (A : Atoms 𝓤) → Contract 𝓤
   pair-core 𝓤 H A = Core (state ∷ word ∷ word ∷ []) (Ans .row) (λ a r. Says (a .0) (a .1 .0) (a .1 .1 .0) r) 𝓤 H A
 
-  pair-walk : {M : Type 1} (𝓤 : URA M) (H : Heap 𝓤) (A : Atoms 𝓤) (W : Given 𝓤 H A) → Walk pair-ended pair-promise pair-stayed pair-function k 𝓤 H A W (pair-core 𝓤 H A) (λ κs. (ptr-vals, (uint-vals w32, (uint-vals w32, tt))))
+  pair-walk : {M : Type 1} (𝓤 : URA M) (H : Heap 𝓤) (A : Atoms 𝓤) (W : Given 𝓤 H A)
+      → Walk pair-ended pair-promise pair-stayed pair-function 𝓤 H A W (Met 𝓤 H k (pair-core 𝓤 H A))
+      (λ κs. (ptr-vals, (uint-vals w32, (uint-vals w32, tt))))
   pair-walk 𝓤 H A W C Λ fm known (κ, _) (q, _) bounds (a, (m, (n, _))) (_, (gm, (gn, _))) =
       let b : ℕ = a .ptr .0 in
       let o : ℕ = a .ptr .1 in
@@ -165,9 +185,10 @@ module _ (Ans : Answer) (Says : LfsGstate → ℕ → ℕ → Ans .row .Denot �
       suffices ! _ (ends-at 𝓤 H A pair-ended pair-stayed (promised 𝓤 pair-ended pair-promise) W (((κ, tt), (q, tt), tt, x, at), tt) v r (tt, (tt, (tt, tt))) (tt, (tt, (tt, tt)))) $ says ! e $
       keep ! (1 ∷ 0 ∷ []) $ nothing ! $ move ! (1 ∷ 0 ∷ []) $ join ! $ frame ! $ nothing ! $ nothing ! $ fjoin ! $ nothing ! $ fjoin ! $ nothing ! $ fjoin ! $ frame ! $ done !)))))))
 
-  pub reads-pair : {M : Type 1} (𝓤 : URA M) (H : Heap 𝓤) (𝓜 : Model 𝓤 H) (𝓖 : GhostRules 𝓤 H) (𝓡 : Running 𝓤 H 𝓜) → Stands pair-ended pair-promise pair-stayed pair-function k 𝓤 H 𝓜 𝓖 𝓡 (pair-core 𝓤 H (𝓖 .A))
+  pub reads-pair : {M : Type 1} (𝓤 : URA M) (H : Heap 𝓤) (𝓜 : Model 𝓤 H) (𝓖 : GhostRules 𝓤 H) (𝓡 : Running 𝓤 H 𝓜)
+      → Stands pair-ended pair-promise pair-stayed pair-function 𝓤 H 𝓜 𝓖 𝓡 (Met 𝓤 H k (pair-core 𝓤 H (𝓖 .A)))
   reads-pair 𝓤 H 𝓜 𝓖 𝓡 =
       let goes = goes-dropped 𝓤 H (𝓖 .A) (givenOf 𝓤 H 𝓜 𝓖) 1 in
-      stands pair-ended pair-promise pair-stayed pair-function k 𝓤 H 𝓜 𝓖 𝓡 (pair-core 𝓤 H (𝓖 .A))
+      stands pair-ended pair-promise pair-stayed pair-function 𝓤 H 𝓜 𝓖 𝓡 (Met 𝓤 H k (pair-core 𝓤 H (𝓖 .A)))
       (goes lent yes (λ κs x f. refl), (goes word yes (λ κs x f. refl), (goes word yes (λ κs x f. refl), tt)))
       (λ κs. (ptr-vals, (uint-vals w32, (uint-vals w32, tt)))) (λ κs. (shr-tells (named 0) (κs .0) R, (uint-tells w32, (uint-tells w32, tt)))) (pair-walk 𝓤 H (𝓖 .A) (givenOf 𝓤 H 𝓜 𝓖))

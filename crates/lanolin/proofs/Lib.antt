@@ -1,2 +1,3 @@
 -- The laws that the walks cite.
+pub mod Handed
 pub mod Rules

@@ -90,34 +90,7 @@ pub extern "C" fn lanolin_getinfo(
     info_out(lookup::lfs_dir_getinfo(g, b0, b1, n0, n1, dir, gdisk, name_max, id))
 }
 
-// The number and the state that lanolin_getgstate leaves.
-pub struct StateOut {
-    pub answer: i32,
-    pub gstate: LfsGstate,
-}
-
-fn getgstate_word(
-    g: Geometry,
-    b0: &[u8],
-    b1: &[u8],
-    n0: u32,
-    n1: u32,
-    dir: LfsMdir,
-    gdisk: LfsGstate,
-    gstate: LfsGstate,
-) -> StateOut
-    ensures { λ r. ⌜ (r .answer ≡ alteredResult (getgstateOf g (now (b0 .entry)) (now (b1 .entry)) n0 n1 dir gdisk)) × (r .gstate ≡ getgstateState g (now (b0 .entry)) (now (b1 .entry)) n0 n1 dir gdisk gstate) ⌝ }
-{
-    let got = lookup::getgstate_of(g, b0, b1, n0, n1, dir, gdisk, gstate);
-    let answer = got.answer;
-    let after = got.gstate;
-    StateOut {
-        answer: altered_out(answer),
-        gstate: after,
-    }
-}
-
-// The state is altered where it stands.
+// The state is handed on, and altered where it stands.
 #[no_mangle]
 pub extern "C" fn lanolin_getgstate(
     g: Geometry,
@@ -131,7 +104,5 @@ pub extern "C" fn lanolin_getgstate(
 ) -> i32
     ensures { λ r. ⌜ (r ≡ alteredResult (getgstateOf g (now (b0 .entry)) (now (b1 .entry)) n0 n1 dir gdisk)) × (now (gstate .exit) ≡ getgstateState g (now (b0 .entry)) (now (b1 .entry)) n0 n1 dir gdisk (now (gstate .entry))) ⌝ }
 {
-    let r = getgstate_word(g, b0, b1, n0, n1, dir, gdisk, *gstate);
-    *gstate = r.gstate;
-    r.answer
+    altered_out(lookup::lfs_dir_getgstate(g, b0, b1, n0, n1, dir, gdisk, gstate))
 }

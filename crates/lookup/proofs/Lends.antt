@@ -1,7 +1,8 @@
 -- The law of thin functions that look a pair up and alter a lent state where it stands:
 --     fn f(g: Geometry, b0: &[u8], b1: &[u8], n0: u32, n1: u32, dir: LfsMdir, gdisk: LfsGstate, gstate: &mut LfsGstate) -> T
 --     { let r = core(g, b0, b1, n0, n1, dir, gdisk, *gstate); *gstate = r.gstate; r.answer }
--- over a core by value that answers a struct of the answer and the state. `Answer` is the type T, as a result and as the struct's first field (`number`, an i32; an enum's is made of its module, as `lfs_dir_getgstate/Proof.antt` does),
+-- over a core by value that answers a struct of the answer and the state. `Answer` is the type T, as a
+-- result and as the struct's first field (`lfs_dir_getgstate/Proof.antt` has it for the enum),
 -- `Pairing` the struct. `lends` is one walk of the MIR: the state's borrow is opened and the state copied out, the core called, what it answers taken apart, the state stored and the borrow closed at it.
 -- What the core promises of its arguments, the answer and the state, f promises of its own at entry, its result and the state at exit.
 -- Assumes nothing.
@@ -20,21 +21,21 @@ use prog.Wp.{Heap}
 use prog.Model.{Model}
 use ghost.Atoms.{Atoms, sem}
 use contract.Monad.{fact}
+use contract.Lifetimes.{Lfts}
 use contract.Running.{Running, GhostRules, givenOf}
 use types.Kit.{Given, ‵, raw, _⊛_, some, later, _$_, _∵_, !, qed, move, keep, drop, use1, use3, split, join, pick, rewrite, fsplit, fsplit3, fjoin, fjoin3, feqI, suffices, frame, await, done}
 use types.Part.{whole, sub, look-in}
 use types.Run.{look, look-raw, store-raw, init, forget, stop, hop, fld, from, load, of-opd, and-then, no-more, assigns, land, returns, enter, alloc1, alloc0, params1, pass1, pass0, free1, free0}
 use denote.RattleType.{RattleType, Denots, owns}
-use denote.Laws.{Is, Typed, Makes, shows}
+use denote.Laws.{Is, Ises, Typed, Makes, Spells, Tellss, shows}
 use denote.Memory.{pointee}
-use denote.Builtin.{RefMutOf, SliceRefOf, u8, u32, i32}
+use denote.Builtin.{RefMutOf, SliceRefOf, u8, u32}
 use denote.Plain.{uint-vals, uint-tells, uint-makes, uint-lawful}
-use denote.Signed.{sint-makes}
 use denote.Ref.{RefT, MutRef, now, ptr-vals, mut-tells}
 use denote.Slice.{sliceVal, sliceTy, ShrSlice, slice-vals, shr-slice-tells}
-use denote.Signature.{Slot, plain}
+use denote.Signature.{Slot, plain, typesAt}
 use denote.Steps.{only, opens, closes, owned, peeks, heard, nothing}
-use denote.Struct.Field.{Field, rows, i32-field}
+use denote.Struct.Field.{Field, rows}
 use denote.Struct.Declared.{Declared, row as declared-row}
 use denote.Struct.Struct.{toTys}
 use denote.Struct.Laws as LL
@@ -53,7 +54,7 @@ use Rattle.format.proofs.LfsMdir as Dir
 use Rattle.format.proofs.LfsMdir.Laws as Dir′
 use Rattle.format.proofs.LfsGstate as T
 use Rattle.format.proofs.LfsGstate.Laws as T′
-use Rattle.gstate.proofs.Lent.{R, state, mach, typed, made, written-out, Promise, promised, Walk, Stands, stands}
+use Rattle.gstate.proofs.Lent.{R, state, mach, typed, made, written-out, Promise, promised, Met, Walk, Stands, stands}
 
 -- ---- the answer, as a result and as a field
 pub record Answer : Type 2 where
@@ -65,10 +66,6 @@ pub record Answer : Type 2 where
   pub told : part .Value → row .Denot
   pub same : (x : part .Value) (vs : List Val) → Is (part .row) (part .into x) vs → Is row (told x) vs
   pub makes : {M : Type 1} (𝓤 : URA M) (H : Heap 𝓤) (A : Atoms 𝓤) → Given 𝓤 H A → Makes 𝓤 H A row (Is row)
-
--- what an exported function answers
-abbrev pub number : Answer
-number = record { row = i32; ty = tyInt w32; part = i32-field; laws = LL.i32-laws; one = refl; told = λ x. x; same = λ x vs p. p; makes = λ 𝓤 H A W. sint-makes 𝓤 H A W w32 }
 
 -- ---- the struct that the core answers
 pub record Pairing (Ans : Answer) : Type 2 where
@@ -111,6 +108,47 @@ word = plain (λ _. u32)
 abbrev bytes : {n : ℕ} → Slot n
 bytes = plain (λ _. u8)
 
+abbrev pub params : List (Slot 3)
+params = geometry ∷ SliceRefOf (0 ∷ []) tt bytes (λ _. tt) ∷ SliceRefOf (1 ∷ []) tt bytes (λ _. tt) ∷ word ∷ word
+    ∷ mdir ∷ state ∷ RefMutOf (2 ∷ []) tt state (λ _. tt) ∷ []
+
+-- their machine values, as their types tell them
+abbrev pub spelled : (κs : Lfts 3) → Spells (typesAt params κs)
+spelled κs = (
+  LL.vals Geo.the-type Geo′.the-laws,
+  (
+    slice-vals,
+    (
+      slice-vals,
+      (
+        uint-vals w32,
+        (uint-vals w32, (LL.vals Dir.the-type Dir′.the-laws, (LL.vals T.the-type T′.the-laws, (ptr-vals, tt)))),
+      ),
+    ),
+  ),
+)
+
+pub tells : (κs : Lfts 3) → Tellss (typesAt params κs) (Ises (typesAt params κs)) (spelled κs)
+tells κs = (
+  LL.tells Geo.the-type Geo′.the-laws,
+  (
+    shr-slice-tells (named 0) (κs .0) u8,
+    (
+      shr-slice-tells (named 1) (κs .1 .0) u8,
+      (
+        uint-tells w32,
+        (
+          uint-tells w32,
+          (
+            LL.tells Dir.the-type Dir′.the-laws,
+            (LL.tells T.the-type T′.the-laws, (mut-tells (named 2) (κs .1 .1 .0) R, tt)),
+          ),
+        ),
+      ),
+    ),
+  ),
+)
+
 module _ (Ans : Answer) (P : Pairing Ans)
     (Says : Geometry → List ℕ → List ℕ → ℕ → ℕ → LfsMdir → LfsGstate → LfsGstate → Ans .row .Denot → LfsGstate → Type 0) (k : Name) where
   -- f
@@ -119,7 +157,7 @@ module _ (Ans : Answer) (P : Pairing Ans)
     signature = record {
       lifetimes = 3;
       outlives = [];
-      params = geometry ∷ SliceRefOf (0 ∷ []) tt bytes (λ _. tt) ∷ SliceRefOf (1 ∷ []) tt bytes (λ _. tt) ∷ word ∷ word ∷ mdir ∷ state ∷ RefMutOf (2 ∷ []) tt state (λ _. tt) ∷ [];
+      params = params;
       result = plain (λ _. Ans .row);
     };
     kept = (yes, (yes, (yes, (yes, (yes, (yes, (yes, (yes, tt))))))));
@@ -247,8 +285,8 @@ module _ (Ans : Answer) (P : Pairing Ans)
             move ! (3 ∷ 0 ∷ []) $ fjoin ! $ move ! (2 ∷ 0 ∷ []) $ fjoin ! $ owned ! Geo.the-row (Is Geo.the-row) (LL.makes Geo.the-type Geo′.the-plain 𝓤 H A) g _ gg $ fjoin ! $
             move ! (1 ∷ 0 ∷ []) $ join ! $ frame ! $ done !
 
-  walk : {M : Type 1} (𝓤 : URA M) (H : Heap 𝓤) (A : Atoms 𝓤) (W : Given 𝓤 H A) → Walk ended promise stayed function k 𝓤 H A W (Core 𝓤 H A)
-      (λ κs. (LL.vals Geo.the-type Geo′.the-laws, (slice-vals, (slice-vals, (uint-vals w32, (uint-vals w32, (LL.vals Dir.the-type Dir′.the-laws, (LL.vals T.the-type T′.the-laws, (ptr-vals, tt)))))))))
+  walk : {M : Type 1} (𝓤 : URA M) (H : Heap 𝓤) (A : Atoms 𝓤) (W : Given 𝓤 H A)
+      → Walk ended promise stayed function 𝓤 H A W (Met 𝓤 H k (Core 𝓤 H A)) spelled
   walk 𝓤 H A W C Λ fm known (κ₀, (κ₁, (κ₂, _))) (q₀, (q₁, (q₂, _))) bounds (g, (x₀, (x₁, (n0, (n1, (dir, (gdisk, (y, _)))))))) (gg, (g₀, (g₁, (gn0, (gn1, (gdir, (ggd, _))))))) =
       let b : ℕ = y .ptr .0 in
       let o : ℕ = y .ptr .1 in
@@ -295,10 +333,11 @@ module _ (Ans : Answer) (P : Pairing Ans)
       feqI ! (List Val) (vptr b o ∷ []) (vptr b o ∷ []) refl $ fjoin3 ! $ nothing ! $ move ! (1 ∷ 0 ∷ []) $ fjoin ! $ nothing ! $ fjoin ! $ nothing ! $ fjoin ! $ nothing ! $ fjoin ! $ nothing ! $ fjoin ! $ nothing ! $ fjoin ! $ nothing ! $ fjoin ! $ nothing ! $ fjoin ! $ frame ! $
       owned ! (Ans .row) (Is (Ans .row)) (Ans .makes 𝓤 H A W) (Ans .told (P .answer r)) _ (Ans .same (P .answer r) _ (LL.owed (type Ans P) (laws-of Ans P) r _ is .0)) $ done !)))))))))))))))))
 
-  pub lends : {M : Type 1} (𝓤 : URA M) (H : Heap 𝓤) (𝓜 : Model 𝓤 H) (𝓖 : GhostRules 𝓤 H) (𝓡 : Running 𝓤 H 𝓜) → Stands ended promise stayed function k 𝓤 H 𝓜 𝓖 𝓡 (Core 𝓤 H (𝓖 .A))
+  pub lends : {M : Type 1} (𝓤 : URA M) (H : Heap 𝓤) (𝓜 : Model 𝓤 H) (𝓖 : GhostRules 𝓤 H) (𝓡 : Running 𝓤 H 𝓜)
+      → Stands ended promise stayed function 𝓤 H 𝓜 𝓖 𝓡 (Met 𝓤 H k (Core 𝓤 H (𝓖 .A)))
   lends 𝓤 H 𝓜 𝓖 𝓡 =
       let goes = goes-dropped 𝓤 H (𝓖 .A) (givenOf 𝓤 H 𝓜 𝓖) 3 in
-      stands ended promise stayed function k 𝓤 H 𝓜 𝓖 𝓡 (Core 𝓤 H (𝓖 .A)) (
+      stands ended promise stayed function 𝓤 H 𝓜 𝓖 𝓡 (Met 𝓤 H k (Core 𝓤 H (𝓖 .A))) (
         goes geometry yes (λ κs x f. refl),
         (
           goes (SliceRefOf (0 ∷ []) tt bytes (λ _. tt)) yes (λ κs x f. refl),
@@ -314,6 +353,4 @@ module _ (Ans : Answer) (P : Pairing Ans)
           ),
         ),
       )
-      (λ κs. (LL.vals Geo.the-type Geo′.the-laws, (slice-vals, (slice-vals, (uint-vals w32, (uint-vals w32, (LL.vals Dir.the-type Dir′.the-laws, (LL.vals T.the-type T′.the-laws, (ptr-vals, tt)))))))))
-      (λ κs. (LL.tells Geo.the-type Geo′.the-laws, (shr-slice-tells (named 0) (κs .0) u8, (shr-slice-tells (named 1) (κs .1 .0) u8, (uint-tells w32, (uint-tells w32, (LL.tells Dir.the-type Dir′.the-laws, (LL.tells T.the-type T′.the-laws, (mut-tells (named 2) (κs .1 .1 .0) R, tt)))))))))
-      (walk 𝓤 H (𝓖 .A) (givenOf 𝓤 H 𝓜 𝓖))
+      spelled tells (walk 𝓤 H (𝓖 .A) (givenOf 𝓤 H 𝓜 𝓖))

@@ -1,11 +1,14 @@
--- `lanolin::global::lanolin_gstate_iszero` meets its contract: a thin reader over `is_zero_word` (gstate's `Thin.antt`). Assumes nothing.
-use mathlib.Core.Path.{_≡_}
+-- `lanolin::global::lanolin_gstate_iszero` meets its contract: it hands the state on to
+-- `gstate::lfs_gstate_iszero`, and its answer to `flag` (`Handed.antt`). Assumes nothing.
 use mir.Syntax.{w32}
 use Rattle.format.specs.Answer.{flagOf}
 use Rattle.format.specs.Gstate.{gstateZero}
-use Rattle.gstate.proofs.Thin.{number, reads}
-use Rattle.lanolin.proofs.global.is_zero_word.Symbol.{name as #core}
-use Rattle.lanolin.proofs.global.is_zero_word.Met as core-thm
+use Rattle.gstate.proofs.Thin.{truth, number}
+use Rattle.gstate.proofs.lfs_gstate_iszero.Symbol.{name as #call}
+use Rattle.gstate.proofs.lfs_gstate_iszero.Met as call-thm
+use Rattle.lanolin_answers.proofs.flag.Symbol.{name as #turn}
+use Rattle.lanolin_answers.proofs.flag.Met as turn-thm
+use Rattle.lanolin.proofs.Handed.{reads}
 use Rattle.lanolin.proofs.global.lanolin_gstate_iszero.Key.{name as #self}
 use Rattle.lanolin.proofs.global.lanolin_gstate_iszero.Statement.{statement}
 use Rattle.lanolin.proofs.global.lanolin_gstate_iszero.Code as code
@@ -13,5 +16,5 @@ use Rattle.lanolin.proofs.global.lanolin_gstate_iszero.Code as code
 pub lanolin-gstate-iszero-spec : {M : Type 1} → statement M
 unfolding code.routine
 lanolin-gstate-iszero-spec 𝓤 H 𝓜 𝓖 𝓡 =
-    reads (number w32) (λ a r. r ≡ flagOf (gstateZero a)) #core 𝓤 H 𝓜 𝓖 𝓡
-    code.env #self (code.unfolded 𝓤 H 𝓜 𝓡) (core-thm.met 𝓤 H 𝓜 𝓖 𝓡)
+    reads truth (number w32) gstateZero flagOf #call #turn 𝓤 H 𝓜 𝓖 𝓡
+    code.env #self (code.unfolded 𝓤 H 𝓜 𝓡) (call-thm.met 𝓤 H 𝓜 𝓖 𝓡, turn-thm.met 𝓤 H 𝓜 𝓖 𝓡)
