@@ -24,7 +24,8 @@ def written(walk, uses=()):
 def head():
     """What the steps of any walk may use."""
     with open(os.path.join(os.path.dirname(os.path.abspath(__file__)), "head.txt"), encoding="utf-8") as file:
-        return file.read().splitlines()
+        lines = re.sub(r"\n +", " ", file.read()).splitlines()
+    return [line for line in lines if not line.startswith("--")]
 
 
 def library(walk, crate, side):
