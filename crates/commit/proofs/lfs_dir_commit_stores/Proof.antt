@@ -40,8 +40,8 @@ use denote.Triple.Entry.{onEntry}
 use denote.Triple.Spec.{Meets, tripleOf}
 use denote.Triple.Table.{entered, cited}
 use denote.Triple.Walked.{says, Stays, stay-none, stay-none-slice, stay-slice, walkOf, Walks, ends-at, walked, goes-none, goes-none-slice, goes-slice, walk-meets}
-use Rattle.format.specs.Writer.{commitImages, commitStoresOf}
-use Rattle.format.specs.Stopped.{CommitStopped}
+use Rattle.format.specs.Writer.{commitStoresOf}
+use Rattle.format.specs.Stopped.{CommitStoresLeaves}
 use Rattle.commit_steps.specs.State.{trio}
 use Rattle.commit.specs.Passes.{ranOf}
 use Rattle.commit_steps.specs.State.{madeOf}
@@ -77,7 +77,7 @@ use Rattle.commit.proofs.lfs_dir_commit_stores.Code.Mir.{t-1, t-6, t-7}
 --   pub stores-glue : (xs-b0 : List ℕ) (xs-b1 : List ℕ) (xs-entries : List Entry) (xs-dat : List ℕ) (x-g : Geometry) (x-n0 : ℕ) (x-n1 : ℕ) (x-blockcount : ℕ) (x-seed : ℕ) (x-stores : ℕ) (r0 : State) (y0b0 : List ℕ) (y0b1 : List ℕ) (r1 : Stored)
 --       → trio r0 y0b0 y0b1 ≡ ranOf x-g xs-b0 xs-b1 x-n0 x-n1 x-blockcount x-seed xs-entries xs-dat x-stores
 --       → r1 ≡ madeOf r0 x-stores
---       → (r1 ≡ commitStoresOf x-g xs-b0 xs-b1 x-n0 x-n1 x-blockcount x-seed xs-entries xs-dat x-stores) × (y0b0 ≡ commitImages x-g xs-b0 xs-b1 x-n0 x-n1 x-blockcount x-seed xs-entries xs-dat x-stores .b0) × (y0b1 ≡ commitImages x-g xs-b0 xs-b1 x-n0 x-n1 x-blockcount x-seed xs-entries xs-dat x-stores .b1) × CommitStopped x-g x-n0 x-n1 x-blockcount x-seed xs-b0 xs-b1 xs-entries xs-dat y0b0 y0b1
+--       → (r1 ≡ commitStoresOf x-g xs-b0 xs-b1 x-n0 x-n1 x-blockcount x-seed xs-entries xs-dat x-stores) × CommitStoresLeaves x-g xs-b0 xs-b1 x-n0 x-n1 x-blockcount x-seed xs-entries xs-dat x-stores y0b0 y0b1
 
 abbrev mach-Entry : Entry → Val
 mach-Entry h = LL.tuple-val Entry-ty.the-type Entry-laws.the-laws (Entry-ty.the-type .to h)
@@ -196,7 +196,7 @@ module _ {M : Type 1} (𝓤 : URA M) (H : Heap 𝓤) (A : Atoms 𝓤) (W : Given
         qed W ((‵ (flft κ-b0 q-b0) ⊛ ‵ (flft κ-b1 q-b1) ⊛ ‵ (flft κ-entries q-entries) ⊛ ‵ (flft κ-dat q-dat) ⊛ ‵ ftrue) ∷ ‵ (owns (Geometry-ty.the-row ∷ MutSlice (named 0) κ-b0 u8 ∷ MutSlice (named 1) κ-b1 u8 ∷ u32 ∷ u32 ∷ u32 ∷ u32 ∷ ShrSlice (named 2) κ-entries Entry-ty.the-row ∷ ShrSlice (named 3) κ-dat u8 ∷ u32 ∷ []) x at) ∷ []) ∵ move ! (1 ∷ []) $ fsplit ! $ move ! (1 ∷ []) $ fsplit ! $ move ! (1 ∷ []) $ fsplit ! $ move ! (1 ∷ []) $ fsplit ! $ move ! (1 ∷ []) $ fsplit ! $ move ! (1 ∷ []) $ fsplit ! $ move ! (1 ∷ []) $ fsplit ! $ move ! (1 ∷ []) $ fsplit ! $ move ! (1 ∷ []) $ fsplit ! $ move ! (1 ∷ []) $ fsplit ! $ move ! (11 ∷ []) $ split ! $ move ! (1 ∷ []) $ split ! $ move ! (1 ∷ []) $ split ! $ move ! (1 ∷ []) $ split ! $ keep ! (14 ∷ 13 ∷ 8 ∷ 7 ∷ 4 ∷ 3 ∷ 2 ∷ 0 ∷ []) $ by ! next
 
     module _ (g-g : Is Geometry-ty.the-row x-g (v-g ∷ [])) (g-b0 : Room u8 (length xs-b0)) (g-b1 : Room u8 (length xs-b1)) (g-n0 : Is u32 x-n0 (v-n0 ∷ [])) (g-n1 : Is u32 x-n1 (v-n1 ∷ [])) (g-blockcount : Is u32 x-blockcount (v-blockcount ∷ [])) (g-seed : Is u32 x-seed (v-seed ∷ [])) (g-entries : Room Entry-ty.the-row (length xs-entries)) (g-dat : Room u8 (length xs-dat)) (g-stores : Is u32 x-stores (v-stores ∷ [])) where
-      exits : (r : Stored) (v : Val) (z-b0 z-b1 : List ℕ) → length z-b0 ≡ length xs-b0 → length z-b1 ≡ length xs-b1 → Is Stored-ty.the-row r (v ∷ []) → (r ≡ commitStoresOf x-g xs-b0 xs-b1 x-n0 x-n1 x-blockcount x-seed xs-entries xs-dat x-stores) × (z-b0 ≡ commitImages x-g xs-b0 xs-b1 x-n0 x-n1 x-blockcount x-seed xs-entries xs-dat x-stores .b0) × (z-b1 ≡ commitImages x-g xs-b0 xs-b1 x-n0 x-n1 x-blockcount x-seed xs-entries xs-dat x-stores .b1) × CommitStopped x-g x-n0 x-n1 x-blockcount x-seed xs-b0 xs-b1 xs-entries xs-dat z-b0 z-b1
+      exits : (r : Stored) (v : Val) (z-b0 z-b1 : List ℕ) → length z-b0 ≡ length xs-b0 → length z-b1 ≡ length xs-b1 → Is Stored-ty.the-row r (v ∷ []) → (r ≡ commitStoresOf x-g xs-b0 xs-b1 x-n0 x-n1 x-blockcount x-seed xs-entries xs-dat x-stores) × CommitStoresLeaves x-g xs-b0 xs-b1 x-n0 x-n1 x-blockcount x-seed xs-entries xs-dat x-stores z-b0 z-b1
           → ent 𝓤 (⋆ 𝓤 H A (‵ (Own-b0 z-b0) ∷ ‵ (Own-b1 z-b1) ∷ ‵ Own-entries ∷ ‵ Own-dat ∷ ‵ (flft κ-b0 q-b0) ∷ ‵ (flft κ-b1 q-b1) ∷ ‵ (flft κ-entries q-entries) ∷ ‵ (flft κ-dat q-dat) ∷ [])) (Post v)
       exits r v z-b0 z-b1 l-b0 l-b1 is said =
           qed W (‵ (Own-b0 z-b0) ∷ ‵ (Own-b1 z-b1) ∷ ‵ Own-entries ∷ ‵ Own-dat ∷ ‵ (flft κ-b0 q-b0) ∷ ‵ (flft κ-b1 q-b1) ∷ ‵ (flft κ-entries q-entries) ∷ ‵ (flft κ-dat q-dat) ∷ []) ∵ suffices ! _ (ends-at 𝓤 H A f.ended stayed (f.clauses 𝓤 H A at-mem run) W bound v r (tt, (z-b0, (z-b1, (tt, (tt, (tt, (tt, (tt, (tt, (tt, tt)))))))))) (tt, (l-b0, (l-b1, (tt, (tt, (tt, (tt, (tt, (tt, (tt, tt))))))))))) $ says ! said $
