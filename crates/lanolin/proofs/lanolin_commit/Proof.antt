@@ -41,7 +41,8 @@ use denote.Triple.Spec.{Meets, tripleOf}
 use denote.Triple.Table.{entered, cited}
 use denote.Triple.Walked.{says, Stays, stay-none, stay-none-slice, stay-slice, walkOf, Walks, ends-at, walked, goes-none, goes-none-slice, goes-slice, walk-meets}
 use Rattle.lanolin_answers.specs.Values.{committedOut}
-use Rattle.format.specs.Writer.{unlimited, commitImages, commitOf}
+use Rattle.format.specs.Writer.{commitOf}
+use Rattle.format.specs.Stopped.{CommitLeaves}
 use Rattle.commit.proofs.Again.{LentAgain, lends-at, comes-at}
 use Rattle.lanolin.proofs.Rules.{commit-glue}
 use Rattle.format.specs.declared.Committed.{Committed}
@@ -72,9 +73,9 @@ use Rattle.lanolin.proofs.lanolin_commit.Code.Mir.{t-1, t-6, t-7}
 
 -- the law that it cites (proofs/Rules.antt):
 --   pub commit-glue : (xs-b0 : List ℕ) (xs-b1 : List ℕ) (xs-entries : List Entry) (xs-dat : List ℕ) (x-g : Geometry) (x-n0 : ℕ) (x-n1 : ℕ) (x-blockcount : ℕ) (x-seed : ℕ) (r0 : Committed) (y0b0 : List ℕ) (y0b1 : List ℕ) (r1 : CommittedOut)
---       → (r0 ≡ commitOf x-g xs-b0 xs-b1 x-n0 x-n1 x-blockcount x-seed xs-entries xs-dat) × (y0b0 ≡ commitImages x-g xs-b0 xs-b1 x-n0 x-n1 x-blockcount x-seed xs-entries xs-dat unlimited .b0) × (y0b1 ≡ commitImages x-g xs-b0 xs-b1 x-n0 x-n1 x-blockcount x-seed xs-entries xs-dat unlimited .b1)
+--       → (r0 ≡ commitOf x-g xs-b0 xs-b1 x-n0 x-n1 x-blockcount x-seed xs-entries xs-dat) × CommitLeaves x-g xs-b0 xs-b1 x-n0 x-n1 x-blockcount x-seed xs-entries xs-dat y0b0 y0b1
 --       → r1 ≡ committedOut x-seed r0
---       → (r1 ≡ committedOut x-seed (commitOf x-g xs-b0 xs-b1 x-n0 x-n1 x-blockcount x-seed xs-entries xs-dat)) × (y0b0 ≡ commitImages x-g xs-b0 xs-b1 x-n0 x-n1 x-blockcount x-seed xs-entries xs-dat unlimited .b0) × (y0b1 ≡ commitImages x-g xs-b0 xs-b1 x-n0 x-n1 x-blockcount x-seed xs-entries xs-dat unlimited .b1)
+--       → (r1 ≡ committedOut x-seed (commitOf x-g xs-b0 xs-b1 x-n0 x-n1 x-blockcount x-seed xs-entries xs-dat)) × CommitLeaves x-g xs-b0 xs-b1 x-n0 x-n1 x-blockcount x-seed xs-entries xs-dat y0b0 y0b1
 
 abbrev mach-Committed : Committed → Val
 mach-Committed h = EL.val Committed-ty.the-type Committed-laws.the-laws h
@@ -193,7 +194,7 @@ module _ {M : Type 1} (𝓤 : URA M) (H : Heap 𝓤) (A : Atoms 𝓤) (W : Given
         qed W ((‵ (flft κ-b0 q-b0) ⊛ ‵ (flft κ-b1 q-b1) ⊛ ‵ (flft κ-entries q-entries) ⊛ ‵ (flft κ-dat q-dat) ⊛ ‵ ftrue) ∷ ‵ (owns (Geometry-ty.the-row ∷ MutSlice (named 0) κ-b0 u8 ∷ MutSlice (named 1) κ-b1 u8 ∷ u32 ∷ u32 ∷ u32 ∷ u32 ∷ ShrSlice (named 2) κ-entries Entry-ty.the-row ∷ ShrSlice (named 3) κ-dat u8 ∷ []) x at) ∷ []) ∵ move ! (1 ∷ []) $ fsplit ! $ move ! (1 ∷ []) $ fsplit ! $ move ! (1 ∷ []) $ fsplit ! $ move ! (1 ∷ []) $ fsplit ! $ move ! (1 ∷ []) $ fsplit ! $ move ! (1 ∷ []) $ fsplit ! $ move ! (1 ∷ []) $ fsplit ! $ move ! (1 ∷ []) $ fsplit ! $ move ! (1 ∷ []) $ fsplit ! $ move ! (10 ∷ []) $ split ! $ move ! (1 ∷ []) $ split ! $ move ! (1 ∷ []) $ split ! $ move ! (1 ∷ []) $ split ! $ keep ! (13 ∷ 12 ∷ 7 ∷ 5 ∷ 4 ∷ 3 ∷ 2 ∷ 0 ∷ []) $ by ! next
 
     module _ (g-g : Is Geometry-ty.the-row x-g (v-g ∷ [])) (g-b0 : Room u8 (length xs-b0)) (g-b1 : Room u8 (length xs-b1)) (g-n0 : Is u32 x-n0 (v-n0 ∷ [])) (g-n1 : Is u32 x-n1 (v-n1 ∷ [])) (g-blockcount : Is u32 x-blockcount (v-blockcount ∷ [])) (g-seed : Is u32 x-seed (v-seed ∷ [])) (g-entries : Room Entry-ty.the-row (length xs-entries)) (g-dat : Room u8 (length xs-dat)) where
-      exits : (r : CommittedOut) (v : Val) (z-b0 z-b1 : List ℕ) → length z-b0 ≡ length xs-b0 → length z-b1 ≡ length xs-b1 → Is CommittedOut-ty.the-row r (v ∷ []) → (r ≡ committedOut x-seed (commitOf x-g xs-b0 xs-b1 x-n0 x-n1 x-blockcount x-seed xs-entries xs-dat)) × (z-b0 ≡ commitImages x-g xs-b0 xs-b1 x-n0 x-n1 x-blockcount x-seed xs-entries xs-dat unlimited .b0) × (z-b1 ≡ commitImages x-g xs-b0 xs-b1 x-n0 x-n1 x-blockcount x-seed xs-entries xs-dat unlimited .b1)
+      exits : (r : CommittedOut) (v : Val) (z-b0 z-b1 : List ℕ) → length z-b0 ≡ length xs-b0 → length z-b1 ≡ length xs-b1 → Is CommittedOut-ty.the-row r (v ∷ []) → (r ≡ committedOut x-seed (commitOf x-g xs-b0 xs-b1 x-n0 x-n1 x-blockcount x-seed xs-entries xs-dat)) × CommitLeaves x-g xs-b0 xs-b1 x-n0 x-n1 x-blockcount x-seed xs-entries xs-dat z-b0 z-b1
           → ent 𝓤 (⋆ 𝓤 H A (‵ (Own-b0 z-b0) ∷ ‵ (Own-b1 z-b1) ∷ ‵ Own-entries ∷ ‵ Own-dat ∷ ‵ (flft κ-b0 q-b0) ∷ ‵ (flft κ-b1 q-b1) ∷ ‵ (flft κ-entries q-entries) ∷ ‵ (flft κ-dat q-dat) ∷ [])) (Post v)
       exits r v z-b0 z-b1 l-b0 l-b1 is said =
           qed W (‵ (Own-b0 z-b0) ∷ ‵ (Own-b1 z-b1) ∷ ‵ Own-entries ∷ ‵ Own-dat ∷ ‵ (flft κ-b0 q-b0) ∷ ‵ (flft κ-b1 q-b1) ∷ ‵ (flft κ-entries q-entries) ∷ ‵ (flft κ-dat q-dat) ∷ []) ∵ suffices ! _ (ends-at 𝓤 H A f.ended stayed (f.clauses 𝓤 H A at-mem run) W bound v r (tt, (z-b0, (z-b1, (tt, (tt, (tt, (tt, (tt, (tt, tt))))))))) (tt, (l-b0, (l-b1, (tt, (tt, (tt, (tt, (tt, (tt, tt)))))))))) $ says ! said $
@@ -238,7 +239,7 @@ module _ {M : Type 1} (𝓤 : URA M) (H : Heap 𝓤) (A : Atoms 𝓤) (W : Given
           abbrev Start : List (Item 𝓤)
           Start = At xs-b0 xs-b1 (‵ (froom CommittedOut-laws.mir l0 0)) (‵ (froom Committed-laws.mir l10 0))
 
-          part-2 : (r0 : Committed) (v0 : Val) (is0 : Is Committed-ty.the-row r0 (v0 ∷ [])) (y0b0 : List ℕ) (m0b0 : length y0b0 ≡ length xs-b0) (y0b1 : List ℕ) (m0b1 : length y0b1 ≡ length xs-b1) (said0 : (r0 ≡ commitOf x-g xs-b0 xs-b1 x-n0 x-n1 x-blockcount x-seed xs-entries xs-dat) × (y0b0 ≡ commitImages x-g xs-b0 xs-b1 x-n0 x-n1 x-blockcount x-seed xs-entries xs-dat unlimited .b0) × (y0b1 ≡ commitImages x-g xs-b0 xs-b1 x-n0 x-n1 x-blockcount x-seed xs-entries xs-dat unlimited .b1)) (r1 : CommittedOut) (v1 : Val) (is1 : Is CommittedOut-ty.the-row r1 (v1 ∷ [])) (said1 : r1 ≡ committedOut x-seed r0) → ent 𝓤 (⋆ 𝓤 H A (At y0b0 y0b1 (‵ (fat fullShare CommittedOut-laws.mir l0 0 v1)) (‵ (fat fullShare Committed-laws.mir l10 0 v0)))) (Wp 𝓤 H C Λ En t-7 (atReturn 𝓤 H En Post))
+          part-2 : (r0 : Committed) (v0 : Val) (is0 : Is Committed-ty.the-row r0 (v0 ∷ [])) (y0b0 : List ℕ) (m0b0 : length y0b0 ≡ length xs-b0) (y0b1 : List ℕ) (m0b1 : length y0b1 ≡ length xs-b1) (said0 : (r0 ≡ commitOf x-g xs-b0 xs-b1 x-n0 x-n1 x-blockcount x-seed xs-entries xs-dat) × CommitLeaves x-g xs-b0 xs-b1 x-n0 x-n1 x-blockcount x-seed xs-entries xs-dat y0b0 y0b1) (r1 : CommittedOut) (v1 : Val) (is1 : Is CommittedOut-ty.the-row r1 (v1 ∷ [])) (said1 : r1 ≡ committedOut x-seed r0) → ent 𝓤 (⋆ 𝓤 H A (At y0b0 y0b1 (‵ (fat fullShare CommittedOut-laws.mir l0 0 v1)) (‵ (fat fullShare Committed-laws.mir l10 0 v0)))) (Wp 𝓤 H C Λ En t-7 (atReturn 𝓤 H En Post))
           part-2 r0 v0 is0 y0b0 m0b0 y0b1 m0b1 said0 r1 v1 is1 said1 =
               qed W (At y0b0 y0b1 (‵ (fat fullShare CommittedOut-laws.mir l0 0 v1)) (‵ (fat fullShare Committed-laws.mir l10 0 v0))) ∵ exec ! C Λ En t-7 (atRet En Post) $
               returns ! (look ! 8 refl) $
@@ -246,7 +247,7 @@ module _ {M : Type 1} (𝓤 : URA M) (H : Heap 𝓤) (A : Atoms 𝓤) (W : Given
               move ! (23 ∷ []) $ split ! $ move ! (10 ∷ 0 ∷ []) $ free1 ! $ split ! $ move ! (10 ∷ 0 ∷ []) $ free1 ! $ split ! $ move ! (10 ∷ 0 ∷ []) $ free1 ! $ split ! $ move ! (10 ∷ 0 ∷ []) $ free1 ! $ split ! $ move ! (10 ∷ 0 ∷ []) $ free1 ! $ split ! $ move ! (10 ∷ 0 ∷ []) $ free1 ! $ split ! $ move ! (10 ∷ 0 ∷ []) $ free1 ! $ split ! $ move ! (10 ∷ 0 ∷ []) $ free1 ! $ split ! $ move ! (10 ∷ 0 ∷ []) $ free1 ! $ split ! $ move ! (10 ∷ 0 ∷ []) $ free1 ! $ split ! $ move ! (10 ∷ 0 ∷ []) $ free1 ! $ split ! $ move ! (10 ∷ 0 ∷ []) $ free1 ! $ split ! $ move ! (10 ∷ 0 ∷ []) $ free1 ! $ split ! $ move ! (10 ∷ 0 ∷ []) $ free1 ! $ move ! (9 ∷ 0 ∷ []) $ free1 ! $ free0 ! $
               by ! (exits r1 v1 y0b0 y0b1 m0b0 m0b1 is1 (commit-glue xs-b0 xs-b1 xs-entries xs-dat x-g x-n0 x-n1 x-blockcount x-seed r0 y0b0 y0b1 r1 said0 said1))
 
-          part-1 : (r0 : Committed) (v0 : Val) (is0 : Is Committed-ty.the-row r0 (v0 ∷ [])) (y0b0 : List ℕ) (m0b0 : length y0b0 ≡ length xs-b0) (y0b1 : List ℕ) (m0b1 : length y0b1 ≡ length xs-b1) (said0 : (r0 ≡ commitOf x-g xs-b0 xs-b1 x-n0 x-n1 x-blockcount x-seed xs-entries xs-dat) × (y0b0 ≡ commitImages x-g xs-b0 xs-b1 x-n0 x-n1 x-blockcount x-seed xs-entries xs-dat unlimited .b0) × (y0b1 ≡ commitImages x-g xs-b0 xs-b1 x-n0 x-n1 x-blockcount x-seed xs-entries xs-dat unlimited .b1)) → ent 𝓤 (⋆ 𝓤 H A (At y0b0 y0b1 (‵ (froom CommittedOut-laws.mir l0 0)) (‵ (fat fullShare Committed-laws.mir l10 0 v0)))) (Wp 𝓤 H C Λ En t-6 (atReturn 𝓤 H En Post))
+          part-1 : (r0 : Committed) (v0 : Val) (is0 : Is Committed-ty.the-row r0 (v0 ∷ [])) (y0b0 : List ℕ) (m0b0 : length y0b0 ≡ length xs-b0) (y0b1 : List ℕ) (m0b1 : length y0b1 ≡ length xs-b1) (said0 : (r0 ≡ commitOf x-g xs-b0 xs-b1 x-n0 x-n1 x-blockcount x-seed xs-entries xs-dat) × CommitLeaves x-g xs-b0 xs-b1 x-n0 x-n1 x-blockcount x-seed xs-entries xs-dat y0b0 y0b1) → ent 𝓤 (⋆ 𝓤 H A (At y0b0 y0b1 (‵ (froom CommittedOut-laws.mir l0 0)) (‵ (fat fullShare Committed-laws.mir l10 0 v0)))) (Wp 𝓤 H C Λ En t-6 (atReturn 𝓤 H En Post))
           part-1 r0 v0 is0 y0b0 m0b0 y0b1 m0b1 said0 =
               qed W (At y0b0 y0b1 (‵ (froom CommittedOut-laws.mir l0 0)) (‵ (fat fullShare Committed-laws.mir l10 0 v0))) ∵ exec ! C Λ En t-6 (atRet En Post) $
               use0 W (raw (K-committed_out .pre (((tt), (tt), tt, (x-seed, (r0, tt)), (v-seed ∷ [], (v0 ∷ [], tt))), tt))) (goes-1 x-seed v-seed g-seed r0 v0 is0) $
@@ -271,7 +272,7 @@ module _ {M : Type 1} (𝓤 : URA M) (H : Heap 𝓤) (A : Atoms 𝓤) (W : Given
               move ! (9 ∷ 6 ∷ 10 ∷ 11 ∷ 7 ∷ 4 ∷ 2 ∷ 0 ∷ []) $ group ! 8 $ use1 W (raw (K-lfs_dir_commit .pre (((((ν0b0 ∷ []), ((ν0b1 ∷ []), (κ-entries, (κ-dat, tt))))), ((fullShare, (fullShare, (q-entries, (q-dat, tt))))), tt, (x-g, ((ref-b0 δ0b0 xs-b0), ((ref-b1 δ0b1 xs-b1), (x-n0, (x-n1, (x-blockcount, (x-seed, ((ref-entries γ-entries xs-entries), ((ref-dat γ-dat xs-dat), tt))))))))), (v-g ∷ [], (s-b0 ∷ [], (s-b1 ∷ [], (v-n0 ∷ [], (v-n1 ∷ [], (v-blockcount ∷ [], (v-seed ∷ [], (s-entries ∷ [], (s-dat ∷ [], tt)))))))))), tt))) (goes-0 x-g v-g g-g ν0b0 δ0b0 xs-b0 ν0b1 δ0b1 xs-b1 x-n0 v-n0 g-n0 x-n1 v-n1 g-n1 x-blockcount v-blockcount g-blockcount x-seed v-seed g-seed) $
               calls-at ! fm K-lfs_dir_commit known-lfs_dir_commit (((((ν0b0 ∷ []), ((ν0b1 ∷ []), (κ-entries, (κ-dat, tt))))), ((fullShare, (fullShare, (q-entries, (q-dat, tt))))), tt, (x-g, ((ref-b0 δ0b0 xs-b0), ((ref-b1 δ0b1 xs-b1), (x-n0, (x-n1, (x-blockcount, (x-seed, ((ref-entries γ-entries xs-entries), ((ref-dat γ-dat xs-dat), tt))))))))), (v-g ∷ [], (s-b0 ∷ [], (s-b1 ∷ [], (v-n0 ∷ [], (v-n1 ∷ [], (v-blockcount ∷ [], (v-seed ∷ [], (s-entries ∷ [], (s-dat ∷ [], tt)))))))))), tt) (and-then ! (load ! (from ! (stop !)) (look ! 6 refl)) (and-then ! (load ! (from ! (stop !)) (look ! 17 refl)) (and-then ! (load ! (from ! (stop !)) (look ! 19 refl)) (and-then ! (load ! (from ! (stop !)) (look ! 9 refl)) (and-then ! (load ! (from ! (stop !)) (look ! 10 refl)) (and-then ! (load ! (from ! (stop !)) (look ! 11 refl)) (and-then ! (load ! (from ! (stop !)) (look ! 12 refl)) (and-then ! (load ! (from ! (stop !)) (look ! 13 refl)) (and-then ! (load ! (from ! (stop !)) (look ! 14 refl)) (no-more !)))))))))) (λ v0.
               use1 W (later (some (λ (r0 : Committed). ((‵ (flft (ν0b0 ∷ []) fullShare) ⊛ ‵ (flft (ν0b1 ∷ []) fullShare) ⊛ ‵ (flft κ-entries q-entries) ⊛ ‵ (flft κ-dat q-dat) ⊛ ‵ ftrue) ⊛ ‵ (Committed-ty.the-row .own r0 (v0 ∷ []))) ⊛ raw (ensured 𝓤 H A lfs_dir_commit-fn.ended (lfs_dir_commit-fn.clauses 𝓤 H A at-mem run) ((ν0b0 ∷ []), ((ν0b1 ∷ []), (κ-entries, (κ-dat, tt)))) (x-g, ((ref-b0 δ0b0 xs-b0), ((ref-b1 δ0b1 xs-b1), (x-n0, (x-n1, (x-blockcount, (x-seed, ((ref-entries γ-entries xs-entries), ((ref-dat γ-dat xs-dat), tt))))))))) tt r0)))) (id⊢ 𝓤 _) $ await ! tt $ pick ! (λ r0. split ! $ move ! (1 ∷ []) $
-              use1 W (some (λ (ws0 : Unit {0} × (List ℕ × (List ℕ × (Unit {0} × (Unit {0} × (Unit {0} × (Unit {0} × (Unit {0} × (Unit {0} × Unit {0}))))))))). ‵ (lasts lfs_dir_commit-fn.ended ((ν0b0 ∷ []), ((ν0b1 ∷ []), (κ-entries, (κ-dat, tt)))) (x-g, ((ref-b0 δ0b0 xs-b0), ((ref-b1 δ0b1 xs-b1), (x-n0, (x-n1, (x-blockcount, (x-seed, ((ref-entries γ-entries xs-entries), ((ref-dat γ-dat xs-dat), tt))))))))) ws0) ⊛ raw (fact 𝓤 ((r0 ≡ commitOf x-g xs-b0 xs-b1 x-n0 x-n1 x-blockcount x-seed xs-entries xs-dat) × ((ws0 .1 .0) ≡ commitImages x-g xs-b0 xs-b1 x-n0 x-n1 x-blockcount x-seed xs-entries xs-dat unlimited .b0) × ((ws0 .1 .1 .0) ≡ commitImages x-g xs-b0 xs-b1 x-n0 x-n1 x-blockcount x-seed xs-entries xs-dat unlimited .b1))))) (id⊢ 𝓤 _) $ pick ! (λ ws0. split ! $ move ! (1 ∷ []) $ heard ! ((r0 ≡ commitOf x-g xs-b0 xs-b1 x-n0 x-n1 x-blockcount x-seed xs-entries xs-dat) × ((ws0 .1 .0) ≡ commitImages x-g xs-b0 xs-b1 x-n0 x-n1 x-blockcount x-seed xs-entries xs-dat unlimited .b0) × ((ws0 .1 .1 .0) ≡ commitImages x-g xs-b0 xs-b1 x-n0 x-n1 x-blockcount x-seed xs-entries xs-dat unlimited .b1)) (λ said0.
+              use1 W (some (λ (ws0 : Unit {0} × (List ℕ × (List ℕ × (Unit {0} × (Unit {0} × (Unit {0} × (Unit {0} × (Unit {0} × (Unit {0} × Unit {0}))))))))). ‵ (lasts lfs_dir_commit-fn.ended ((ν0b0 ∷ []), ((ν0b1 ∷ []), (κ-entries, (κ-dat, tt)))) (x-g, ((ref-b0 δ0b0 xs-b0), ((ref-b1 δ0b1 xs-b1), (x-n0, (x-n1, (x-blockcount, (x-seed, ((ref-entries γ-entries xs-entries), ((ref-dat γ-dat xs-dat), tt))))))))) ws0) ⊛ raw (fact 𝓤 ((r0 ≡ commitOf x-g xs-b0 xs-b1 x-n0 x-n1 x-blockcount x-seed xs-entries xs-dat) × CommitLeaves x-g xs-b0 xs-b1 x-n0 x-n1 x-blockcount x-seed xs-entries xs-dat (ws0 .1 .0) (ws0 .1 .1 .0))))) (id⊢ 𝓤 _) $ pick ! (λ ws0. split ! $ move ! (1 ∷ []) $ heard ! ((r0 ≡ commitOf x-g xs-b0 xs-b1 x-n0 x-n1 x-blockcount x-seed xs-entries xs-dat) × CommitLeaves x-g xs-b0 xs-b1 x-n0 x-n1 x-blockcount x-seed xs-entries xs-dat (ws0 .1 .0) (ws0 .1 .1 .0)) (λ said0.
               fsplit ! $ move ! (1 ∷ []) $ fsplit ! $ fsplit ! $ move ! (1 ∷ []) $ feqL ! (λ l0b0. move ! (1 ∷ []) $ fsplit ! $ fsplit ! $ move ! (1 ∷ []) $ feqL ! (λ l0b1. move ! (1 ∷ []) $ fsplit ! $ move ! (1 ∷ []) $ fsplit ! $ move ! (1 ∷ []) $ fsplit ! $ move ! (1 ∷ []) $ fsplit ! $ move ! (1 ∷ []) $ fsplit ! $ move ! (1 ∷ []) $ fsplit ! $ move ! (10 ∷ []) $ split ! $ move ! (1 ∷ []) $ facts ! Committed-ty.the-row (Is Committed-ty.the-row) (shows 𝓤 H A Committed-ty.the-row) r0 (v0 ∷ []) (λ is0. land ! (from ! (stop !)) (init ! 25 refl (typed-Committed r0 v0 is0)) $
               split ! $ move ! (1 ∷ []) $ split ! $ move ! (1 ∷ []) $ split ! $ move ! (1 ∷ []) $ split ! $ move ! (4 ∷ []) $ lft-end ! tt $ move ! (0 ∷ 18 ∷ 13 ∷ []) $ use3 W (later (‵ (Own-b0 (ws0 .1 .0)) ⊛ ‵ (flft κ-b0 q-b0))) (comes-at u8 κ-b0 (ν0b0 ∷ []) q-b0 γ-b0 b-b0 o-b0 𝓤 H A W (named 0) (named 0) xs-b0 (length xs-b0) refl δ0b0 (ws0 .1 .0) g-b0 l0b0) $ await ! tt $ split ! $
               move ! (5 ∷ []) $ lft-end ! tt $ move ! (0 ∷ 17 ∷ 13 ∷ []) $ use3 W (later (‵ (Own-b1 (ws0 .1 .1 .0)) ⊛ ‵ (flft κ-b1 q-b1))) (comes-at u8 κ-b1 (ν0b1 ∷ []) q-b1 γ-b1 b-b1 o-b1 𝓤 H A W (named 1) (named 1) xs-b1 (length xs-b1) refl δ0b1 (ws0 .1 .1 .0) g-b1 l0b1) $ await ! tt $ split ! $
@@ -307,4 +308,4 @@ lanolin-commit-spec 𝓤 H 𝓜 𝓖 𝓡 =
     (tables 𝓤 H 𝓜 𝓡 code.env .C) (tables 𝓤 H 𝓜 𝓡 code.env .Λ) #self code.function (code.unfolded 𝓤 H 𝓜 𝓡)
     (meets 𝓤 H (𝓖 .A) (givenOf 𝓤 H 𝓜 𝓖) (𝓜 .mem) (𝓡 .run) (tablesOf 𝓤 H 𝓜 (tables 𝓤 H 𝓜 𝓡 code.env))
     (cited 𝓤 H (K-lfs_dir_commit 𝓤 H (𝓖 .A) (givenOf 𝓤 H 𝓜 𝓖) (𝓜 .mem) (𝓡 .run)) 𝓜 𝓡 code.env #lfs_dir_commit lfs_dir_commit-def.routine code.calls-commit·lfs-dir-commit (lfs_dir_commit-thm.met 𝓤 H 𝓜 𝓖 𝓡))
-    (cited 𝓤 H (K-committed_out 𝓤 H (𝓖 .A) (givenOf 𝓤 H 𝓜 𝓖) (𝓜 .mem) (𝓡 .run)) 𝓜 𝓡 code.env #committed_out committed_out-def.routine code.calls-lanolin_answers·committed-out (committed_out-thm.met 𝓤 H 𝓜 𝓖 𝓡)))
+    (cited 𝓤 H (K-committed_out 𝓤 H (𝓖 .A) (givenOf 𝓤 H 𝓜 𝓖) (𝓜 .mem) (𝓡 .run)) 𝓜 𝓡 code.env #committed_out committed_out-def.routine code.calls-lanolin-answers·committed-out (committed_out-thm.met 𝓤 H 𝓜 𝓖 𝓡)))
