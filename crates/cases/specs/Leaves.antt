@@ -49,7 +49,7 @@ leaves =
     -- LFS_MKTAG_IF: the tag, or LFS_MKTAG(LFS_FROM_NOOP, 0, 0), which is 0
     ∷ record { given = pos (mkTagIf true 0x4ff 0x155 0x3ff); said = pos 0x4ff5_57ff }
     ∷ record { given = pos (mkTagIf false 0x4ff 0x155 0x3ff); said = pos 0 }
-    -- the lowest, or the highest, byte first; "A read whose start plus length passes the block size is -84"; a store too
+    -- the lowest, or the highest, byte first; "A read whose start plus length passes the block size is -84"; stores too
     ∷ record { given = pos (wordValue (le32At five 1)); said = pos 0x0504_0302 }
     ∷ record { given = pos (wordValue (be32At five 1)); said = pos 0x0203_0405 }
     ∷ record { given = wordResult (le32At five 2); said = negℤ (pos 84) }

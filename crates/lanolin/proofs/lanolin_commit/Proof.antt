@@ -307,4 +307,4 @@ lanolin-commit-spec 𝓤 H 𝓜 𝓖 𝓡 =
     (tables 𝓤 H 𝓜 𝓡 code.env .C) (tables 𝓤 H 𝓜 𝓡 code.env .Λ) #self code.function (code.unfolded 𝓤 H 𝓜 𝓡)
     (meets 𝓤 H (𝓖 .A) (givenOf 𝓤 H 𝓜 𝓖) (𝓜 .mem) (𝓡 .run) (tablesOf 𝓤 H 𝓜 (tables 𝓤 H 𝓜 𝓡 code.env))
     (cited 𝓤 H (K-lfs_dir_commit 𝓤 H (𝓖 .A) (givenOf 𝓤 H 𝓜 𝓖) (𝓜 .mem) (𝓡 .run)) 𝓜 𝓡 code.env #lfs_dir_commit lfs_dir_commit-def.routine code.calls-commit·lfs-dir-commit (lfs_dir_commit-thm.met 𝓤 H 𝓜 𝓖 𝓡))
-    (cited 𝓤 H (K-committed_out 𝓤 H (𝓖 .A) (givenOf 𝓤 H 𝓜 𝓖) (𝓜 .mem) (𝓡 .run)) 𝓜 𝓡 code.env #committed_out committed_out-def.routine code.calls-lanolin_answers·committed-out (committed_out-thm.met 𝓤 H 𝓜 𝓖 𝓡)))
+    (cited 𝓤 H (K-committed_out 𝓤 H (𝓖 .A) (givenOf 𝓤 H 𝓜 𝓖) (𝓜 .mem) (𝓡 .run)) 𝓜 𝓡 code.env #committed_out committed_out-def.routine code.calls-lanolin-answers·committed-out (committed_out-thm.met 𝓤 H 𝓜 𝓖 𝓡)))

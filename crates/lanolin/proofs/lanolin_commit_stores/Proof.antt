@@ -316,4 +316,4 @@ lanolin-commit-stores-spec 𝓤 H 𝓜 𝓖 𝓡 =
     (tables 𝓤 H 𝓜 𝓡 code.env .C) (tables 𝓤 H 𝓜 𝓡 code.env .Λ) #self code.function (code.unfolded 𝓤 H 𝓜 𝓡)
     (meets 𝓤 H (𝓖 .A) (givenOf 𝓤 H 𝓜 𝓖) (𝓜 .mem) (𝓡 .run) (tablesOf 𝓤 H 𝓜 (tables 𝓤 H 𝓜 𝓡 code.env))
     (cited 𝓤 H (K-lfs_dir_commit_stores 𝓤 H (𝓖 .A) (givenOf 𝓤 H 𝓜 𝓖) (𝓜 .mem) (𝓡 .run)) 𝓜 𝓡 code.env #lfs_dir_commit_stores lfs_dir_commit_stores-def.routine code.calls-commit·lfs-dir-commit-stores (lfs_dir_commit_stores-thm.met 𝓤 H 𝓜 𝓖 𝓡))
-    (cited 𝓤 H (K-stored_out 𝓤 H (𝓖 .A) (givenOf 𝓤 H 𝓜 𝓖) (𝓜 .mem) (𝓡 .run)) 𝓜 𝓡 code.env #stored_out stored_out-def.routine code.calls-lanolin_answers·stored-out (stored_out-thm.met 𝓤 H 𝓜 𝓖 𝓡)))
+    (cited 𝓤 H (K-stored_out 𝓤 H (𝓖 .A) (givenOf 𝓤 H 𝓜 𝓖) (𝓜 .mem) (𝓡 .run)) 𝓜 𝓡 code.env #stored_out stored_out-def.routine code.calls-lanolin-answers·stored-out (stored_out-thm.met 𝓤 H 𝓜 𝓖 𝓡)))
