@@ -143,9 +143,8 @@ static void test_differences(void) {
                                           0x50, 0x1f, 0xfc, 0x00, 0x96, 0xc0, 0x57, 0x1d};
     static const uint8_t NO_SIZE[20] = {0,    0,    0,    0,    0xff, 0xef, 0xff, 0xff, 0x20, 0x10,
                                         0x00, 0x00, 0x70, 0x0f, 0xfc, 0x00, 0x79, 0xfe, 0x5a, 0x7f};
-    static const uint8_t BIT_31[29] = {1,    0,    0,    0,    0x80, 0x00, 0x03, 0xfe, 0x6e, 0x60,
-                                       0x00, 0x00, 0x01, 0x5f, 0xef, 0xfc, 0x04, 0,    0,    0,
-                                       0,    0x10, 0x1f, 0xfc, 0x00, 0xca, 0x53, 0xb2, 0xd8};
+    static const uint8_t BIT_31[24] = {0,    0,    0,    0,    0x80, 0x00, 0x07, 0xff, 0x60, 0x00, 0x00, 0x00,
+                                       0x5f, 0xdf, 0xf8, 0x00, 0x10, 0x2f, 0xfc, 0x00, 0xa9, 0x32, 0xeb, 0x2f};
     static const uint8_t FORWARD[24] = {1,    0,    0,    0,    0xa0, 0x00, 0x03, 0xf7, 0x69, 0,    0,    0,
                                         0x4b, 0x40, 0x5a, 0x9a, 0x0f, 0xf0, 0x00, 0x0c, 0x7b, 0x75, 0xb6, 0x92};
     lanolin_info info = info_of(BARE, sizeof BARE, 1023);
@@ -155,7 +154,7 @@ static void test_differences(void) {
     info = info_of(NO_SIZE, sizeof NO_SIZE, 0);
     EXPECT(info.result == 0 && info.type == 1 && info.size == 0 && is_zero(info.name, 256));
     info = info_of(BIT_31, sizeof BIT_31, 0);
-    EXPECT(info.result == 0 && info.type == 0 && info.size == 0 && info.name[0] == 'n' && is_zero(info.name + 1, 255));
+    EXPECT(info.result == 0 && info.type == 0 && info.size == 0 && is_zero(info.name, 256));
     lanolin_fetched f = lanolin_fetch(G, b1, 128, b1, 128, 0, 1, 0, 7);
     EXPECT(f.result == -84 && f.seed == 7 && is_zero(&f.dir, sizeof f.dir));
     uint8_t block[128];
@@ -167,6 +166,8 @@ static void test_differences(void) {
     lanolin_mdir made_up = {.pair = {0, 1}, .off = 8, .etag = 0xfff00000};
     EXPECT(lanolin_getgstate(G, b1, 128, b1, 128, 0, 1, made_up, STILL, &state) == 0);
     EXPECT(state.tag == 5 && state.pair[0] == 5 && state.pair[1] == 5);
+    lanolin_mdir named = {.pair = {0, 1}, .off = 9, .etag = 1};
+    EXPECT(lanolin_get(G, b1, 128, b1, 128, 0, 1, named, STILL, 0, 1, NULL, 0).result == -22);
 }
 
 static void test_tags(void) {
