@@ -36,7 +36,8 @@ pub struct LfsGstate {
     pub pair: LfsPair,
 }
 
-// What is shown of an entry: its type, its size, and its name, zeros behind it.
+// What is shown of an entry: its type, its size, and its name, zeros behind it. A stored name of more than 255 bytes,
+// read with 255 as the longest, fills all 256: it has no zero behind it.
 pub struct LfsInfo {
     pub kind: u8,
     pub size: u32,
