@@ -15,8 +15,9 @@ pub struct LfsPair {
     pub n1: u32,
 }
 
-// The record of a metadata pair, as fetch reads it: the answering block's number first, its revision, where its committed log ends and the
-// tag there, the number of slots, whether the room behind is erased, and the tail (hard where `split`).
+// The record of a metadata pair, as fetch reads it: the answering block's number first, its revision, where its
+// committed log ends and the tag there, the number of slots, whether the room behind passed its forward check (which
+// does not say that it is empty), and the tail (hard where `split`).
 #[repr(C)]
 pub struct LfsMdir {
     pub pair: LfsPair,
