@@ -60,7 +60,7 @@ leaves =
     ∷ record { given = wordResult (alignDown 0 0); said = negℤ (pos 22) }
     ∷ record { given = wordResult (alignUp 7 0); said = negℤ (pos 22) }
     ∷ record { given = pos (wordValue (alignUp 7 0)); said = pos 0 }
-    -- "Program sizes need be no power of two": 26 * 5 = 130 and 27 * 5 = 135, so 130 stays, 134 goes down and 131 up
+    -- the alignment need be no power of two: 26 * 5 = 130 and 27 * 5 = 135, so 130 stays, 134 goes down and 131 up
     ∷ record { given = pos (wordValue (alignDown 130 5)); said = pos 130 }
     ∷ record { given = pos (wordValue (alignDown 134 5)); said = pos 130 }
     ∷ record { given = pos (wordValue (alignUp 130 5)); said = pos 130 }
