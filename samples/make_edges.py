@@ -1,7 +1,9 @@
 #!/usr/bin/env python3
-"""Writes the pairs at the edges that the program `check_edges` fetches (crates/check_edges/data), and what it must print (crates/check_edges/stdout).
+"""Writes the pairs at the edges that the program `check_edges` fetches (crates/check_edges/data), and what it must
+print (crates/check_edges/stdout).
 
-What is expected is worked out here from document 01, beside each pair; nothing is taken from the program. Run by hand when the set changes.
+What is expected is worked out here from document 01, beside each pair; nothing is taken from the program. Run by hand
+when the set changes.
 """
 import os
 import zlib

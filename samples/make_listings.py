@@ -1,10 +1,12 @@
 #!/usr/bin/env python3
-"""Writes samples/listings/cases, inputs of the programs list and audit, and the text that each must give: expected and audited.
+"""Writes samples/listings/cases, inputs of the programs list and audit, and the text that each must give: expected and
+audited.
 
-What is expected is worked out here from document 01 alone, by a walk, a directory and a rendering of its own; nothing is taken from the port.
-A case is one line, `NAME BYTES`, the bytes as runs of hex (aa*9 is aa nine times), joined by commas, - for none. What is expected of it is a line
-`== NAME` and the text behind it, or, for a text of more than 2,000 bytes, a line with its length and CRC-32. tests/listing/run.py shows the program's
-text in the same form. Run by hand when the set changes.
+What is expected is worked out here from document 01 alone, by a walk, a directory and a rendering of its own; nothing
+is taken from the port. A case is one line, `NAME BYTES`, the bytes as runs of hex (aa*9 is aa nine times), joined by
+commas, - for none. What is expected of it is a line `== NAME` and the text behind it, or, for a text of more than 2,000
+bytes, a line with its length and CRC-32. tests/listing/run.py shows the program's text in the same form. Run by hand
+when the set changes.
 """
 import os
 import random
@@ -41,7 +43,8 @@ class Log:
 
     def __init__(self, block):
         self.block, self.revision = block, int.from_bytes(block[:4], "little")
-        self.ends, self.count, self.split, self.tail, self.forward, self.entries, self.checks = None, 0, False, (0xFFFFFFFF,) * 2, None, [], []
+        self.ends, self.count, self.split, self.tail = None, 0, False, (0xFFFFFFFF,) * 2
+        self.forward, self.entries, self.checks = None, [], []
         self.straight = False
         count, split, tail, forward, entries, after_check = 0, False, self.tail, None, [], False
         register, previous, at = summed(0xFFFFFFFF, block[:4]), 0xFFFFFFFF, 4
@@ -70,7 +73,8 @@ class Log:
             elif kind == 0x400:
                 count = max(count + tag.splice, 0) % 65536
             elif kind == 0x600:
-                split, tail = bool(tag.chunk & 1), (int.from_bytes(wide[:4], "little"), int.from_bytes(wide[4:], "little"))
+                split = bool(tag.chunk & 1)
+                tail = (int.from_bytes(wide[:4], "little"), int.from_bytes(wide[4:], "little"))
             elif tag.type == FORWARD:
                 forward = (int.from_bytes(wide[:4], "little"), int.from_bytes(wide[4:], "little"))
             data = block[at + 4:at + tag.length]
@@ -96,14 +100,14 @@ class Log:
                 del slots[tag.id]
             elif tag.type in (FILE, DIR, SUPER) and inside and 1 <= tag.size <= 1022:
                 slots[tag.id]["name"] = (tag.type, data)
-            elif (tag.type in (0x200, CTZ) and inside and tag.size == 8) or (tag.type == INLINE and inside and tag.size <= 1022):
+            elif inside and (tag.type in (0x200, CTZ) and tag.size == 8 or tag.type == INLINE and tag.size <= 1022):
                 slots[tag.id]["struct"] = (tag.type, data)
             elif 0x300 <= tag.type <= 0x3FF and inside:
                 if tag.removal:
                     slots[tag.id].pop(tag.type, None)
                 else:
                     slots[tag.id][tag.type] = data
-            elif not (tag.type in (SOFT, HARD, FORWARD) and tag.id == NO_SLOT and tag.size == 8) and not (tag.type == MOVE and tag.id == NO_SLOT and tag.size == 12):
+            elif tag.id != NO_SLOT or (tag.type, tag.size) not in ((SOFT, 8), (HARD, 8), (FORWARD, 8), (MOVE, 12)):
                 return None
         return slots
 
@@ -134,14 +138,18 @@ def listing(data):
     number, log = fetched(data)
     if number is None:
         return log
-    tail = "none" if not log.split and log.tail == (0xFFFFFFFF,) * 2 else f"{'hard' if log.split else 'soft'} {log.tail[0]} {log.tail[1]}"
-    lines = [f"rev {log.revision}", f"block {number}", f"end {log.ends}", f"count {log.count}", f"tail {tail}", f"erased {'yes' if log.erased() else 'no'}"]
+    tail = f"{'hard' if log.split else 'soft'} {log.tail[0]} {log.tail[1]}"
+    if not log.split and log.tail == (0xFFFFFFFF,) * 2:
+        tail = "none"
+    lines = [f"rev {log.revision}", f"block {number}", f"end {log.ends}", f"count {log.count}", f"tail {tail}",
+             f"erased {'yes' if log.erased() else 'no'}"]
     slots = log.slots()
     if slots is None:
         lines.append("refused -202")
     for id, slot in enumerate(slots or []):
         name, struct = slot.get("name"), slot.get("struct")
-        lines.append(f"slot {id} " + (f"{name[0]:03x} {shown(name[1])}" if name else "- -") + " " + (f"{struct[0]:03x} {len(struct[1])}" if struct else "- -"))
+        lines.append(f"slot {id} " + (f"{name[0]:03x} {shown(name[1])}" if name else "- -") + " "
+                     + (f"{struct[0]:03x} {len(struct[1])}" if struct else "- -"))
         for type in sorted(k for k in slot if isinstance(k, int)):
             lines.append(f"attr {id} {type:03x} {slot[type].hex() or '-'}")
     return "\n".join(lines) + "\n"
@@ -149,7 +157,8 @@ def listing(data):
 
 # ---- the audit's text
 def audit(data):
-    """The slots that have a payload and no deadline, or a deadline and no payload; directories and superblocks are not looked at."""
+    """The slots that have a payload and no deadline, or a deadline and no payload; directories and superblocks are not
+    looked at."""
     number, log = fetched(data)
     if number is None:
         return log
@@ -165,7 +174,8 @@ def audit(data):
             continue
         lines.append(f"slot {id} {shown(name) or '-'} no {'deadline' if payload else 'payload'}")
         late, bare = late + payload, bare + deadline
-    return "\n".join(lines + [f"payload without deadline {late}", f"deadline without payload {bare}", f"slots {len(slots)}"]) + "\n"
+    return "\n".join(lines + [f"payload without deadline {late}", f"deadline without payload {bare}",
+                              f"slots {len(slots)}"]) + "\n"
 
 
 # ---- inputs
@@ -193,11 +203,13 @@ CASES, EXPECTED, AUDITED = [], [], []
 
 
 def case(name, data, want=None, lacks=None):
-    """`want` and `lacks` are the texts of listing and audit written out by hand, where there are any: the renderings must agree with them."""
+    """`want` and `lacks` are the texts of listing and audit written out by hand, where there are any: the renderings
+    must agree with them."""
     CASES.append(f"{name} {runs(data)}")
     for text, given, texts in ((listing(data), want, EXPECTED), (audit(data), lacks, AUDITED)):
         assert given is None or text == given, (name, text)
-        texts.append(f"== {name}\n" + (text if len(text) <= 2000 else f"{len(text)} bytes, CRC-32 {zlib.crc32(text.encode()):08x}\n"))
+        texts.append(f"== {name}\n" + (text if len(text) <= 2000
+                                       else f"{len(text)} bytes, CRC-32 {zlib.crc32(text.encode()):08x}\n"))
 
 
 def pair(name, first, want=None, second=None, lacks=None):
@@ -216,47 +228,67 @@ def head(end, count=1, tail="none", rev=1, number=0, erased="no"):
 pair("document-01", block(128, [SLOT]), HEAD + "slot 0 001 q212 201 3\nattr 0 374 905f0100\n")
 # attributes: removed, set anew, empty, removed and set again, in rising order
 pair("attribute-removed", block(128, [SLOT, [entry(0x374, 0, removal=True)]]), head(64) + "slot 0 001 q212 201 3\n")
-pair("attribute-empty", block(128, [SLOT + [entry(0x3FF, 0)]]), head(48) + "slot 0 001 q212 201 3\nattr 0 374 905f0100\nattr 0 3ff -\n")
-pair("attributes-rising", block(128, [[entry(CREATE, 0), entry(0x3FF, 0, b"\xff"), entry(0x301, 0, b"\x01"), entry(0x300, 0, b"\x00"), entry(0x301, 0, b"\x0a\xbc")]]),
+pair("attribute-empty", block(128, [SLOT + [entry(0x3FF, 0)]]),
+     head(48) + "slot 0 001 q212 201 3\nattr 0 374 905f0100\nattr 0 3ff -\n")
+pair("attributes-rising",
+     block(128, [[entry(CREATE, 0), entry(0x3FF, 0, b"\xff"), entry(0x301, 0, b"\x01"), entry(0x300, 0, b"\x00"),
+                  entry(0x301, 0, b"\x0a\xbc")]]),
      head(48) + "slot 0 - - - -\nattr 0 300 00\nattr 0 301 0abc\nattr 0 3ff ff\n")
-pair("attribute-set-again", block(128, [SLOT, [entry(0x374, 0, removal=True)], [entry(0x374, 0, b"\x07")]]), head(80) + "slot 0 001 q212 201 3\nattr 0 374 07\n")
+pair("attribute-set-again", block(128, [SLOT, [entry(0x374, 0, removal=True)], [entry(0x374, 0, b"\x07")]]),
+     head(80) + "slot 0 001 q212 201 3\nattr 0 374 07\n")
 # missing parts
 pair("no-name", block(128, [[entry(CREATE, 0), entry(INLINE, 0, b"abc")]]), head(32) + "slot 0 - - 201 3\n")
 pair("no-struct", block(128, [[entry(CREATE, 0), entry(DIR, 0, b"d")]]), head(32) + "slot 0 002 d - -\n")
 pair("nothing-in-it", block(128, [[entry(CREATE, 0)]]), head(16) + "slot 0 - - - -\n")
 pair("no-slots", block(128, [[]]), head(16, 0))
-pair("empty-inline-file", block(128, [[entry(CREATE, 0), entry(FILE, 0, b"e"), entry(INLINE, 0)]]), head(32) + "slot 0 001 e 201 0\n")
-pair("directory-and-ctz", block(256, [[entry(CREATE, 0), entry(DIR, 0, b"dir"), entry(0x200, 0, bytes(8)), entry(CREATE, 1), entry(FILE, 1, b"big"), entry(CTZ, 1, bytes(8))]]),
+pair("empty-inline-file", block(128, [[entry(CREATE, 0), entry(FILE, 0, b"e"), entry(INLINE, 0)]]),
+     head(32) + "slot 0 001 e 201 0\n")
+pair("directory-and-ctz",
+     block(256, [[entry(CREATE, 0), entry(DIR, 0, b"dir"), entry(0x200, 0, bytes(8)), entry(CREATE, 1),
+                  entry(FILE, 1, b"big"), entry(CTZ, 1, bytes(8))]]),
      head(64, 2) + "slot 0 002 dir 200 8\nslot 1 001 big 202 8\n")
-pair("superblock", block(128, [[entry(CREATE, 0), entry(SUPER, 0, b"littlefs"), entry(INLINE, 0, bytes(24))]]), head(64) + "slot 0 0ff littlefs 201 24\n")
+pair("superblock", block(128, [[entry(CREATE, 0), entry(SUPER, 0, b"littlefs"), entry(INLINE, 0, bytes(24))]]),
+     head(64) + "slot 0 0ff littlefs 201 24\n")
 # slots that move
-pair("slot-deleted", block(256, [SLOT + [entry(CREATE, 0), entry(FILE, 0, b"a"), entry(CREATE, 2), entry(FILE, 2, b"z")], [entry(DELETE, 1)]]),
+pair("slot-deleted",
+     block(256, [SLOT + [entry(CREATE, 0), entry(FILE, 0, b"a"), entry(CREATE, 2), entry(FILE, 2, b"z")],
+                 [entry(DELETE, 1)]]),
      head(80, 2) + "slot 0 001 a - -\nslot 1 001 z - -\n")
 pair("all-deleted", block(128, [SLOT, [entry(DELETE, 0)]]), head(64, 0))
 # names that need escapes
-pair("name-escapes", block(128, [[entry(CREATE, 0), entry(FILE, 0, b" \\\x7f\xff\x00!~\x20x")]]), head(32) + "slot 0 001 \\x20\\x5c\\x7f\\xff\\x00!~\\x20x - -\n")
+pair("name-escapes", block(128, [[entry(CREATE, 0), entry(FILE, 0, b" \\\x7f\xff\x00!~\x20x")]]),
+     head(32) + "slot 0 001 \\x20\\x5c\\x7f\\xff\\x00!~\\x20x - -\n")
 pair("name-every-byte", block(512, [[entry(CREATE, 0), entry(FILE, 0, bytes(range(256)))]]))
 pair("name-of-1022", block(2048, [[entry(CREATE, 0), entry(FILE, 0, b"\n" * 1022)]]))
-pair("name-a-dash", block(128, [[entry(CREATE, 0), entry(FILE, 0, b"-"), entry(INLINE, 0)]]), head(32) + "slot 0 001 - 201 0\n")
+pair("name-a-dash", block(128, [[entry(CREATE, 0), entry(FILE, 0, b"-"), entry(INLINE, 0)]]),
+     head(32) + "slot 0 001 - 201 0\n")
 # tails
 numbers = (7).to_bytes(4, "little") + (0xFFFFFFFE).to_bytes(4, "little")
-pair("tail-soft", block(128, [SLOT + [entry(SOFT, NO_SLOT, numbers)]]), head(64, tail="soft 7 4294967294") + "slot 0 001 q212 201 3\nattr 0 374 905f0100\n")
-pair("tail-hard", block(128, [SLOT + [entry(HARD, NO_SLOT, numbers)]]), head(64, tail="hard 7 4294967294") + "slot 0 001 q212 201 3\nattr 0 374 905f0100\n")
+pair("tail-soft", block(128, [SLOT + [entry(SOFT, NO_SLOT, numbers)]]),
+     head(64, tail="soft 7 4294967294") + "slot 0 001 q212 201 3\nattr 0 374 905f0100\n")
+pair("tail-hard", block(128, [SLOT + [entry(HARD, NO_SLOT, numbers)]]),
+     head(64, tail="hard 7 4294967294") + "slot 0 001 q212 201 3\nattr 0 374 905f0100\n")
 pair("tail-hard-null", block(128, [[entry(HARD, NO_SLOT, b"\xff" * 8)]]), head(32, 0, "hard 4294967295 4294967295"))
 pair("tail-soft-null", block(128, [[entry(SOFT, NO_SLOT, b"\xff" * 8)]]), head(32, 0))
-pair("tail-soft-one-null", block(128, [[entry(SOFT, NO_SLOT, b"\xff" * 4 + bytes(4))]]), head(32, 0, "soft 4294967295 0"))
+pair("tail-soft-one-null", block(128, [[entry(SOFT, NO_SLOT, b"\xff" * 4 + bytes(4))]]),
+     head(32, 0, "soft 4294967295 0"))
 # the other block, its revision, a revision that wraps
-pair("second-block", block(128, [SLOT], 4), head(48, rev=5, number=1) + "slot 0 001 q212 201 3\nattr 0 374 905f0100\n", block(128, [SLOT], 5))
-pair("revision-wraps", block(128, [SLOT], 0xFFFFFFFF), head(48, rev=0, number=1) + "slot 0 001 q212 201 3\nattr 0 374 905f0100\n", block(128, [SLOT], 0))
-pair("newer-block-torn", block(128, [SLOT], 4), head(48, rev=4) + "slot 0 001 q212 201 3\nattr 0 374 905f0100\n", block(128, [SLOT], 5, break_sum=True))
+pair("second-block", block(128, [SLOT], 4), head(48, rev=5, number=1) + "slot 0 001 q212 201 3\nattr 0 374 905f0100\n",
+     block(128, [SLOT], 5))
+pair("revision-wraps", block(128, [SLOT], 0xFFFFFFFF),
+     head(48, rev=0, number=1) + "slot 0 001 q212 201 3\nattr 0 374 905f0100\n", block(128, [SLOT], 0))
+pair("newer-block-torn", block(128, [SLOT], 4), head(48, rev=4) + "slot 0 001 q212 201 3\nattr 0 374 905f0100\n",
+     block(128, [SLOT], 5, break_sum=True))
 pair("revision-highest", block(128, [[]], 0xFFFFFFFF), head(16, 0, rev=4294967295))
 # the erased mark
 forward = (32).to_bytes(4, "little") + summed(0xFFFFFFFF, b"\xff" * 32).to_bytes(4, "little")
 ready = block(128, [SLOT + [entry(FORWARD, NO_SLOT, forward)]])
 pair("erased", ready[:64] + b"\xff" * 64, head(64, erased="yes") + "slot 0 001 q212 201 3\nattr 0 374 905f0100\n")
-pair("erased-no-more", ready[:64] + b"\xff" * 20 + b"\x00" + b"\xff" * 43, head(64) + "slot 0 001 q212 201 3\nattr 0 374 905f0100\n")
+pair("erased-no-more", ready[:64] + b"\xff" * 20 + b"\x00" + b"\xff" * 43,
+     head(64) + "slot 0 001 q212 201 3\nattr 0 374 905f0100\n")
 pair("erased-in-an-earlier-commit", block(128, [[entry(FORWARD, NO_SLOT, forward)], []]), head(48, 0, erased="yes"))
-pair("erased-by-bit-31", block(128, [SLOT + [entry(FORWARD, NO_SLOT, forward)]], check=0x501), head(64) + "slot 0 001 q212 201 3\nattr 0 374 905f0100\n")
+pair("erased-by-bit-31", block(128, [SLOT + [entry(FORWARD, NO_SLOT, forward)]], check=0x501),
+     head(64) + "slot 0 001 q212 201 3\nattr 0 374 905f0100\n")
 # what is not committed does not show
 torn = block(128, [SLOT, [entry(CREATE, 1), entry(FILE, 1, b"new")]])
 pair("not-committed", torn[:60] + b"\xff" * 68, HEAD + "slot 0 001 q212 201 3\nattr 0 374 905f0100\n")
@@ -265,7 +297,8 @@ pair("irregular", block(128, [[entry(FILE, 5, b"a")]]), head(32, 6) + "refused -
 pair("irregular-struct", block(128, [[entry(CREATE, 0), entry(0x200, 0, bytes(7))]]), head(32) + "refused -202\n")
 pair("irregular-check", block(128, [SLOT], sizes=[3]), head(38) + "refused -202\n")
 pair("irregular-later", block(128, [SLOT, [entry(0x374, 1, b"")]]), head(64) + "refused -202\n")
-pair("irregular-erased", block(128, [[entry(FILE, 5, b"a"), entry(FORWARD, NO_SLOT, forward)]]), head(32, 6, erased="yes") + "refused -202\n")
+pair("irregular-erased", block(128, [[entry(FILE, 5, b"a"), entry(FORWARD, NO_SLOT, forward)]]),
+     head(32, 6, erased="yes") + "refused -202\n")
 # refusals
 case("empty", b"", "refused -22\n")
 case("one-byte", b"\x00", "refused -22\n")
@@ -284,9 +317,13 @@ pair("count-1023-irregular", block(128, [[entry(FILE, 1022, b"a")]]), head(32, 1
 # whole blocks of 32,768 bytes: the most slots, the longest names, empty attributes, one attribute of each type
 end = 32768 - 4 - 8
 slots = [entry(CREATE, i) for i in range(1023)]
-pair("full-of-attributes", block(32768, [slots + [entry(0x300 + i % 256, 1022 - i // 256) for i in range((end - 4 * 1023) // 4)]]))
-pair("full-of-names", block(32768, [[e for i in range(31) for e in (entry(CREATE, i), entry(FILE, i, b"\x80" * 1022))]]))
-pair("full-of-slots", block(32768, [slots + [e for i in range(1023) for e in (entry(FILE, i, f"{i:08d}q".encode()), entry(INLINE, i, b"abc"), entry(0x374, i, b""))][:3 * 1000]]))
+pair("full-of-attributes",
+     block(32768, [slots + [entry(0x300 + i % 256, 1022 - i // 256) for i in range((end - 4 * 1023) // 4)]]))
+pair("full-of-names",
+     block(32768, [[e for i in range(31) for e in (entry(CREATE, i), entry(FILE, i, b"\x80" * 1022))]]))
+held = [e for i in range(1000)
+        for e in (entry(FILE, i, f"{i:08d}q".encode()), entry(INLINE, i, b"abc"), entry(0x374, i, b""))]
+pair("full-of-slots", block(32768, [slots + held]))
 pair("every-attribute", block(4096, [[entry(CREATE, 0)] + [entry(0x3FF - i, 0, bytes([i])) for i in range(256)]]))
 pair("largest-block-second", block(32768, [SLOT], 1), None, block(32768, [SLOT + [entry(0x300, 0, bytes(1022))]], 2))
 
@@ -302,7 +339,8 @@ random.seed(20261115)
 
 def some_entry(count):
     id = random.randrange(count) if count and random.random() < 0.98 else count
-    kind = random.choice(("create", "create", "name", "struct", "attr", "attr", "attr", "remove", "delete", "tail")) if count else "create"
+    kinds = ("create", "create", "name", "struct", "attr", "attr", "attr", "remove", "delete", "tail")
+    kind = random.choice(kinds) if count else "create"
     body = bytes(random.choice((0, 32, 65, 92, 126, 127, 255)) for _ in range(random.randrange(1, 9)))
     if kind == "create":
         return entry(CREATE, random.randrange(count + 1)), 1
@@ -349,7 +387,8 @@ def audited(name, first, lacks, second=None):
 
 
 def slot(id, name, *entries):
-    return [entry(CREATE, id)] + ([entry(FILE, id, name)] if name else []) + [entry(type, id, data) for type, data in entries]
+    named = [entry(FILE, id, name)] if name else []
+    return [entry(CREATE, id)] + named + [entry(type, id, data) for type, data in entries]
 
 
 ABC, DUE, FAR = (INLINE, b"abc"), (0x374, b"\x90\x5f\x01\x00"), (CTZ, bytes(8))
@@ -362,29 +401,41 @@ audited("separate-commits-cut", separate[:40] + b"\xff" * 88, "slot 0 q212 no de
 audited("deadline-first-cut", block(128, [slot(0, b"q212", DUE)]), "slot 0 q212 no payload\n" + totals(0, 1, 1))
 audited("one-of-each", block(256, [slot(0, b"a", ABC) + slot(1, b"b", ABC, DUE) + slot(2, b"c", DUE) + slot(3, b"d")]),
         "slot 0 a no deadline\nslot 2 c no payload\n" + totals(1, 1, 4))
-audited("212-of-them", block(16384, [[e for i in range(300) for e in slot(i, b"q%d" % i, *((ABC,) if i < 212 else (ABC, DUE)))]]),
+audited("212-of-them",
+        block(16384, [[e for i in range(300) for e in slot(i, b"q%d" % i, *((ABC,) if i < 212 else (ABC, DUE)))]]),
         "".join(f"slot {i} q{i} no deadline\n" for i in range(212)) + totals(212, 0, 300))
 # an attribute removed is none, one set again is one; an empty one counts; 0x375 and 0x373 are others
-audited("deadline-removed", block(128, [SLOT, [entry(0x374, 0, removal=True)]]), "slot 0 q212 no deadline\n" + totals(1, 0, 1))
-audited("deadline-set-again", block(128, [SLOT, [entry(0x374, 0, removal=True)], [entry(0x374, 0, b"\x07")]]), totals(0, 0, 1))
+audited("deadline-removed", block(128, [SLOT, [entry(0x374, 0, removal=True)]]),
+        "slot 0 q212 no deadline\n" + totals(1, 0, 1))
+audited("deadline-set-again", block(128, [SLOT, [entry(0x374, 0, removal=True)], [entry(0x374, 0, b"\x07")]]),
+        totals(0, 0, 1))
 audited("deadline-empty", block(128, [slot(0, b"e", ABC, (0x374, b""))]), totals(0, 0, 1))
-audited("other-attributes", block(128, [slot(0, b"o", ABC, (0x373, b"\x01"), (0x375, b"\x01"))]), "slot 0 o no deadline\n" + totals(1, 0, 1))
+audited("other-attributes", block(128, [slot(0, b"o", ABC, (0x373, b"\x01"), (0x375, b"\x01"))]),
+        "slot 0 o no deadline\n" + totals(1, 0, 1))
 # payloads: an empty inline file is none, a CTZ list is one, a directory's struct is none
-audited("empty-inline-deadline", block(128, [slot(0, b"e", (INLINE, b""), DUE)]), "slot 0 e no payload\n" + totals(0, 1, 1))
+audited("empty-inline-deadline", block(128, [slot(0, b"e", (INLINE, b""), DUE)]),
+        "slot 0 e no payload\n" + totals(0, 1, 1))
 audited("empty-inline-alone", block(128, [slot(0, b"e", (INLINE, b""))]), totals(0, 0, 1))
 audited("one-byte-inline", block(128, [slot(0, b"e", (INLINE, b"x"))]), "slot 0 e no deadline\n" + totals(1, 0, 1))
 audited("ctz", block(128, [slot(0, b"big", FAR)]), "slot 0 big no deadline\n" + totals(1, 0, 1))
 audited("ctz-deadline", block(128, [slot(0, b"big", FAR, DUE)]), totals(0, 0, 1))
-audited("directory-struct", block(128, [slot(0, b"f", (0x200, bytes(8)), DUE)]), "slot 0 f no payload\n" + totals(0, 1, 1))
+audited("directory-struct", block(128, [slot(0, b"f", (0x200, bytes(8)), DUE)]),
+        "slot 0 f no payload\n" + totals(0, 1, 1))
 audited("emptied", block(128, [SLOT, [entry(INLINE, 0)]]), "slot 0 q212 no payload\n" + totals(0, 1, 1))
 # what is no instruction, and a slot with no name, which is one
-audited("directory-and-superblock", block(256, [[entry(CREATE, 0), entry(SUPER, 0, b"littlefs"), entry(INLINE, 0, bytes(24)),
-                                                 entry(CREATE, 1), entry(DIR, 1, b"d"), entry(INLINE, 1, b"abc"), entry(CREATE, 2), entry(DIR, 2, b"t"), entry(0x374, 2, b"")]]), totals(0, 0, 3))
+audited("directory-and-superblock",
+        block(256, [[entry(CREATE, 0), entry(SUPER, 0, b"littlefs"), entry(INLINE, 0, bytes(24)),
+                     entry(CREATE, 1), entry(DIR, 1, b"d"), entry(INLINE, 1, b"abc"),
+                     entry(CREATE, 2), entry(DIR, 2, b"t"), entry(0x374, 2, b"")]]), totals(0, 0, 3))
 audited("renamed-a-directory", block(128, [slot(0, b"f", ABC), [entry(DIR, 0, b"f")]]), totals(0, 0, 1))
-audited("no-name", block(128, [slot(0, b"", ABC) + slot(1, b"", DUE) + slot(2, b"")]), "slot 0 - no deadline\nslot 1 - no payload\n" + totals(1, 1, 3))
-audited("name-escapes", block(128, [slot(0, b"a b\\\xff", ABC)]), "slot 0 a\\x20b\\x5c\\xff no deadline\n" + totals(1, 0, 1))
-audited("slot-deleted", block(256, [slot(0, b"a", ABC) + slot(1, b"b", ABC), [entry(DELETE, 0)]]), "slot 0 b no deadline\n" + totals(1, 0, 1))
-audited("second-block", block(128, [SLOT], 4), "slot 0 q no deadline\n" + totals(1, 0, 1), block(128, [slot(0, b"q", ABC)], 5))
+audited("no-name", block(128, [slot(0, b"", ABC) + slot(1, b"", DUE) + slot(2, b"")]),
+        "slot 0 - no deadline\nslot 1 - no payload\n" + totals(1, 1, 3))
+audited("name-escapes", block(128, [slot(0, b"a b\\\xff", ABC)]),
+        "slot 0 a\\x20b\\x5c\\xff no deadline\n" + totals(1, 0, 1))
+audited("slot-deleted", block(256, [slot(0, b"a", ABC) + slot(1, b"b", ABC), [entry(DELETE, 0)]]),
+        "slot 0 b no deadline\n" + totals(1, 0, 1))
+audited("second-block", block(128, [SLOT], 4), "slot 0 q no deadline\n" + totals(1, 0, 1),
+        block(128, [slot(0, b"q", ABC)], 5))
 audited("irregular", block(128, [[entry(FILE, 5, b"a")]]), "refused -202\n")
 audited("torn", block(128, [SLOT], break_sum=True), "refused -84\n")
 case("audit-odd", (block(128, [SLOT]) + b"\xff" * 128)[:255], None, "refused -22\n")
@@ -396,7 +447,8 @@ for k in range(60):
     entries, count = [], random.randrange(1, 9)
     for id in range(count):
         entries.append(entry(CREATE, id))
-        parts = [entry(random.choice((FILE, FILE, FILE, DIR, SUPER)), id, b"n%d" % id), entry(INLINE, id, random.choice((b"", b"x"))), entry(random.choice((0x200, CTZ)), id, bytes(8)),
+        parts = [entry(random.choice((FILE, FILE, FILE, DIR, SUPER)), id, b"n%d" % id),
+                 entry(INLINE, id, random.choice((b"", b"x"))), entry(random.choice((0x200, CTZ)), id, bytes(8)),
                  entry(0x374, id, random.choice((b"", b"t"))), entry(0x374, id, removal=True), entry(0x375, id)]
         entries += random.sample(parts, random.randrange(5))
     if random.random() < 0.5:

@@ -1,9 +1,9 @@
 #!/usr/bin/env python3
-"""Writes the two pair images that the examples read, samples/q212.pair and samples/instructions.pair, and what the examples must print of them,
-examples/restart.expected: first q212.pair, then instructions.pair.
+"""Writes the two pair images that the examples read, samples/q212.pair and samples/instructions.pair, and what the
+examples must print of them, examples/restart.expected: first q212.pair, then instructions.pair.
 
-The images come from writer.py, the text from the tables of what each pair holds in the end; nothing is taken from the port or from the
-examples. A table says it by hand: no reader of logs stands between. Run by hand when a pair changes.
+The images come from writer.py, the text from the tables of what each pair holds in the end; nothing is taken from the
+port or from the examples. A table says it by hand: no reader of logs stands between. Run by hand when a pair changes.
 """
 import os
 
@@ -45,7 +45,8 @@ def shown_name(name):
 
 
 def shown(held, tail=None):
-    """What the examples print. `held` has slot, name, payload's length and the deadline, a number or a text; a missing one is `-`."""
+    """What the examples print. `held` has slot, name, payload's length and the deadline, a number or a text; a missing
+    one is `-`."""
     def line(mark, slot):
         return f"{mark} {slot[0]} {shown_name(slot[1])} payload {slot[2]} deadline {slot[3]}"
 
@@ -87,7 +88,8 @@ NEW = log(
      (CREATE, 8, b""), (FILE, 8, b"q218"), (INLINE, 8, b"stop"), (ATTR, 8, b"\x3c\x00"),
      (CREATE, 9, b""), (FILE, 9, b"note"), (INLINE, 9, b"")])
 save("instructions.pair", OLD, NEW)
-HELD = [(2, b"q212", 3, 90000), (3, b"q213", 6, 3600), (4, b"q214", 4096, 86400), (5, b"q215", 12, "-"), (6, b"q216", "-", 5400),
+HELD = [(2, b"q212", 3, 90000), (3, b"q213", 6, 3600), (4, b"q214", 4096, 86400), (5, b"q215", 12, "-"),
+        (6, b"q216", "-", 5400),
         (7, b"q217 \\\xb5", 2, 86400), (8, b"q218", 4, "of 2 bytes"), (9, b"note", "-", "-")]
 
 with open(os.path.join(HERE, "..", "examples", "restart.expected"), "w") as f:

@@ -1,5 +1,6 @@
 #!/usr/bin/env python3
-"""Takes metadata pairs out of volumes that a real littlefs in C wrote, with what that littlefs shows of them, and writes samples/real/.
+"""Takes metadata pairs out of volumes that a real littlefs in C wrote, with what that littlefs shows of them, and
+writes samples/real/.
 
     samples/make_real.py VOLUMES      VOLUMES: a directory of NAME.img.gz and NAME.json
 
@@ -26,7 +27,8 @@ def superblock(seen):
     """The superblock entry's 24 bytes, from what littlefs shows of the file system."""
     fs = seen["fs"]
     major, minor = fs["disk_version"].split(".")
-    numbers = [int(major) << 16 | int(minor), fs["block_size"], fs["block_count"], fs["name_max"], fs["file_max"], fs["attr_max"]]
+    numbers = [int(major) << 16 | int(minor), fs["block_size"], fs["block_count"], fs["name_max"], fs["file_max"],
+               fs["attr_max"]]
     return b"".join(n.to_bytes(4, "little") for n in numbers)
 
 
@@ -43,7 +45,8 @@ def slots(volume, pair):
             data = b"".join(n.to_bytes(4, "little") for n in entry["dir"])
             yield entry["id"], TYPES["dir"], name, 0x200, 0, data, entry.get("attrs", {})
         else:
-            yield entry["id"], TYPES["file"], name, STRUCTS[entry["struct"]], entry["size"], None, entry.get("attrs", {})
+            attrs = entry.get("attrs", {})
+            yield entry["id"], TYPES["file"], name, STRUCTS[entry["struct"]], entry["size"], None, attrs
 
 
 def write_pair(out, name, volume, image, pair):

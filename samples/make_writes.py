@@ -1,15 +1,18 @@
 #!/usr/bin/env python3
-"""Writes samples/writes/cases and samples/writes/expected: commits and compactions at the edges of document 01, and what each must answer and leave.
+"""Writes samples/writes/cases and samples/writes/expected: commits and compactions at the edges of document 01, and
+what each must answer and leave.
 
-What is expected is worked out here from document 01 alone, by a writer of its own (writer.py); nothing is taken from the port. A case is one line,
+What is expected is worked out here from document 01 alone, by a writer of its own (writer.py); nothing is taken from
+the port. A case is one line,
     NAME OP BLOCK PROG N0 N1 COUNT SEED LIMIT IMAGE0 IMAGE1 ENTRIES DATA
-with OP commit or compact, LIMIT a number of stores or -, images and data as runs of hex (aa*9 is aa nine times), ENTRIES as
-type:id:off:len*times, all joined by commas, - for none. Run by hand when the set changes.
+with OP commit or compact, LIMIT a number of stores or -, images and data as runs of hex (aa*9 is aa nine times),
+ENTRIES as type:id:off:len*times, all joined by commas, - for none. Run by hand when the set changes.
 """
 import os
 import zlib
 
-from writer import (ATTR, CREATE, DELETE, FILE, HARD, INLINE, MOVE, SOFT, appended, block, check_size, checksum, compacted, runs, tag)
+from writer import (ATTR, CREATE, DELETE, FILE, HARD, INLINE, MOVE, SOFT, appended, block, check_size, checksum,
+                    compacted, runs, tag)
 
 HERE = os.path.join(os.path.dirname(os.path.abspath(__file__)), "writes")
 
@@ -53,13 +56,15 @@ def accepted_compaction(name, size, prog, base, held, count, limit=None, revisio
         first, _, end, last = appended(first, prog, end, last, list(extra), b"", None)
     old = b"\x55" * size
     new, made, stop, this = compacted(size, prog, (revision + 1) % 2 ** 32, held, limit, old)
-    answer = f"made {made}" if limit is not None else f"end {stop} tag {this:08x} count {count} rev {(revision + 1) % 2 ** 32}"
+    answer = f"end {stop} tag {this:08x} count {count} rev {(revision + 1) % 2 ** 32}"
+    if limit is not None:
+        answer = f"made {made}"
     case(name, "compact", size, prog, (first, old), [], b"", answer, (first, new), limit=limit)
 
 
 def coincidence(prog, end, start, last, entries):
-    """An attribute of slot 0 whose four bytes make the checksum behind the check tag's first byte, filled with 0xff, 0xffffffff. The checksum
-    is linear in the four bytes, so one solves 32 equations in 32 unknowns."""
+    """An attribute of slot 0 whose four bytes make the checksum behind the check tag's first byte, filled with 0xff,
+    0xffffffff. The checksum is linear in the four bytes, so one solves 32 equations in 32 unknowns."""
     def after(value):
         body = value.to_bytes(4, "little")
         word = b""
@@ -89,7 +94,8 @@ def coincidence(prog, end, start, last, entries):
     return solution.to_bytes(4, "little")
 
 
-SLOT = [(tag(CREATE, 0, 0), b""), (tag(FILE, 0, 4), b"q212"), (tag(INLINE, 0, 3), b"abc"), (tag(ATTR, 0, 4), b"\x90\x5f\x01\x00")]
+SLOT = [(tag(CREATE, 0, 0), b""), (tag(FILE, 0, 4), b"q212"), (tag(INLINE, 0, 3), b"abc"),
+        (tag(ATTR, 0, 4), b"\x90\x5f\x01\x00")]
 DEADLINE = [(ATTR, 0, 0, 4)]
 SECONDS = b"\x10\x0e\x00\x00"
 
@@ -124,14 +130,16 @@ irregular = block(128, 16, [(tag(FILE, 5, 1), b"a")])[0]
 refused("commit-irregular-and-bad", "commit", 128, 16, (irregular, erased), [(0x400, 0, 0, 0)], b"", -202)
 refused("commit-second-bad", "commit", 128, 16, (image, erased), [(CREATE, 1, 0, 0), (FILE, 1, 1, 4)], SECONDS, -201, 1)
 refused("commit-empty-data-past-the-buffer", "commit", 128, 16, (image, erased), [(CREATE, 1, 5, 0)], SECONDS, -201, 0)
-refused("commit-bad-before-no-space", "commit", 128, 16, (image, erased), [(INLINE, 0, 0, 100), (FILE, 7, 0, 1)], b"p" * 100, -201, 1)
+refused("commit-bad-before-no-space", "commit", 128, 16, (image, erased), [(INLINE, 0, 0, 100), (FILE, 7, 0, 1)],
+        b"p" * 100, -201, 1)
 unclean = image[:127] + b"\x00"
 refused("commit-unclean", "commit", 128, 16, (unclean, erased), DEADLINE, SECONDS, -203)
 refused("commit-no-space-before-unclean", "commit", 128, 16, (unclean, erased), [(INLINE, 0, 0, 69)], b"p" * 69, -28)
 # the old end is 48, no multiple of 32
 refused("commit-end-unaligned", "commit", 128, 32, (image, erased), DEADLINE, SECONDS, -203)
 refused("commit-coincidence", "commit", 128, 16, (image, erased), DEADLINE, coincidence(16, end, b"", last, []), -204)
-refused("commit-coincidence-limited", "commit", 128, 16, (image, erased), DEADLINE, coincidence(16, end, b"", last, []), -204, limit=3)
+refused("commit-coincidence-limited", "commit", 128, 16, (image, erased), DEADLINE, coincidence(16, end, b"", last, []),
+        -204, limit=3)
 
 # ---- compactions
 for size, prog in ((128, 4), (128, 16), (765, 255), (1024, 512)):
@@ -142,9 +150,11 @@ accepted_compaction("compact-nothing", 128, 16, [], [], 0)
 accepted_compaction("compact-revision-wraps", 128, 16, SLOT, SLOT, 1, revision=0xFFFFFFFF)
 # attributes by rising type, the newest of each, removals and deleted slots gone; then tail and move state
 tail, move = (tag(HARD, 1023, 8), bytes(range(8))), (tag(MOVE, 1023, 12), bytes(range(12)))
-mixed = [move, (tag(CREATE, 0, 0), b""), (tag(CREATE, 1, 0), b""), (tag(0x301, 1, 1), b"b"), (tag(0x300, 1, 1), b"a"), (tag(0x301, 1, 2), b"cc"),
-         (tag(0x302, 1, 1), b"d"), (tag(0x302, 1, 1023), b""), (tag(FILE, 1, 1), b"n"), (tag(FILE, 0, 1), b"m"), (tag(DELETE, 0, 0), b""), tail]
-held = [(tag(CREATE, 0, 0), b""), (tag(FILE, 0, 1), b"n"), (tag(0x300, 0, 1), b"a"), (tag(0x301, 0, 2), b"cc"), tail, move]
+mixed = [move, (tag(CREATE, 0, 0), b""), (tag(CREATE, 1, 0), b""), (tag(0x301, 1, 1), b"b"), (tag(0x300, 1, 1), b"a"),
+         (tag(0x301, 1, 2), b"cc"), (tag(0x302, 1, 1), b"d"), (tag(0x302, 1, 1023), b""), (tag(FILE, 1, 1), b"n"),
+         (tag(FILE, 0, 1), b"m"), (tag(DELETE, 0, 0), b""), tail]
+held = [(tag(CREATE, 0, 0), b""), (tag(FILE, 0, 1), b"n"), (tag(0x300, 0, 1), b"a"), (tag(0x301, 0, 2), b"cc"), tail,
+        move]
 accepted_compaction("compact-mixed", 256, 16, mixed, held, 1)
 # a soft tail of two 0xffffffff is none
 accepted_compaction("compact-no-tail", 128, 16, SLOT + [(tag(SOFT, 1023, 8), b"\xff" * 8)], SLOT, 1)
@@ -157,7 +167,8 @@ fatal = block(128, 16, SLOT[:3] + [(tag(ATTR, 0, 4), deadline)])[0]
 refused("compact-coincidence", "compact", 128, 16, (fatal, erased), [], b"", -204)
 # an old end that is no multiple of the program size, and room that is not clean, are no matter here
 new, _, stop, this = compacted(128, 32, 2, SLOT, None, erased)
-case("compact-unaligned-unclean", "compact", 128, 32, (unclean, erased), [], b"", f"end {stop} tag {this:08x} count 1 rev 2", (unclean, new))
+case("compact-unaligned-unclean", "compact", 128, 32, (unclean, erased), [], b"",
+     f"end {stop} tag {this:08x} count 1 rev 2", (unclean, new))
 
 os.makedirs(HERE, exist_ok=True)
 for name, lines in (("cases", CASES), ("expected", EXPECTED)):

@@ -1,10 +1,12 @@
-"""A writer of metadata blocks, from document 01 alone: commits appended, and blocks written anew. Nothing is taken from the port.
+"""A writer of metadata blocks, from document 01 alone: commits appended, and blocks written anew. Nothing is taken from
+the port.
 
 The scripts beside it make their images with it.
 """
 import zlib
 
-CREATE, FILE, INLINE, CTZ, ATTR, DELETE, SOFT, HARD, MOVE = 0x401, 0x001, 0x201, 0x202, 0x374, 0x4FF, 0x600, 0x601, 0x7FF
+CREATE, FILE, INLINE, CTZ, ATTR = 0x401, 0x001, 0x201, 0x202, 0x374
+DELETE, SOFT, HARD, MOVE = 0x4FF, 0x600, 0x601, 0x7FF
 
 
 def checksum(data):
@@ -51,7 +53,8 @@ def entry_tags(entries, data):
 
 
 def appended(image, prog, end, last, entries, data, limit):
-    """The image after a commit of `limit` stores (all: None), how many there are, and the end and end tag of the whole."""
+    """The image after a commit of `limit` stores (all: None), how many there are, and the end and end tag of the
+    whole."""
     stored, this = commit_bytes(prog, end, b"", last, entry_tags(entries, data))
     made = len(stored) if limit is None else min(limit, len(stored))
     return image[:end] + stored[:made] + image[end + made:], made, end_of(prog, end + len(stored)), this
@@ -59,7 +62,8 @@ def appended(image, prog, end, last, entries, data, limit):
 
 def compacted(size, prog, revision, entries, limit, old):
     whole, end, this = block(size, prog, entries, revision)
-    stores = 1 + len((revision.to_bytes(4, "little") + commit_bytes(prog, 4, revision.to_bytes(4, "little"), 0xFFFFFFFF, entries)[0]))
+    start = revision.to_bytes(4, "little")
+    stores = 1 + len(start + commit_bytes(prog, 4, start, 0xFFFFFFFF, entries)[0])
     made = stores if limit is None else min(limit, stores)
     return (old if made == 0 else whole[:made - 1].ljust(size, b"\xff")), made, end, this
 

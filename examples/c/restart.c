@@ -1,7 +1,10 @@
-/* restart.c: a controller's restart. It reads a metadata pair, finds every instruction's payload and deadline, hangs the instructions on a timer
- * wheel and prints them in the order in which they come due; then those that lack a deadline or a payload, so that none is dropped in silence.
+/* restart.c: a controller's restart. It reads a metadata pair, finds every instruction's payload and deadline, hangs
+ * the instructions on a timer wheel and prints them in the order in which they come due; then those that lack a
+ * deadline or a payload, so that none is dropped in silence.
  *
- *     restart FILE     FILE has both blocks of the pair, one behind the other. Exits 2 if it is no such file, 1 if its pair is refused.
+ *     restart FILE     FILE has both blocks of the pair, one behind the other
+ *
+ * Exits 2 if it is no such file, 1 if its pair is refused.
  *
  * No heap: all that it needs stands below, for the largest pair that there is. */
 #include "lanolin.h"
@@ -13,7 +16,8 @@
 enum { PROG_SIZE = 16, MOST_BLOCK = 32768, MOST_SLOTS = 1023, MOST_NAME = 1022 };
 enum { BUCKETS = 64, NONE = 0xffff };
 
-/* What is looked up for a slot: any name and any struct, by the type's upper three bits; the deadline, user attribute 0x74, by all of them. */
+/* What is looked up for a slot: any name and any struct, by the type's upper three bits; the deadline, user attribute
+ * 0x74, by all of them. */
 enum { BY_CLASS = 0x700ffc00, NAME = 0x000, STRUCT = 0x200 };
 enum { BY_TYPE = 0x7ffffc00, DEADLINE = 0x374 };
 
@@ -21,11 +25,11 @@ enum { BY_TYPE = 0x7ffffc00, DEADLINE = 0x374 };
 enum { DIRECTORY = 0x002, SUPERBLOCK = 0x0ff, INLINE_STRUCT = 0x201, CTZ_STRUCT = 0x202 };
 
 typedef struct {
-    bool payload, attribute;  /* whether there is one */
-    uint32_t length;          /* the payload's, in bytes */
-    uint32_t attribute_size;  /* a deadline has four bytes; with any other number it is none */
-    uint32_t deadline;        /* in seconds */
-    uint16_t next;            /* the slot behind this one in its bucket */
+    bool payload, attribute; /* whether there is one */
+    uint32_t length;         /* the payload's, in bytes */
+    uint32_t attribute_size; /* a deadline has four bytes; with any other number it is none */
+    uint32_t deadline;       /* in seconds */
+    uint16_t next;           /* the slot behind this one in its bucket */
 } slot_t;
 
 static uint8_t image[2 * MOST_BLOCK + 1]; /* one byte more: a longer file is seen */
@@ -53,7 +57,8 @@ static void read_pair(const char *file) {
     size_t size = fread(image, 1, sizeof image, f);
     if (ferror(f)) give_up(2, file, "can't be read");
     fclose(f);
-    if (size == 0 || size % 2 || size > 2 * MOST_BLOCK) give_up(2, file, "not two blocks of equal size, of 32,768 bytes at most");
+    if (size == 0 || size % 2 || size > 2 * MOST_BLOCK)
+        give_up(2, file, "not two blocks of equal size, of 32,768 bytes at most");
     g = (lanolin_geometry){.block_size = (uint32_t)size / 2, .prog_size = PROG_SIZE};
 
     lanolin_fetched fetched = lanolin_fetch(g, image, g.block_size, image + g.block_size, g.block_size, 0, 1, 0, 0);
@@ -61,18 +66,21 @@ static void read_pair(const char *file) {
     dir = fetched.dir;
 }
 
-/* The newest entry of a slot: its tag, and its first bytes. The global state is zero, no pending move: one pair alone can't tell. A controller
- * with several pairs XORs the move states of all of them (lanolin_getgstate) and hands in the sum. */
+/* The newest entry of a slot: its tag, and its first bytes. The global state is zero, no pending move: one pair alone
+ * can't tell. A controller with several pairs XORs the move states of all of them (lanolin_getgstate) and hands in the
+ * sum. */
 static bool look(uint32_t mask, uint32_t type, uint16_t id, uint8_t *buffer, size_t size, uint32_t *tag) {
-    lanolin_got got = lanolin_getslice(g, image, g.block_size, image + g.block_size, g.block_size, 0, 1, dir, (lanolin_gstate){0}, mask,
-                                       lanolin_mktag(type, id, 0), 0, buffer, size);
+    lanolin_got got = lanolin_getslice(g, image, g.block_size, image + g.block_size, g.block_size, 0, 1, dir,
+                                       (lanolin_gstate){0}, mask, lanolin_mktag(type, id, 0), 0, buffer, size);
     *tag = got.tag;
-    /* -2 is "no entry". With the record that fetch gave no other refusal comes; if one did, to go on would be to lose an instruction. */
+    /* -2 is "no entry". With the record that fetch gave no other refusal comes; if one did, to go on would be to lose
+     * an instruction. */
     if (got.result != 0 && got.result != -2) give_up(1, "lookup", "refused");
     return got.result == 0;
 }
 
-/* Reads what the slot has. Directories and the superblock are no instructions; they stay without payload and attribute. */
+/* Reads what the slot has. Directories and the superblock are no instructions; they stay without payload and
+ * attribute. */
 static void read_slot(uint16_t id) {
     slot_t *slot = &slots[id];
     uint8_t data[8] = {0};
@@ -84,7 +92,8 @@ static void read_slot(uint16_t id) {
     if (look(BY_CLASS, STRUCT, id, data, sizeof data, &tag)) {
         uint32_t type = lanolin_tag_type3(tag), size = lanolin_tag_size(tag);
         slot->payload = type == CTZ_STRUCT || (type == INLINE_STRUCT && size > 0);
-        slot->length = type == CTZ_STRUCT ? lanolin_le32_at(data, 8, 4).value : size; /* a CTZ struct: last block, then length */
+        slot->length =
+            type == CTZ_STRUCT ? lanolin_le32_at(data, 8, 4).value : size; /* a CTZ struct: last block, then length */
     }
     if (look(BY_TYPE, DEADLINE, id, data, sizeof data, &tag)) {
         slot->attribute = true;
@@ -95,8 +104,8 @@ static void read_slot(uint16_t id) {
 
 static bool has_deadline(const slot_t *slot) { return slot->attribute && slot->attribute_size == 4; }
 
-/* A slot's bucket is its deadline modulo their number, and each bucket has its earliest first: a tick looks at one head. Equal deadlines share a
- * bucket and keep the order of their slots. */
+/* A slot's bucket is its deadline modulo their number, and each bucket has its earliest first: a tick looks at one
+ * head. Equal deadlines share a bucket and keep the order of their slots. */
 static void hang(uint16_t id) {
     uint16_t *link = &wheel[slots[id].deadline % BUCKETS];
     while (*link != NONE && slots[*link].deadline <= slots[id].deadline) link = &slots[*link].next;
@@ -104,11 +113,13 @@ static void hang(uint16_t id) {
     *link = id;
 }
 
-/* Takes the next one to come due off the wheel. It may be years off, so no tick is counted: it's the earliest of the heads. */
+/* Takes the next one to come due off the wheel. It may be years off, so no tick is counted: it's the earliest of the
+ * heads. */
 static uint16_t next_due(void) {
     uint16_t *first = &wheel[0];
     for (int b = 1; b < BUCKETS; b++)
-        if (*first == NONE || (wheel[b] != NONE && slots[wheel[b]].deadline < slots[*first].deadline)) first = &wheel[b];
+        if (*first == NONE || (wheel[b] != NONE && slots[wheel[b]].deadline < slots[*first].deadline))
+            first = &wheel[b];
     uint16_t id = *first;
     if (id != NONE) *first = slots[id].next;
     return id;
@@ -135,7 +146,8 @@ static void print_slot(const char *mark, uint16_t id) {
 }
 
 int main(int argc, char **argv) {
-    if (argc != 2) return fprintf(stderr, "usage: restart FILE   (both blocks of a pair, as in samples/q212.pair)\n"), 2;
+    if (argc != 2)
+        return fprintf(stderr, "usage: restart FILE   (both blocks of a pair, as in samples/q212.pair)\n"), 2;
     read_pair(argv[1]);
     memset(wheel, 0xff, sizeof wheel); /* NONE everywhere */
     for (uint16_t id = 0; id < dir.count; id++) {

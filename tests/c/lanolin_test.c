@@ -1,5 +1,6 @@
-/* Calls every function of include/lanolin.h through the archive, on document 01's listing pair and at the edges. Prints each failed line and
- * exits 1, or one line with the number of checks. What is expected comes from document 01 and from the format, worked out by hand. */
+/* Calls every function of include/lanolin.h through the archive, on document 01's listing pair and at the edges. Prints
+ * each failed line and exits 1, or one line with the number of checks. What is expected comes from document 01 and from
+ * the format, worked out by hand. */
 #include "lanolin.h"
 
 #include <stdio.h>
@@ -8,10 +9,11 @@
 static int checks, failures;
 #define EXPECT(c) (checks++, (c) ? (void)0 : (failures++, (void)printf("%s:%d: not so: %s\n", __FILE__, __LINE__, #c)))
 
-/* Document 01's listing input: one slot, q212, with the payload abc and the deadline 90 5f 01 00 under attribute type 0x74. */
-static const uint8_t LISTED[39] = {
-    0x01, 0x00, 0x00, 0x00, 0xbf, 0xef, 0xff, 0xff, 0x40, 0x00, 0x00, 0x04, 'q',  '2',  '1',  '2',  0x20, 0x00, 0x00, 0x07,
-    'a',  'b',  'c',  0x17, 0x50, 0x00, 0x07, 0x90, 0x5f, 0x01, 0x00, 0x67, 0x4f, 0xfc, 0x09, 0x47, 0x38, 0xe4, 0x4d};
+/* Document 01's listing input: one slot, q212, with the payload abc and the deadline 90 5f 01 00 under attribute type
+ * 0x74. */
+static const uint8_t LISTED[39] = {0x01, 0x00, 0x00, 0x00, 0xbf, 0xef, 0xff, 0xff, 0x40, 0x00, 0x00, 0x04, 'q',
+                                   '2',  '1',  '2',  0x20, 0x00, 0x00, 0x07, 'a',  'b',  'c',  0x17, 0x50, 0x00,
+                                   0x07, 0x90, 0x5f, 0x01, 0x00, 0x67, 0x4f, 0xfc, 0x09, 0x47, 0x38, 0xe4, 0x4d};
 
 static const lanolin_geometry G = {128, 16};
 static const lanolin_gstate STILL = {0, {0, 0}};
@@ -21,7 +23,8 @@ static lanolin_fetched fetch(uint32_t n0, uint32_t n1, uint32_t block_count, uin
     return lanolin_fetch(G, b0, sizeof b0, b1, sizeof b1, n0, n1, block_count, seed);
 }
 
-static lanolin_got slice(lanolin_mdir dir, lanolin_gstate gdisk, uint32_t mask, uint32_t key, uint32_t off, uint8_t *buffer, size_t size) {
+static lanolin_got slice(lanolin_mdir dir, lanolin_gstate gdisk, uint32_t mask, uint32_t key, uint32_t off,
+                         uint8_t *buffer, size_t size) {
     return lanolin_getslice(G, b0, sizeof b0, b1, sizeof b1, 0, 1, dir, gdisk, mask, key, off, buffer, size);
 }
 
@@ -51,11 +54,11 @@ static void test_lookups(void) {
     lanolin_got got = slice(dir, STILL, 0x700ffc00, 0x00000000, 0, buffer, 6);
     EXPECT(got.result == 0 && got.tag == 0x00100004 && !memcmp(buffer, "q212\0\0", 6));
     got = slice(dir, STILL, 0x7ffffc00, 0x37400000, 1, buffer, 2);
-    EXPECT(got.result == 0 && got.tag == 0x37400004 && !memcmp(buffer, "\x5f\x01" "12\0\0", 6));
+    EXPECT(got.result == 0 && got.tag == 0x37400004 && !memcmp(buffer, "\x5f\x01\x31\x32\0\0", 6));
     got = slice(dir, STILL, 0x7ffffc00, 0x37500000, 0, buffer, 6);
-    EXPECT(got.result == -2 && got.tag == 0 && !memcmp(buffer, "\x5f\x01" "12\0\0", 6));
+    EXPECT(got.result == -2 && got.tag == 0 && !memcmp(buffer, "\x5f\x01\x31\x32\0\0", 6));
     got = slice(dir, STILL, 0x7ffffc00, 0x37400000, 1000, buffer, 6);
-    EXPECT(got.result == -84 && got.tag == 0 && !memcmp(buffer, "\x5f\x01" "12\0\0", 6));
+    EXPECT(got.result == -84 && got.tag == 0 && !memcmp(buffer, "\x5f\x01\x31\x32\0\0", 6));
     lanolin_gstate moving = {0x4ff00000, {1, 9}};
     EXPECT(slice(dir, moving, 0x700ffc00, 0, 0, buffer, 6).result == -2);
     lanolin_mdir wrong = dir;
@@ -85,27 +88,121 @@ static void test_info_and_state(void) {
     EXPECT(state.tag == 5 && state.pair[0] == 6 && state.pair[1] == 7);
 }
 
+/* A tag behind another, stored XORed with it. Answers the tag. */
+static uint32_t chain(uint8_t *block, uint32_t at, uint32_t before, uint32_t tag) {
+    EXPECT(lanolin_put_be32(block, 512, at, before ^ tag) == 0);
+    return tag;
+}
+
+/* One commit: slot 0 with the name and an empty inline file. */
+static void lay_named(uint8_t *block, const uint8_t *name, uint32_t n) {
+    memset(block, 0xff, 512);
+    EXPECT(lanolin_put_le32(block, 512, 0, 1) == 0);
+    uint32_t tag = chain(block, 4, 0xffffffff, lanolin_mktag(0x401, 0, 0));
+    tag = chain(block, 8, tag, lanolin_mktag(0x001, 0, n));
+    memcpy(block + 12, name, n);
+    tag = chain(block, 12 + n, tag, lanolin_mktag(0x201, 0, 0));
+    chain(block, 16 + n, tag, lanolin_mktag(0x500, 1023, 4));
+    EXPECT(lanolin_put_le32(block, 512, 20 + n, lanolin_crc(0xffffffff, block, 20 + n)) == 0);
+}
+
+/* A name is read into name_max + 1 bytes. One of 255 has a zero behind it; longer ones fill all 256 and have none. */
+static void test_long_names(void) {
+    static const uint32_t LENGTHS[3] = {255, 256, 300};
+    const lanolin_geometry g = {512, 16};
+    uint8_t block[512], erased[512], name[300];
+    memset(erased, 0xff, sizeof erased);
+    for (int i = 0; i < 300; i++) name[i] = (uint8_t)('a' + i % 26);
+    for (int i = 0; i < 3; i++) {
+        uint32_t n = LENGTHS[i];
+        lay_named(block, name, n);
+        lanolin_fetched f = lanolin_fetch(g, block, 512, erased, 512, 0, 1, 0, 0);
+        EXPECT(f.result == 0 && f.dir.count == 1 && f.dir.off == 24 + n);
+        lanolin_info info = lanolin_getinfo(g, block, 512, erased, 512, 0, 1, f.dir, STILL, 255, 0);
+        EXPECT(info.result == 0 && info.type == 1 && info.size == 0);
+        EXPECT(!memcmp(info.name, name, n < 256 ? n : 256) && (memchr(info.name, 0, 256) != NULL) == (n == 255));
+        info = lanolin_getinfo(g, block, 512, erased, 512, 0, 1, f.dir, STILL, 254, 0);
+        EXPECT(info.result == 0 && !memcmp(info.name, name, 255) && info.name[255] == 0);
+        info = lanolin_getinfo(g, block, 512, erased, 512, 0, 1, f.dir, STILL, 3, 0);
+        EXPECT(info.result == 0 && !memcmp(info.name, name, 4) && is_zero(info.name + 4, 252));
+    }
+}
+
+static lanolin_info info_of(const uint8_t *log, size_t n, uint32_t id) {
+    uint8_t block[128];
+    memset(block, 0xff, sizeof block);
+    memcpy(block, log, n);
+    lanolin_mdir dir = lanolin_fetch(G, block, 128, b1, 128, 0, 1, 0, 0).dir;
+    return lanolin_getinfo(G, block, 128, b1, 128, 0, 1, dir, STILL, 1, id);
+}
+
+/* What is answered here to the inputs of docs/DIFFERENCES.md; the Rust's answers stand there. */
+static void test_differences(void) {
+    static const uint8_t BARE[12] = {0, 0, 0, 0, 0xaf, 0xf0, 0x03, 0xfb, 0x42, 0x22, 0x53, 0x3b};
+    static const uint8_t NO_STRUCT[16] = {0,    0,    0,    0,    0xff, 0xef, 0xff, 0xff,
+                                          0x50, 0x1f, 0xfc, 0x00, 0x96, 0xc0, 0x57, 0x1d};
+    static const uint8_t NO_SIZE[20] = {0,    0,    0,    0,    0xff, 0xef, 0xff, 0xff, 0x20, 0x10,
+                                        0x00, 0x00, 0x70, 0x0f, 0xfc, 0x00, 0x79, 0xfe, 0x5a, 0x7f};
+    static const uint8_t BIT_31[24] = {0,    0,    0,    0,    0x80, 0x00, 0x07, 0xff, 0x60, 0x00, 0x00, 0x00,
+                                       0x5f, 0xdf, 0xf8, 0x00, 0x10, 0x2f, 0xfc, 0x00, 0xa9, 0x32, 0xeb, 0x2f};
+    static const uint8_t FORWARD[24] = {1,    0,    0,    0,    0xa0, 0x00, 0x03, 0xf7, 0x69, 0,    0,    0,
+                                        0x4b, 0x40, 0x5a, 0x9a, 0x0f, 0xf0, 0x00, 0x0c, 0x7b, 0x75, 0xb6, 0x92};
+    lanolin_info info = info_of(BARE, sizeof BARE, 1023);
+    EXPECT(info.result == 0 && info.type == 2 && info.size == 0 && info.name[0] == '/' && is_zero(info.name + 1, 255));
+    info = info_of(NO_STRUCT, sizeof NO_STRUCT, 0);
+    EXPECT(info.result == -2 && info.type == 0 && info.size == 0 && is_zero(info.name, 256));
+    info = info_of(NO_SIZE, sizeof NO_SIZE, 0);
+    EXPECT(info.result == 0 && info.type == 1 && info.size == 0 && is_zero(info.name, 256));
+    info = info_of(BIT_31, sizeof BIT_31, 0);
+    EXPECT(info.result == 0 && info.type == 0 && info.size == 0 && is_zero(info.name, 256));
+    lanolin_fetched f = lanolin_fetch(G, b1, 128, b1, 128, 0, 1, 0, 7);
+    EXPECT(f.result == -84 && f.seed == 7 && is_zero(&f.dir, sizeof f.dir));
+    uint8_t block[128];
+    memset(block, 0xff, sizeof block);
+    memcpy(block, FORWARD, sizeof FORWARD);
+    f = lanolin_fetch((lanolin_geometry){128, 4}, block, 128, b1, 128, 0, 1, 0, 0);
+    EXPECT(f.result == 0 && f.dir.off == 24 && !f.dir.erased);
+    lanolin_gstate state = {5, {5, 5}};
+    lanolin_mdir made_up = {.pair = {0, 1}, .off = 8, .etag = 0xfff00000};
+    EXPECT(lanolin_getgstate(G, b1, 128, b1, 128, 0, 1, made_up, STILL, &state) == 0);
+    EXPECT(state.tag == 5 && state.pair[0] == 5 && state.pair[1] == 5);
+    lanolin_mdir named = {.pair = {0, 1}, .off = 9, .etag = 1};
+    EXPECT(lanolin_get(G, b1, 128, b1, 128, 0, 1, named, STILL, 0, 1, NULL, 0).result == -22);
+}
+
 static void test_tags(void) {
     uint32_t t = lanolin_mktag(0x4ff, 0x155, 0x3ff);
-    EXPECT(t == 0x4ff557ff && lanolin_mktag_if(true, 0x4ff, 0x155, 0x3ff) == t && lanolin_mktag_if(false, 1, 2, 3) == 0);
-    EXPECT(lanolin_tag_isvalid(t) == 1 && lanolin_tag_isvalid(0x80000000) == 0 && lanolin_tag_isdelete(t) == 1 && lanolin_tag_isdelete(0) == 0);
-    EXPECT(lanolin_tag_type1(t) == 0x400 && lanolin_tag_type2(t) == 0x480 && lanolin_tag_type3(t) == 0x4ff && lanolin_tag_chunk(t) == 0xff);
-    EXPECT(lanolin_tag_splice(t) == -1 && lanolin_tag_splice(0x47f00000) == 127 && lanolin_tag_splice(0x48000000) == -128);
-    EXPECT(lanolin_tag_id(t) == 0x155 && lanolin_tag_size(t) == 0x3ff && lanolin_tag_dsize(t) == 4 && lanolin_tag_dsize(0x500ffc0d) == 17);
-    EXPECT((lanolin_crc(0xffffffff, (const uint8_t *)"123456789", 9) ^ 0xffffffff) == 0xcbf43926 && lanolin_crc(5, NULL, 0) == 5);
+    EXPECT(t == 0x4ff557ff && lanolin_mktag_if(true, 0x4ff, 0x155, 0x3ff) == t &&
+           lanolin_mktag_if(false, 1, 2, 3) == 0);
+    EXPECT(lanolin_tag_isvalid(t) == 1 && lanolin_tag_isvalid(0x80000000) == 0 && lanolin_tag_isdelete(t) == 1 &&
+           lanolin_tag_isdelete(0) == 0);
+    EXPECT(lanolin_tag_type1(t) == 0x400 && lanolin_tag_type2(t) == 0x480 && lanolin_tag_type3(t) == 0x4ff &&
+           lanolin_tag_chunk(t) == 0xff);
+    EXPECT(lanolin_tag_splice(t) == -1 && lanolin_tag_splice(0x47f00000) == 127 &&
+           lanolin_tag_splice(0x48000000) == -128);
+    EXPECT(lanolin_tag_id(t) == 0x155 && lanolin_tag_size(t) == 0x3ff && lanolin_tag_dsize(t) == 4 &&
+           lanolin_tag_dsize(0x500ffc0d) == 17);
+    EXPECT((lanolin_crc(0xffffffff, (const uint8_t *)"123456789", 9) ^ 0xffffffff) == 0xcbf43926 &&
+           lanolin_crc(5, NULL, 0) == 5);
 }
 
 static void test_numbers(void) {
-    EXPECT(lanolin_min(2, 3) == 2 && lanolin_max(2, 3) == 3 && lanolin_scmp(0, 0xffffffff) == 1 && lanolin_scmp(0, 0x80000000) == INT32_MIN);
-    EXPECT(lanolin_aligndown(130, 5).value == 130 && lanolin_aligndown(134, 5).value == 130 && lanolin_alignup(131, 5).value == 135);
-    EXPECT(lanolin_aligndown(7, 0).result == -22 && lanolin_aligndown(7, 0).value == 0 && lanolin_alignup(7, 0).result == -22);
-    EXPECT(lanolin_npw2(0) == 32 && lanolin_npw2(1) == 1 && lanolin_npw2(5) == 3 && lanolin_ctz(0) == 0 && lanolin_ctz(0x80000000) == 31 && lanolin_popc(0xf0f00001) == 9);
+    EXPECT(lanolin_min(2, 3) == 2 && lanolin_max(2, 3) == 3 && lanolin_scmp(0, 0xffffffff) == 1 &&
+           lanolin_scmp(0, 0x80000000) == INT32_MIN);
+    EXPECT(lanolin_aligndown(130, 5).value == 130 && lanolin_aligndown(134, 5).value == 130 &&
+           lanolin_alignup(131, 5).value == 135);
+    EXPECT(lanolin_aligndown(7, 0).result == -22 && lanolin_aligndown(7, 0).value == 0 &&
+           lanolin_alignup(7, 0).result == -22);
+    EXPECT(lanolin_npw2(0) == 32 && lanolin_npw2(1) == 1 && lanolin_npw2(5) == 3 && lanolin_ctz(0) == 0 &&
+           lanolin_ctz(0x80000000) == 31 && lanolin_popc(0xf0f00001) == 9);
     uint8_t bytes[5] = {1, 2, 3, 4, 5};
     EXPECT(lanolin_le32_at(bytes, 5, 1).value == 0x05040302 && lanolin_be32_at(bytes, 5, 1).value == 0x02030405);
-    EXPECT(lanolin_le32_at(bytes, 5, 2).result == -84 && lanolin_be32_at(bytes, 5, SIZE_MAX).result == -84 && lanolin_le32_at(NULL, 0, 0).result == -84);
+    EXPECT(lanolin_le32_at(bytes, 5, 2).result == -84 && lanolin_be32_at(bytes, 5, SIZE_MAX).result == -84 &&
+           lanolin_le32_at(NULL, 0, 0).result == -84);
     EXPECT(lanolin_put_le32(bytes, 5, 1, 0x0a0b0c0d) == 0 && !memcmp(bytes, "\x01\x0d\x0c\x0b\x0a", 5));
     EXPECT(lanolin_put_be32(bytes, 5, 0, 0x0a0b0c0d) == 0 && !memcmp(bytes, "\x0a\x0b\x0c\x0d\x0a", 5));
-    EXPECT(lanolin_put_le32(bytes, 5, 2, 0) == -84 && lanolin_put_be32(bytes, 5, 2, 0) == -84 && !memcmp(bytes, "\x0a\x0b\x0c\x0d\x0a", 5));
+    EXPECT(lanolin_put_le32(bytes, 5, 2, 0) == -84 && lanolin_put_be32(bytes, 5, 2, 0) == -84 &&
+           !memcmp(bytes, "\x0a\x0b\x0c\x0d\x0a", 5));
 }
 
 static void test_pairs_and_states(void) {
@@ -114,16 +211,19 @@ static void test_pairs_and_states(void) {
     EXPECT(lanolin_pair_cmp(1, 2, 2, 3) == 0 && lanolin_pair_cmp(1, 2, 3, 4) == 1);
     EXPECT(lanolin_pair_issync(1, 2, 2, 1) == 1 && lanolin_pair_issync(1, 2, 2, 3) == 0);
     lanolin_gstate a = {0x4ff00201, {1, 2}}, b = {0x4ff00201, {1, 3}};
-    EXPECT(lanolin_gstate_hasmove(&a) == 1 && lanolin_gstate_hasmovehere(&a, 9, 1) == 1 && lanolin_gstate_hasmovehere(&a, 8, 9) == 0);
-    EXPECT(lanolin_gstate_hasorphans(&a) == 1 && lanolin_gstate_getorphans(&a) == 1 && lanolin_gstate_needssuperblock(&a) == 1);
+    EXPECT(lanolin_gstate_hasmove(&a) == 1 && lanolin_gstate_hasmovehere(&a, 9, 1) == 1 &&
+           lanolin_gstate_hasmovehere(&a, 8, 9) == 0);
+    EXPECT(lanolin_gstate_hasorphans(&a) == 1 && lanolin_gstate_getorphans(&a) == 1 &&
+           lanolin_gstate_needssuperblock(&a) == 1);
     lanolin_gstate_xor(&a, &b);
     EXPECT(a.tag == 0 && a.pair[0] == 0 && a.pair[1] == 1 && b.pair[1] == 3 && lanolin_gstate_iszero(&a) == 0);
     EXPECT(lanolin_gstate_iszero(&STILL) == 1 && lanolin_gstate_hasmove(&STILL) == 0);
 }
 
-/* A commit behind the listing's log: the deadline 3,600 in place of 90,000. Tag chained to the check tag before, data, check tag of size 4,
- * checksum; the end is 64, a multiple of 16, so there is no padding. */
-static const uint8_t MORE[16] = {0x67, 0x4f, 0xfc, 0x09, 0x10, 0x0e, 0x00, 0x00, 0x67, 0x4f, 0xfc, 0x00, 0xf2, 0x6a, 0x39, 0x72};
+/* A commit behind the listing's log: the deadline 3,600 in place of 90,000. Tag chained to the check tag before, data,
+ * check tag of size 4, checksum; the end is 64, a multiple of 16, so there is no padding. */
+static const uint8_t MORE[16] = {0x67, 0x4f, 0xfc, 0x09, 0x10, 0x0e, 0x00, 0x00,
+                                 0x67, 0x4f, 0xfc, 0x00, 0xf2, 0x6a, 0x39, 0x72};
 
 static void test_commit(void) {
     uint8_t c0[128], c1[128];
@@ -132,22 +232,26 @@ static void test_commit(void) {
     const uint8_t data[4] = {0x10, 0x0e, 0x00, 0x00};
     lanolin_entry deadline = {0x374, 0, 0, 4}, bad[2] = {{0x401, 1, 0, 0}, {0x001, 1, 1, 4}};
     lanolin_committed refused = lanolin_commit(G, c0, 128, c1, 128, 0, 1, 0, 7, bad, 2, data, 4);
-    EXPECT(refused.result == -201 && refused.index == 1 && refused.seed == 7 && is_zero(&refused.dir, sizeof refused.dir));
+    EXPECT(refused.result == -201 && refused.index == 1 && refused.seed == 7 &&
+           is_zero(&refused.dir, sizeof refused.dir));
     EXPECT(lanolin_commit(G, c0, 128, c1, 128, 3, 3, 0, 7, &deadline, 1, data, 4).result == -22);
     EXPECT(!memcmp(c0, b0, 128) && !memcmp(c1, b1, 128));
     lanolin_stored stored = lanolin_commit_stores(G, c0, 128, c1, 128, 0, 1, 0, 0, &deadline, 1, data, 4, 5);
-    EXPECT(stored.result == 0 && stored.index == 0 && stored.stores == 5 && !memcmp(c0 + 48, MORE, 5) && c0[53] == 0xff);
+    EXPECT(stored.result == 0 && stored.index == 0 && stored.stores == 5 && !memcmp(c0 + 48, MORE, 5) &&
+           c0[53] == 0xff);
     EXPECT(lanolin_fetch(G, c0, 128, c1, 128, 0, 1, 0, 0).dir.off == 48);
     memcpy(c0, b0, sizeof c0);
     lanolin_committed done = lanolin_commit(G, c0, 128, c1, 128, 0, 1, 0, 0, &deadline, 1, data, 4);
-    EXPECT(done.result == 0 && done.index == 0 && done.dir.off == 64 && done.dir.etag == 0x500ffc04 && done.dir.count == 1);
+    EXPECT(done.result == 0 && done.index == 0 && done.dir.off == 64 && done.dir.etag == 0x500ffc04 &&
+           done.dir.count == 1);
     EXPECT(!memcmp(c0, b0, 48) && !memcmp(c0 + 48, MORE, 16) && !memcmp(c0 + 64, b1, 64) && !memcmp(c1, b1, 128));
     uint8_t read[4];
     lanolin_got got = lanolin_getslice(G, c0, 128, c1, 128, 0, 1, done.dir, STILL, 0x7ffffc00, 0x37400000, 0, read, 4);
     EXPECT(got.result == 0 && !memcmp(read, data, 4));
 }
 
-/* The listing compacted: the same entries in the same order under revision 2, so all but revision and checksum is as it was. */
+/* The listing compacted: the same entries in the same order under revision 2, so all but revision and checksum is as it
+ * was. */
 static void test_compact(void) {
     uint8_t c0[128], c1[128], expected[39];
     memcpy(c0, b0, sizeof c0);
@@ -173,6 +277,8 @@ int main(void) {
     test_fetch();
     test_lookups();
     test_info_and_state();
+    test_long_names();
+    test_differences();
     test_tags();
     test_numbers();
     test_pairs_and_states();

@@ -1,5 +1,5 @@
-/* Fetches every pair of samples/real/ and looks up each name, struct, size and attribute, all 256 attribute types of each slot: they must be
- * what the littlefs that wrote the pairs shows (shown.txt; README.md there has its lines).
+/* Fetches every pair of samples/real/ and looks up each name, struct, size and attribute, all 256 attribute types of
+ * each slot: they must be what the littlefs that wrote the pairs shows (shown.txt; README.md there has its lines).
  *
  *     real_test samples/real        prints each difference and exits 1, or one line with what was compared */
 #include "lanolin.h"
@@ -38,7 +38,8 @@ static size_t bytes_of(const char *hex, uint8_t *out) {
 }
 
 static lanolin_got look(uint32_t mask, uint32_t key, uint8_t *buffer, size_t size) {
-    return lanolin_getslice(at.g, at.b0, at.g.block_size, at.b1, at.g.block_size, at.n0, at.n1, at.dir, at.gdisk, mask, key, 0, buffer, size);
+    return lanolin_getslice(at.g, at.b0, at.g.block_size, at.b1, at.g.block_size, at.n0, at.n1, at.dir, at.gdisk, mask,
+                            key, 0, buffer, size);
 }
 
 /* The attributes of one slot that were listed; the others must be missing. */
@@ -60,7 +61,9 @@ static void check_absent(void) {
 static void read_pair(const char *directory, const char *line) {
     char path[1024];
     unsigned size, prog, n0, n1, tag, p0, p1;
-    if (sscanf(line, "pair %255s %u %u %u %u %u %u %u", file, &size, &prog, &n0, &n1, &tag, &p0, &p1) != 8 || size > MOST_BLOCK) exit(2);
+    if (sscanf(line, "pair %255s %u %u %u %u %u %u %u", file, &size, &prog, &n0, &n1, &tag, &p0, &p1) != 8 ||
+        size > MOST_BLOCK)
+        exit(2);
     snprintf(path, sizeof path, "%s/%s", directory, file);
     FILE *f = fopen(path, "rb");
     if (!f || fread(at.b0, 1, size, f) != size || fread(at.b1, 1, size, f) != size) {
@@ -77,12 +80,14 @@ static void read_pair(const char *directory, const char *line) {
 
 static void check_record(const char *line) {
     unsigned p0, p1, rev, off, etag, count, erased, split, t0, t1;
-    if (sscanf(line, "record %u %u %u %u %u %u %u %u %u %u", &p0, &p1, &rev, &off, &etag, &count, &erased, &split, &t0, &t1) != 10) exit(2);
+    if (sscanf(line, "record %u %u %u %u %u %u %u %u %u %u", &p0, &p1, &rev, &off, &etag, &count, &erased, &split, &t0,
+               &t1) != 10)
+        exit(2);
     lanolin_fetched f = lanolin_fetch(at.g, at.b0, at.g.block_size, at.b1, at.g.block_size, at.n0, at.n1, 0, 0);
     lanolin_mdir *d = &f.dir;
     at.dir = f.dir;
-    if (f.result || d->pair[0] != p0 || d->pair[1] != p1 || d->rev != rev || d->off != off || d->etag != etag || d->count != count ||
-        d->erased != erased || d->split != split || d->tail[0] != t0 || d->tail[1] != t1)
+    if (f.result || d->pair[0] != p0 || d->pair[1] != p1 || d->rev != rev || d->off != off || d->etag != etag ||
+        d->count != count || d->erased != erased || d->split != split || d->tail[0] != t0 || d->tail[1] != t1)
         differs("the record", 0, line);
 }
 
@@ -93,10 +98,14 @@ static void check_slot(const char *line) {
     if (sscanf(line, "slot %u %u %2048s %u %u %2048s", &id, &kind, name, &structure, &size, data) != 6) exit(2);
     size_t n = bytes_of(name, want);
     lanolin_got got = look(0x700ffc00, lanolin_mktag(0, id, 0), have, sizeof have);
-    if (got.result || got.tag != lanolin_mktag(kind, id, (uint32_t)n) || memcmp(have, want, n)) differs("the name", id, line);
-    lanolin_info info = lanolin_getinfo(at.g, at.b0, at.g.block_size, at.b1, at.g.block_size, at.n0, at.n1, at.dir, at.gdisk, 255, id);
+    if (got.result || got.tag != lanolin_mktag(kind, id, (uint32_t)n) || memcmp(have, want, n))
+        differs("the name", id, line);
+    lanolin_info info =
+        lanolin_getinfo(at.g, at.b0, at.g.block_size, at.b1, at.g.block_size, at.n0, at.n1, at.dir, at.gdisk, 255, id);
     /* a superblock's name type is not among those that getinfo's mask 0x780 takes */
-    if (kind == 0x0ff ? info.result != -2 : info.result || info.type != kind || info.size != size || memcmp(info.name, want, n) || info.name[n])
+    if (kind == 0x0ff
+            ? info.result != -2
+            : info.result || info.type != kind || info.size != size || memcmp(info.name, want, n) || info.name[n])
         differs("the info", id, line);
     got = look(0x700ffc00, lanolin_mktag(0x200, id, 0), have, sizeof have);
     if (got.result || lanolin_tag_type3(got.tag) != structure) differs("the struct's type", id, line);
@@ -115,7 +124,8 @@ static void check_attr(const char *line) {
     if (sscanf(line, "attr %u %u %2048s", &id, &type, data) != 3 || type > 255) exit(2);
     size_t n = bytes_of(data, want);
     lanolin_got got = look(0x7ffffc00, lanolin_mktag(0x300 + type, id, 0), have, sizeof have);
-    if (got.result || got.tag != lanolin_mktag(0x300 + type, id, (uint32_t)n) || memcmp(have, want, n)) differs("an attribute", id, line);
+    if (got.result || got.tag != lanolin_mktag(0x300 + type, id, (uint32_t)n) || memcmp(have, want, n))
+        differs("an attribute", id, line);
     listed[type] = true;
     attrs++;
 }
@@ -143,6 +153,7 @@ int main(int argc, char **argv) {
         else return fprintf(stderr, "%s: not a line: %s", path, line), 2;
     }
     check_absent();
-    printf("real pairs: %u pairs, %u slots, %u attributes, %u missing attributes, %u differences\n", pairs, slots, attrs, absent, differences);
+    printf("real pairs: %u pairs, %u slots, %u attributes, %u missing attributes, %u differences\n", pairs, slots,
+           attrs, absent, differences);
     return differences != 0 || pairs == 0;
 }

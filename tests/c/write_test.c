@@ -1,5 +1,5 @@
-/* Makes the commits and compactions of samples/writes/cases and prints what each answers and leaves, one line a case, as samples/writes/expected
- * has it (samples/make_writes.py says how a case is written). Usage: write_test FILE. */
+/* Makes the commits and compactions of samples/writes/cases and prints what each answers and leaves, one line a case,
+ * as samples/writes/expected has it (samples/make_writes.py says how a case is written). Usage: write_test FILE. */
 #include "lanolin.h"
 
 #include <stdio.h>
@@ -42,16 +42,15 @@ static size_t entries_of(char *text) {
     if (!strcmp(text, "-")) return 0;
     for (char *part = strtok(text, ","); part; part = strtok(NULL, ",")) {
         unsigned type, id, off, len, times;
-        if (sscanf(part, "%x:%u:%u:%u*%u", &type, &id, &off, &len, &times) != 5 || times > MOST_ENTRIES - n) broken("entries");
+        if (sscanf(part, "%x:%u:%u:%u*%u", &type, &id, &off, &len, &times) != 5 || times > MOST_ENTRIES - n)
+            broken("entries");
         while (times--) entries[n++] = (lanolin_entry){(uint16_t)type, (uint16_t)id, off, len};
     }
     return n;
 }
 
 /* The published CRC-32 of an image: the register of lanolin_crc from 0xffffffff, inverted. */
-static uint32_t sum(const uint8_t *image, size_t n) {
-    return ~lanolin_crc(0xffffffff, image, n);
-}
+static uint32_t sum(const uint8_t *image, size_t n) { return ~lanolin_crc(0xffffffff, image, n); }
 
 static void run(char *line) {
     char *field[13];
@@ -62,14 +61,17 @@ static void run(char *line) {
         *line++ = 0;
     }
     lanolin_geometry g = {(uint32_t)atol(field[2]), (uint32_t)atol(field[3])};
-    uint32_t n0 = (uint32_t)atol(field[4]), n1 = (uint32_t)atol(field[5]), count = (uint32_t)atol(field[6]), seed = (uint32_t)atol(field[7]);
-    size_t l0 = bytes_of(field[9], b0), l1 = bytes_of(field[10], b1), e = entries_of(field[11]), d = bytes_of(field[12], data);
+    uint32_t n0 = (uint32_t)atol(field[4]), n1 = (uint32_t)atol(field[5]), count = (uint32_t)atol(field[6]),
+             seed = (uint32_t)atol(field[7]);
+    size_t l0 = bytes_of(field[9], b0), l1 = bytes_of(field[10], b1), e = entries_of(field[11]),
+           d = bytes_of(field[12], data);
     int commit = !strcmp(field[1], "commit"), limited = strcmp(field[8], "-");
     printf("%s: ", field[0]);
     if (limited) {
         uint32_t limit = (uint32_t)atol(field[8]);
-        lanolin_stored s = commit ? lanolin_commit_stores(g, b0, l0, b1, l1, n0, n1, count, seed, entries, e, data, d, limit)
-                                  : lanolin_compact_stores(g, b0, l0, b1, l1, n0, n1, count, seed, limit);
+        lanolin_stored s =
+            commit ? lanolin_commit_stores(g, b0, l0, b1, l1, n0, n1, count, seed, entries, e, data, d, limit)
+                   : lanolin_compact_stores(g, b0, l0, b1, l1, n0, n1, count, seed, limit);
         if (s.result == 0) printf("made %u", s.stores);
         else printf("refused %d index %u", s.result, s.index);
     } else {

@@ -1,5 +1,6 @@
 #!/usr/bin/env python3
-"""Runs the listing program, or the audit, on each case of a file, and shows its texts as samples/make_listings.py writes the expected ones.
+"""Runs the listing program, or the audit, on each case of a file, and shows its texts as samples/make_listings.py
+writes the expected ones.
 
     tests/listing/run.py samples/listings/cases target/bin/list | diff - samples/listings/expected
     tests/listing/run.py samples/listings/cases target/bin/audit | diff - samples/listings/audited
@@ -26,4 +27,5 @@ with open(cases) as f:
         print(f"== {name}")
         if done.returncode or done.stderr:
             print(f"exit {done.returncode}, {done.stderr!r}")
-        sys.stdout.write(text.decode("latin-1") if len(text) <= 2000 else f"{len(text)} bytes, CRC-32 {zlib.crc32(text):08x}\n")
+        long = f"{len(text)} bytes, CRC-32 {zlib.crc32(text):08x}\n"
+        sys.stdout.write(text.decode("latin-1") if len(text) <= 2000 else long)

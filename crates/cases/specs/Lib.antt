@@ -1,8 +1,10 @@
 pub mod Cases
+pub mod Leaves
 pub mod Listing
 pub mod Commits
 pub mod Walks
 pub mod Rules
 pub mod Pairs
+pub mod Lookups
 pub mod Text
 pub mod Audit

@@ -22,7 +22,7 @@ fn second_first(rev0: u32, rev1: u32) -> bool
     newer > 0
 }
 
-// Whether the room behind the log is erased: the last forward check, seen in any commit so far, fits what stands there now.
+// The erased mark: the last forward check, seen in any commit so far, fits what stands behind the log now.
 fn erased(prog: u32, b: &[u8], w: Walked) -> bool
     requires { ⌜ Readable prog (now b) w ⌝ }
     ensures { λ r. ⌜ r ≡ erasedBy prog (now (b .entry)) w ⌝ }

@@ -144,7 +144,8 @@ getgstateState g b0 b1 n0 n1 dir gdisk gstate =
     gstate
 
 -- ---- `lfs_dir_getinfo`
--- the name under 0x780 and the struct under 0x700, with all bits of the id; "longest name read 1 to 255", and one byte more
+-- the name under 0x780 and the struct under 0x700, with all bits of the id; "longest name read 1 to 255", and one byte
+-- more. So a stored name that is longer fills that byte too, and with 255 all of the info's 256: no zero is behind it.
 abbrev pub nameMask : ℕ
 nameMask = tagOf 0x780 noSlot 0
 

@@ -15,8 +15,9 @@ pub struct LfsPair {
     pub n1: u32,
 }
 
-// The record of a metadata pair, as fetch reads it: the answering block's number first, its revision, where its committed log ends and the
-// tag there, the number of slots, whether the room behind is erased, and the tail (hard where `split`).
+// The record of a metadata pair, as fetch reads it: the answering block's number first, its revision, where its
+// committed log ends and the tag there, the number of slots, whether the room behind passed its forward check (which
+// does not say that it is empty), and the tail (hard where `split`).
 #[repr(C)]
 pub struct LfsMdir {
     pub pair: LfsPair,
@@ -36,7 +37,8 @@ pub struct LfsGstate {
     pub pair: LfsPair,
 }
 
-// What is shown of an entry: its type, its size, and its name, zeros behind it.
+// What is shown of an entry: its type, its size, and its name, zeros behind it. A stored name of more than 255 bytes,
+// read with 255 as the longest, fills all 256: it has no zero behind it.
 pub struct LfsInfo {
     pub kind: u8,
     pub size: u32,
