@@ -42,16 +42,11 @@ fn create_at(key: u32) -> u32
     tag::lfs_mktag(LFS_TYPE_CREATE, tag::lfs_tag_id(key) as u32, 0)
 }
 
-// A tag's splice as ids, a word that wraps. The chunk's upper half, which is below zero, lies 256 ids too high.
+// A tag's splice as ids, a word that wraps: counted from the lowest splice, and the 128 ids of that taken away.
 fn splice_as_ids(tag: u32) -> u32
     ensures { λ r. ⌜ r ≡ asIds (tagSplice tag) ⌝ }
 {
-    let chunk = tag::lfs_tag_chunk(tag) as u32;
-    if chunk < 128 {
-        chunk * 0x400
-    } else {
-        0xfffc_0000 + chunk * 0x400
-    }
+    std::num::wrapping_sub_u32(tag::splice_from_lowest(tag) * 0x400, 0x2_0000)
 }
 
 // The difference behind a tag: both are there before the choice, so that it compiles to a select. Where the splices of a log stand, no
