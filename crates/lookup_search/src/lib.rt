@@ -13,6 +13,7 @@ ghost use Rattle.format.specs.Lookup.{hasIds, searched};
 ghost use Rattle.lookup_search.specs.Hit.{foundAs, Inside};
 use format::LfsGstate;
 use format::LfsMdir;
+use lookup_back::Back;
 
 pub mod slice;
 
@@ -76,11 +77,9 @@ fn find_back(b: &[u8], end: usize, etag: u32, gmask: u32, gtag: u32, diff: u32) 
     let mut tag = etag;
     let mut gdiff = diff;
     loop {
-        let size = tag::lfs_tag_dsize(tag) as usize;
-        if off < 4 + size {
+        let Back::At(at) = lookup_back::place(off, tag) else {
             return Hit::Nothing;
-        }
-        let at = off - size;
+        };
         let key = key_at(gtag, gdiff);
         let spliced = splices(ids, tag, key);
         if spliced & (tag == create_at(key)) {
@@ -94,7 +93,7 @@ fn find_back(b: &[u8], end: usize, etag: u32, gmask: u32, gtag: u32, diff: u32) 
             }
             return Hit::At(tag, at, next);
         }
-        tag = (word::within::be32(b, at) ^ tag) % 0x8000_0000;
+        tag = lookup_back::tag_before(b, at, tag);
         off = at;
         gdiff = next;
     }
