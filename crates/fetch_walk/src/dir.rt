@@ -127,5 +127,9 @@ fn splice_count(count: u16, tag: u32) -> u16
     ensures { λ r. ⌜ r ≡ countSpliced count (tagSplice tag) ⌝ }
 {
     let n = count as u32 + tag::splice_from_lowest(tag);
-    if n < 128 { 0 } else { ((n - 128) % 65_536) as u16 }
+    if n < 128 {
+        0
+    } else {
+        ((n - 128) % 65_536) as u16
+    }
 }
