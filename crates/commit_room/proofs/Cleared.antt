@@ -29,7 +29,8 @@ module _ (b : List ℕ) (i : ℕ) where
 
 -- l is what `be_bytes` answers, x, y and z what `lfs_crc` does
 pub three : (sum word x y z : ℕ) (l : List ℕ) → l ≡ toBe32 word → x ≡ crc sum (getD l 0 0 ∷ 0xff ∷ 0xff ∷ 0xff ∷ [])
-    → y ≡ crc sum (getD l 0 0 ∷ getD l 1 0 ∷ 0xff ∷ 0xff ∷ []) → z ≡ crc sum (getD l 0 0 ∷ getD l 1 0 ∷ getD l 2 0 ∷ 0xff ∷ [])
+    → y ≡ crc sum (getD l 0 0 ∷ getD l 1 0 ∷ 0xff ∷ 0xff ∷ [])
+    → z ≡ crc sum (getD l 0 0 ∷ getD l 1 0 ∷ getD l 2 0 ∷ 0xff ∷ [])
     → eqb x allOnes || eqb y allOnes || eqb z allOnes ≡ meets sum word
 unfolding meets fill toBe32
 three sum word x y z l el ex ey ez = rw (ex, ey, ez, el)

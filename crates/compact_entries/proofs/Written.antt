@@ -159,7 +159,8 @@ module _ (s : Standing) (split : Bool) (p : LfsPair) where
   abbrev eight : List ℕ → List ℕ → List ℕ
   eight l m = getD l 0 0 ∷ getD l 1 0 ∷ getD l 2 0 ∷ getD l 3 0 ∷ getD m 0 0 ∷ getD m 1 0 ∷ getD m 2 0 ∷ getD m 3 0 ∷ []
 
-  eight-body : (l m : List ℕ) → l ≡ toLe32 (p .n0) → m ≡ toLe32 (p .n1) → bodyOf (eight l m) 0 8 ≡ toLe32 (p .n0) ++ toLe32 (p .n1)
+  eight-body : (l m : List ℕ) → l ≡ toLe32 (p .n0) → m ≡ toLe32 (p .n1)
+      → bodyOf (eight l m) 0 8 ≡ toLe32 (p .n0) ++ toLe32 (p .n1)
   unfolding bodyOf toLe32
   eight-body l m el em = rw (el, em)
 
@@ -168,8 +169,10 @@ module _ (s : Standing) (split : Bool) (p : LfsPair) where
   tail-type false = omega arith
 
   -- x is the tail's type, k the tag made of it
-  pub tail-made : isNoTail split p ≡ false → (x : ℕ) → x ≡ cond split typeHardTail typeTail → (k : ℕ) → k ≡ mkTag x noSlot 8 → (l m : List ℕ) → l ≡ toLe32 (p .n0) → m ≡ toLe32 (p .n1)
-      → (r : Standing) → r ≡ emitted s (record { tag = k; body = bodyOf (eight l m) 0 8 }) → r ≡ emits s (tailItems split p)
+  pub tail-made : isNoTail split p ≡ false → (x : ℕ) → x ≡ cond split typeHardTail typeTail → (k : ℕ)
+      → k ≡ mkTag x noSlot 8 → (l m : List ℕ) → l ≡ toLe32 (p .n0) → m ≡ toLe32 (p .n1)
+      → (r : Standing) → r ≡ emitted s (record { tag = k; body = bodyOf (eight l m) 0 8 })
+      → r ≡ emits s (tailItems split p)
   unfolding emits
   tail-made h x ex k ek l m el em r er =
       let tag : k ≡ tagOf (cond split typeHardTail typeTail) noSlot 8 = made-tag k x noSlot 8 ek (rw ex (tail-type split)) (omega arith) (omega arith) ∙ ap (λ (y : ℕ). tagOf y noSlot 8) ex in

@@ -22,14 +22,16 @@ module _ (b : List ℕ) (off t : ℕ) (u : Option Load) (inv : lastMove b (back 
   unfolding lastMove
   move-over h w = (load-free b 0 refl ∙ rw (back-over b off t h) at inv, free-inside b w)
 
-  module _ (at : ℕ) (e : Ends off t at) (fits : off ≤ length b) (most : length b ≤ 2 ^ 16) (x : ℕ) (ex : x ≡ tagType3 t) where
+  module _ (at : ℕ) (e : Ends off t at) (fits : off ≤ length b) (most : length b ≤ 2 ^ 16) (x : ℕ)
+      (ex : x ≡ tagType3 t) where
     pub move-here : x ≡ typeMove → t < 2 ^ 32 → (s : ℕ) → s ≡ seatOf t at → (loadIn b s ≡ u) × Inside b s
     unfolding lastMove
     move-here q word s es =
         let is : tagType3 t ≡ typeMove = sym ex ∙ q in
         let low : at < 2 ^ 16 = omega (arith, back-word off t at e) in
         rw es (
-          seat-load b t at word (back-first off t at e) low ∙ rw (back-on b off t at e, eq-eqb (tagType3 t) typeMove is) at inv,
+          seat-load b t at word (back-first off t at e) low ∙ rw
+              (back-on b off t at e, eq-eqb (tagType3 t) typeMove is) at inv,
           seat-inside b t at word low (omega (arith, e .is, e .more)),
         )
 

@@ -227,7 +227,8 @@ id-before-most t id = go (eqb (tagType3 t) typeCreate) (ltb (tagId t) id) (eqb (
     go false x true false = omega arith
     go false x false y = omega arith
 
-module _ (b : List ℕ) (all : List Act) (id off t slot : ℕ) (seats : List ℕ) (g : Gathering b all id (map (seen b) (back b off t)) slot seats) where
+module _ (b : List ℕ) (all : List Act) (id off t slot : ℕ) (seats : List ℕ)
+    (g : Gathering b all id (map (seen b) (back b off t)) slot seats) where
   pub walk-over : off < 4 + tagLength t → Gathered b all id seats
   walk-over h = ends-empty b all id slot seats (rw (back-over b off t h) at g)
 
@@ -241,11 +242,14 @@ module _ (b : List ℕ) (all : List Act) (id off t slot : ℕ) (seats : List ℕ
     here = rw (back-on b off t at e) at g
 
     pub walk-created : made ≡ true → Gathered b all id seats
-    walk-created q = ends-created b all id t (bytesAt b (record { tag = t; off = at })) older slot seats (sym em ∙ q) here
+    walk-created q = ends-created b all id t (bytesAt b (record { tag = t; off = at })) older slot seats (sym em ∙ q)
+        here
 
     -- w is the tag before, `next` the seats and `before` the id behind the tag
-    pub walk-on : made ≡ false → t < 2 ^ 32 → off ≤ length b → length b ≤ 2 ^ 16 → (next : List ℕ) → next ≡ noted seats t at slot → (before : ℕ) → before ≡ idBefore t slot
+    pub walk-on : made ≡ false → t < 2 ^ 32 → off ≤ length b → length b ≤ 2 ^ 16 → (next : List ℕ)
+        → next ≡ noted seats t at slot → (before : ℕ) → before ≡ idBefore t slot
         → (w : ℕ) → w ≡ tagBefore b at t → Gathering b all id (map (seen b) (back b at w)) before next
     walk-on q word fits most next enext before ebefore w ew =
         rw (enext, ebefore, ew)
-        (turns b all id t at older slot seats word (back-first off t at e) (omega (arith, back-word off t at e)) (omega (arith, e .is, e .more)) (g .full) (sym em ∙ q) here)
+        (turns b all id t at older slot seats word (back-first off t at e) (omega (arith, back-word off t at e))
+        (omega (arith, e .is, e .more)) (g .full) (sym em ∙ q) here)

@@ -47,7 +47,8 @@ module _ (n r : ℕ) where
   pub splice-none : (t : ℕ) → r ≡ fromLowest (tagSplice t) → n + r < 128 → 0 ≡ countSpliced n (tagSplice t)
   splice-none t = none (tagSplice t)
 
-  pub splice-some : (t : ℕ) → r ≡ fromLowest (tagSplice t) → 128 ≤ n + r → (n + r - 128) % 65_536 ≡ countSpliced n (tagSplice t)
+  pub splice-some : (t : ℕ) → r ≡ fromLowest (tagSplice t) → 128 ≤ n + r
+      → (n + r - 128) % 65_536 ≡ countSpliced n (tagSplice t)
   splice-some t = some (tagSplice t) (splice-fits t)
 
 -- ---- the types are apart

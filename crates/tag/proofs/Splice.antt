@@ -1,4 +1,5 @@
--- A splice counted from the lowest, as the code computes it: in 32 bits, where it is the same number, and plus 128 no longer below 0.
+-- A splice counted from the lowest, as the code computes it: in 32 bits, where it is the same number, and plus 128 no
+-- longer below 0.
 -- Assumes nothing.
 use mathlib.Core.Path.{_≡_, refl, sym, ap, _∙_}
 use Prim.Native.Nat.{ℕ, suc, _^_, _<_}
@@ -46,8 +47,10 @@ module _ (z : ℤ) (h : SFits w8 z) where
   again : toZ w32 (ofZ w32 (wide +ℤ pos 128)) ≡ pos (fromLowest z)
   again = toZ-ofZ sum-fits ∙ sum-is
 
-  pub unsigned-fits : T (nonNeg (toZ w32 (ofZ w32 (wide +ℤ pos 128)))) × Fits w32 (natAbs (toZ w32 (ofZ w32 (wide +ℤ pos 128))))
+  pub unsigned-fits : T (nonNeg (toZ w32 (ofZ w32 (wide +ℤ pos 128)))) × Fits w32
+      (natAbs (toZ w32 (ofZ w32 (wide +ℤ pos 128))))
   unsigned-fits = rw again (tt, record { fits = omega (arith, low z h) })
 
-  pub counted : (y : ℤ) → z ≡ y → (natAbs (toZ w32 (ofZ w32 (wide +ℤ pos 128))) ≡ fromLowest y) × (natAbs (toZ w32 (ofZ w32 (wide +ℤ pos 128))) < 2 ^ 8)
+  pub counted : (y : ℤ) → z ≡ y → (natAbs (toZ w32 (ofZ w32 (wide +ℤ pos 128))) ≡ fromLowest y) × (natAbs
+      (toZ w32 (ofZ w32 (wide +ℤ pos 128))) < 2 ^ 8)
   counted y e = rw again (ap fromLowest e, low z h)

@@ -22,7 +22,8 @@ second r test x y e t = rw (sym e ∙ t)
 
 -- four stores, as the code counts their places
 pub four : (s : List ℕ) (at : ℕ) (l : List ℕ) → length l ≡ 4
-    → set (set (set (set s at (getD l 0 0)) (at + 1) (getD l 1 0)) (at + 2) (getD l 2 0)) (at + 3) (getD l 3 0) ≡ sets s at l
+    → set (set (set (set s at (getD l 0 0)) (at + 1) (getD l 1 0)) (at + 2) (getD l 2 0)) (at + 3) (getD l 3 0) ≡ sets
+    s at l
 four s at (a ∷ b ∷ c ∷ d ∷ []) h =
     let e1 : at + 1 ≡ suc at = omega arith in
     let e2 : at + 2 ≡ suc (suc at) = omega arith in

@@ -7,4 +7,5 @@ returns : tie.Need-returns
 returns c = cc
 
 pub put-le32-spec : {M : Type 1} → statement M
-put-le32-spec = tie.close (tie.spec (λ c κs. search needs) (λ c. search needs) (λ c κs. search needs) (λ c. search needs) returns)
+put-le32-spec = tie.close (tie.spec (λ c κs. search needs) (λ c. search needs) (λ c κs. search needs)
+    (λ c. search needs) returns)

@@ -22,27 +22,92 @@ loop-holds : tie.Need-loop-holds Inv-loop μ-loop
 loop-holds c = (omega arith, rw (c .lfs-tag-id .ensures))
 
 returns : tie.Need-returns Inv-loop μ-loop
-returns c = (walk-over _ _ _ _ _ _ _ _ (c .before .before .before .loop .inv .1) (placed-over _ _ _ (c .before .before .place .ensures) (c .enum-told .given .1)), tt)
+returns c = (
+  walk-over _ _ _ _ _ _ _ _ (c .before .before .before .loop .inv .1)
+      (placed-over _ _ _ (c .before .before .place .ensures) (c .enum-told .given .1)),
+  tt,
+)
 
 returns-2 : tie.Need-returns-2 Inv-loop μ-loop
-returns-2 c = (turn-created _ _ _ _ _ _ _ _ (c .before .before .before .before .before .before .before .before .loop .inv .1) _ (placed-at _ _ _ _ (c .before .before .before .before .before .before .before .place .ensures) (c .before .before .before .before .before .at .given .1)) _ (c .before .before .before .key-at .ensures) _ (c .before .before .splices .ensures) _ (c .before .create-at .ensures) (c .if1 .taken), tt)
+returns-2
+    c = (
+      turn-created _ _ _ _ _ _ _ _
+          (c .before .before .before .before .before .before .before .before .loop .inv .1) _
+          (placed-at _ _ _ _ (c .before .before .before .before .before .before .before .place .ensures)
+          (c .before .before .before .before .before .at .given .1)) _ (c .before .before .before .key-at .ensures) _
+          (c .before .before .splices .ensures) _ (c .before .create-at .ensures) (c .if1 .taken),
+      tt,
+    )
 
 returns-3 : tie.Need-returns-3 Inv-loop μ-loop
-returns-3 c = (turn-removed _ _ _ _ _ _ _ _ (c .before .before .before .before .before .before .before .before .before .before .before .before .before .loop .inv .1) _ (placed-at _ _ _ _ (c .before .before .before .before .before .before .before .before .before .before .before .before .place .ensures) (c .before .before .before .before .before .before .before .before .before .before .at .given .1)) _ (c .before .before .before .before .before .before .before .before .key-at .ensures) _ (c .before .before .before .before .before .before .before .splices .ensures) _ (c .before .before .before .before .before .before .create-at .ensures) (c .before .before .before .before .before .if1 .left) _ (c .before .before .before .before .diff-after .ensures) _ (c .before .before .before .key-at2 .ensures) (c .before .before .if2 .taken) (sym (c .before .lfs-tag-isdelete .ensures) ∙ c .if3 .taken), tt)
+returns-3 c =
+    let d = c .before .before .before .before .before .before in (
+      turn-removed _ _ _ _ _ _ _ _ (d .before .before .before .before .before .before .before .loop .inv .1) _
+          (placed-at _ _ _ _ (d .before .before .before .before .before .before .place .ensures)
+          (d .before .before .before .before .at .given .1)) _ (d .before .before .key-at .ensures) _
+          (d .before .splices .ensures) _ (d .create-at .ensures)
+          (c .before .before .before .before .before .if1 .left) _
+          (c .before .before .before .before .diff-after .ensures) _ (c .before .before .before .key-at2 .ensures)
+          (c .before .before .if2 .taken) (sym (c .before .lfs-tag-isdelete .ensures) ∙ c .if3 .taken),
+      tt,
+    )
 
 returns-4 : tie.Need-returns-4 Inv-loop μ-loop
-returns-4 c = (turn-found _ _ _ _ _ _ _ _ (c .before .before .before .before .before .before .before .before .before .before .before .before .before .loop .inv .1) _ (placed-at _ _ _ _ (c .before .before .before .before .before .before .before .before .before .before .before .before .place .ensures) (c .before .before .before .before .before .before .before .before .before .before .at .given .1)) _ (c .before .before .before .before .before .before .before .before .key-at .ensures) _ (c .before .before .before .before .before .before .before .splices .ensures) _ (c .before .before .before .before .before .before .create-at .ensures) (c .before .before .before .before .before .if1 .left) _ (c .before .before .before .before .diff-after .ensures) _ (c .before .before .before .key-at2 .ensures) (c .before .before .if2 .taken) (sym (c .before .lfs-tag-isdelete .ensures) ∙ c .if3 .left), omega (arith, back-word _ _ _ (placed-at _ _ _ _ (c .before .before .before .before .before .before .before .before .before .before .before .before .place .ensures) (c .before .before .before .before .before .before .before .before .before .before .at .given .1))))
+returns-4 c =
+    let d = c .before .before .before .before .before .before in (
+      turn-found _ _ _ _ _ _ _ _ (d .before .before .before .before .before .before .before .loop .inv .1) _
+          (placed-at _ _ _ _ (d .before .before .before .before .before .before .place .ensures)
+          (d .before .before .before .before .at .given .1)) _ (d .before .before .key-at .ensures) _
+          (d .before .splices .ensures) _ (d .create-at .ensures)
+          (c .before .before .before .before .before .if1 .left) _
+          (c .before .before .before .before .diff-after .ensures) _ (c .before .before .before .key-at2 .ensures)
+          (c .before .before .if2 .taken) (sym (c .before .lfs-tag-isdelete .ensures) ∙ c .if3 .left),
+      omega (
+        arith,
+        back-word _ _ _
+            (placed-at _ _ _ _ (d .before .before .before .before .before .before .place .ensures)
+            (d .before .before .before .before .at .given .1)),
+      ),
+    )
 
 tag-before-requires : tie.Need-tag-before-requires Inv-loop μ-loop
-tag-before-requires c κs = omega (arith, back-word _ _ _ (placed-at _ _ _ _ (c .before .before .before .before .before .before .before .before .before .before .place .ensures) (c .before .before .before .before .before .before .before .before .at .given .1)))
+tag-before-requires c κs = omega (
+  arith,
+  back-word _ _ _
+      (placed-at _ _ _ _
+      (c .before .before .before .before .before .before .before .before .before .before .place .ensures)
+      (c .before .before .before .before .before .before .before .before .at .given .1)),
+)
 
 loop-less : tie.Need-loop-less Inv-loop μ-loop
-loop-less c = omega (arith, back-word _ _ _ (placed-at _ _ _ _ (c .before .before .before .before .before .before .before .before .before .before .before .place .ensures) (c .before .before .before .before .before .before .before .before .before .at .given .1)))
+loop-less c = omega (
+  arith,
+  back-word _ _ _
+      (placed-at _ _ _ _
+      (c .before .before .before .before .before .before .before .before .before .before .before .place .ensures)
+      (c .before .before .before .before .before .before .before .before .before .at .given .1)),
+)
 
 loop-again : tie.Need-loop-again Inv-loop μ-loop
-loop-again c = (omega (arith, back-word _ _ _ (placed-at _ _ _ _ (c .before .before .before .before .before .before .before .before .before .before .before .place .ensures) (c .before .before .before .before .before .before .before .before .before .at .given .1))), turn-on _ _ _ _ _ _ _ _ (c .before .before .before .before .before .before .before .before .before .before .before .before .loop .inv .1) _ (placed-at _ _ _ _ (c .before .before .before .before .before .before .before .before .before .before .before .place .ensures) (c .before .before .before .before .before .before .before .before .before .at .given .1)) _ (c .before .before .before .before .before .before .before .key-at .ensures) _ (c .before .before .before .before .before .before .splices .ensures) _ (c .before .before .before .before .before .create-at .ensures) (c .before .before .before .before .if1 .left) _ (c .before .before .before .diff-after .ensures) _ (c .before .before .key-at2 .ensures) (c .before .if2 .left) _ (c .tag-before .ensures))
+loop-again c =
+    let d = c .before .before .before .before .before .before in (
+      omega (
+        arith,
+        back-word _ _ _ (placed-at _ _ _ _
+            (d .before .before .before .before .before .place .ensures) (d .before .before .before .at .given .1)),
+      ),
+      turn-on _ _ _ _ _ _ _ _ (d .before .before .before .before .before .before .loop .inv .1) _
+          (placed-at _ _ _ _ (d .before .before .before .before .before .place .ensures)
+          (d .before .before .before .at .given .1)) _ (d .before .key-at .ensures) _ (d .splices .ensures) _
+          (c .before .before .before .before .before .create-at .ensures)
+          (c .before .before .before .before .if1 .left) _ (c .before .before .before .diff-after .ensures) _
+          (c .before .before .key-at2 .ensures) (c .before .if2 .left) _ (c .tag-before .ensures),
+    )
 
 pub find-back-spec : {M : Type 1} → statement M
 find-back-spec =
     tie.close
-    (tie.spec Inv-loop μ-loop (λ c κs. search needs) loop-holds (λ c κs. search needs) (λ c. search needs) (λ c. search needs) returns (λ c κs. search needs) (λ c κs. search needs) (λ c κs. search needs) returns-2 (λ c κs. search needs) (λ c κs. search needs) (λ c κs. search needs) returns-3 returns-4 tag-before-requires loop-less loop-again)
+    (tie.spec Inv-loop μ-loop (λ c κs. search needs) loop-holds (λ c κs. search needs) (λ c. search needs)
+    (λ c. search needs) returns (λ c κs. search needs) (λ c κs. search needs) (λ c κs. search needs) returns-2
+    (λ c κs. search needs) (λ c κs. search needs) (λ c κs. search needs) returns-3 returns-4 tag-before-requires
+    loop-less loop-again)

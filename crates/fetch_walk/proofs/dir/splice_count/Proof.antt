@@ -11,4 +11,5 @@ returns-2 : tie.Need-returns-2
 returns-2 c = splice-some _ _ (c .before .before .args .tag) (c .before .splice-from-lowest .ensures .0) (c .if1 .left)
 
 pub splice-count-spec : {M : Type 1} → statement M
-splice-count-spec = tie.close (tie.spec (λ c κs. search needs) (λ c. search needs) (λ c. search needs) returns returns-2)
+splice-count-spec = tie.close (tie.spec (λ c κs. search needs) (λ c. search needs) (λ c. search needs) returns
+    returns-2)
