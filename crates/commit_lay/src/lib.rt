@@ -55,12 +55,7 @@ fn put_all(b: &mut [u8], run: Run, bytes: &[u8]) -> Run
 pub fn put_be32(b: &mut [u8], run: Run, word: u32) -> Run
     ensures { λ r. ⌜ laid r (now (b .exit)) ≡ putsOf (laid run (now (b .entry))) (toBe32 word) ⌝ }
 {
-    let bytes = [
-        (word / 0x100_0000) as u8,
-        (word / 0x1_0000 % 0x100) as u8,
-        (word / 0x100 % 0x100) as u8,
-        (word % 0x100) as u8,
-    ];
+    let bytes = word::be_bytes(word);
     put_all(b, run, &bytes)
 }
 
@@ -68,12 +63,7 @@ pub fn put_be32(b: &mut [u8], run: Run, word: u32) -> Run
 pub fn put_le32(b: &mut [u8], run: Run, word: u32) -> Run
     ensures { λ r. ⌜ laid r (now (b .exit)) ≡ putsOf (laid run (now (b .entry))) (toLe32 word) ⌝ }
 {
-    let bytes = [
-        (word % 0x100) as u8,
-        (word / 0x100 % 0x100) as u8,
-        (word / 0x1_0000 % 0x100) as u8,
-        (word / 0x100_0000) as u8,
-    ];
+    let bytes = word::le_bytes(word);
     put_all(b, run, &bytes)
 }
 
@@ -81,12 +71,7 @@ pub fn put_le32(b: &mut [u8], run: Run, word: u32) -> Run
 pub fn sum_be32(sum: u32, word: u32) -> u32
     ensures { λ r. ⌜ r ≡ crc sum (toBe32 word) ⌝ }
 {
-    let bytes = [
-        (word / 0x100_0000) as u8,
-        (word / 0x1_0000 % 0x100) as u8,
-        (word / 0x100 % 0x100) as u8,
-        (word % 0x100) as u8,
-    ];
+    let bytes = word::be_bytes(word);
     crc::lfs_crc(sum, &bytes)
 }
 

@@ -2,7 +2,7 @@
 use mathlib.Core.Path.{_≡_}
 use mathlib.Core.Bool.{true, false, _||_}
 use mathlib.Core.List.{List, [], _∷_}
-use Prim.Native.Nat.{ℕ, _+_, _/_, _%_, _^_, _≤_, _<_}
+use Prim.Native.Nat.{ℕ, _+_, _≤_, _<_}
 use native.Mathlib.Numerals.{add-one}
 use lib.Dec.{eqb}
 use lib.ListN.{length, getD, drop, drop-of-length-le}
@@ -27,8 +27,10 @@ module _ (b : List ℕ) (i : ℕ) where
     unfolding allErased
     erased-off e = rw (drop-cons b i 0 h, ne-eqb (getD b i 0) 0xff e)
 
--- x, y and z are what `lfs_crc` answers
-pub three : (sum word x y z : ℕ) → x ≡ crc sum (word / 2 ^ 24 ∷ 0xff ∷ 0xff ∷ 0xff ∷ []) → y ≡ crc sum (word / 2 ^ 24 ∷ word / 2 ^ 16 % 2 ^ 8 ∷ 0xff ∷ 0xff ∷ [])
-    → z ≡ crc sum (word / 2 ^ 24 ∷ word / 2 ^ 16 % 2 ^ 8 ∷ word / 2 ^ 8 % 2 ^ 8 ∷ 0xff ∷ []) → eqb x allOnes || eqb y allOnes || eqb z allOnes ≡ meets sum word
+-- l is what `be_bytes` answers, x, y and z what `lfs_crc` does
+pub three : (sum word x y z : ℕ) (l : List ℕ) → l ≡ toBe32 word → x ≡ crc sum (getD l 0 0 ∷ 0xff ∷ 0xff ∷ 0xff ∷ [])
+    → y ≡ crc sum (getD l 0 0 ∷ getD l 1 0 ∷ 0xff ∷ 0xff ∷ [])
+    → z ≡ crc sum (getD l 0 0 ∷ getD l 1 0 ∷ getD l 2 0 ∷ 0xff ∷ [])
+    → eqb x allOnes || eqb y allOnes || eqb z allOnes ≡ meets sum word
 unfolding meets fill toBe32
-three sum word x y z ex ey ez = rw (ex, ey, ez)
+three sum word x y z l el ex ey ez = rw (ex, ey, ez, el)

@@ -60,12 +60,10 @@ pub fn clean(prog: u32, b: &[u8], end: usize, etag: u32) -> bool
 pub fn coincides(sum: u32, word: u32) -> bool
     ensures { λ r. ⌜ r ≡ meets sum word ⌝ }
 {
-    let a = (word / 0x100_0000) as u8;
-    let b = (word / 0x1_0000 % 0x100) as u8;
-    let c = (word / 0x100 % 0x100) as u8;
-    let one = [a, 0xff, 0xff, 0xff];
-    let two = [a, b, 0xff, 0xff];
-    let three = [a, b, c, 0xff];
+    let tag = word::be_bytes(word);
+    let one = [tag[0], 0xff, 0xff, 0xff];
+    let two = [tag[0], tag[1], 0xff, 0xff];
+    let three = [tag[0], tag[1], tag[2], 0xff];
     (crc::lfs_crc(sum, &one) == 0xffff_ffff)
         | (crc::lfs_crc(sum, &two) == 0xffff_ffff)
         | (crc::lfs_crc(sum, &three) == 0xffff_ffff)

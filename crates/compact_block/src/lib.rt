@@ -31,12 +31,7 @@ fn erase(b: &mut [u8])
 fn sum_rev(rev: u32) -> u32
     ensures { λ r. ⌜ r ≡ crc allOnes (toLe32 rev) ⌝ }
 {
-    let bytes = [
-        (rev % 0x100) as u8,
-        (rev / 0x100 % 0x100) as u8,
-        (rev / 0x1_0000 % 0x100) as u8,
-        (rev / 0x100_0000) as u8,
-    ];
+    let bytes = word::le_bytes(rev);
     crc::lfs_crc(0xffff_ffff, &bytes)
 }
 

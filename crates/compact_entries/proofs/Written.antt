@@ -155,18 +155,25 @@ module _ (s : Standing) (split : Bool) (p : LfsPair) where
   unfolding emits
   tail-none h = rw h
 
-  eight-body : bodyOf (toLe32 (p .n0) ++ toLe32 (p .n1)) 0 8 ≡ toLe32 (p .n0) ++ toLe32 (p .n1)
+  -- l and m are what `le_bytes` answers
+  abbrev eight : List ℕ → List ℕ → List ℕ
+  eight l m = getD l 0 0 ∷ getD l 1 0 ∷ getD l 2 0 ∷ getD l 3 0 ∷ getD m 0 0 ∷ getD m 1 0 ∷ getD m 2 0 ∷ getD m 3 0 ∷ []
+
+  eight-body : (l m : List ℕ) → l ≡ toLe32 (p .n0) → m ≡ toLe32 (p .n1)
+      → bodyOf (eight l m) 0 8 ≡ toLe32 (p .n0) ++ toLe32 (p .n1)
   unfolding bodyOf toLe32
-  eight-body = refl
+  eight-body l m el em = rw (el, em)
 
   tail-type : (b : Bool) → cond b typeHardTail typeTail < 2 ^ 12
   tail-type true = omega arith
   tail-type false = omega arith
 
   -- x is the tail's type, k the tag made of it
-  pub tail-made : isNoTail split p ≡ false → (x : ℕ) → x ≡ cond split typeHardTail typeTail → (k : ℕ) → k ≡ mkTag x noSlot 8 → (r : Standing)
-      → r ≡ emitted s (record { tag = k; body = bodyOf (toLe32 (p .n0) ++ toLe32 (p .n1)) 0 8 }) → r ≡ emits s (tailItems split p)
+  pub tail-made : isNoTail split p ≡ false → (x : ℕ) → x ≡ cond split typeHardTail typeTail → (k : ℕ)
+      → k ≡ mkTag x noSlot 8 → (l m : List ℕ) → l ≡ toLe32 (p .n0) → m ≡ toLe32 (p .n1)
+      → (r : Standing) → r ≡ emitted s (record { tag = k; body = bodyOf (eight l m) 0 8 })
+      → r ≡ emits s (tailItems split p)
   unfolding emits
-  tail-made h x ex k ek r er =
+  tail-made h x ex k ek l m el em r er =
       let tag : k ≡ tagOf (cond split typeHardTail typeTail) noSlot 8 = made-tag k x noSlot 8 ek (rw ex (tail-type split)) (omega arith) (omega arith) ∙ ap (λ (y : ℕ). tagOf y noSlot 8) ex in
-      er ∙ ap₂ (λ (y : ℕ) (q : List ℕ). emitted s (record { tag = y; body = q })) tag eight-body ∙ rw h
+      er ∙ ap₂ (λ (y : ℕ) (q : List ℕ). emitted s (record { tag = y; body = q })) tag (eight-body l m el em) ∙ rw h

@@ -120,16 +120,9 @@ fn tail(new: &mut [u8], e: Emit, split: bool, pair: LfsPair) -> Emit
     if !split & (n0 == LFS_BLOCK_NULL) & (n1 == LFS_BLOCK_NULL) {
         return e;
     }
-    let dat = [
-        (n0 % 0x100) as u8,
-        (n0 / 0x100 % 0x100) as u8,
-        (n0 / 0x1_0000 % 0x100) as u8,
-        (n0 / 0x100_0000) as u8,
-        (n1 % 0x100) as u8,
-        (n1 / 0x100 % 0x100) as u8,
-        (n1 / 0x1_0000 % 0x100) as u8,
-        (n1 / 0x100_0000) as u8,
-    ];
+    let a = word::le_bytes(n0);
+    let b = word::le_bytes(n1);
+    let dat = [a[0], a[1], a[2], a[3], b[0], b[1], b[2], b[3]];
     entry(
         new,
         e,

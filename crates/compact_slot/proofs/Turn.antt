@@ -5,23 +5,21 @@ use mathlib.Core.Option.{Option, none}
 use mathlib.Core.List.{List, [], _∷_, map}
 use Prim.Native.Nat.{ℕ, _+_, _-_, _*_, _/_, _%_, _^_, _≤_, _<_}
 use native.Mathlib.Omega.{arith}
-use lib.Bits.{bitXor}
 use lib.ListN.{length, length-set, length-replicate, getD, set, drop, replicate, getD-replicate}
 use lib.Seq.{getD-set-same, getD-set-other}
 use lib.Dec.{eqb, leb, ltb}
 use borrow.Author.Tests.{eq-eqb, ne-eqb, eqb-true, eqb-false, lt-ltb, ltb-true, ltb-false, le-leb, lt-leb}
-use Rattle.format.specs.Word.{be32, xor}
 use Rattle.format.specs.Tag.{tagType1, tagType3, tagChunk, tagId, tagLength}
 use Rattle.format.specs.Kind.{isName, typeName, typeDirStruct, typeUserAttr, typeCreate, typeDelete}
 use Rattle.format.specs.Back.{back}
 use Rattle.format.specs.Directory.{classes, Load, Act, mk, rm, put, skip, isStruct, isAttr, loadOf, act}
-use Rattle.format.proofs.Back.{back-none, back-more}
-use Rattle.format.proofs.Words.{tagLength-ge}
 use Rattle.theory.specs.Walk.Step.{both-true}
 use Rattle.theory.specs.Directory.Machine.{find}
 use Rattle.theory.specs.Directory.Types.{type1-of}
 use Rattle.theory.specs.Back.BackActs.{seen}
 use Rattle.theory.specs.Lookup.ByMask.{bytesAt}
+use Rattle.lookup_back.specs.Step.{Ends, tagBefore}
+use Rattle.lookup_back.proofs.Step.{back-over, back-on, back-first, back-word}
 use Rattle.compact_slot.specs.Seat.{seatOf, seatTag, seatPlace, loadIn, Inside, seatClass, createdAt, idBefore, noted, Gathered}
 
 -- ---- the search over one act more
@@ -217,7 +215,7 @@ module _ (b : List ℕ) (all : List Act) (id t at : ℕ) (l : List Act) (slot : 
   pub turns : Gathering b all id (act t d ∷ l) slot seats → Gathering b all id l (idBefore t slot) (noted seats t at slot)
   turns g = record { loads = λ c h. sym (after c h .0) ∙ g .loads c h; inside = λ c h. after c h .1 (g .inside c h); full = noted-length seats t at slot ∙ full }
 
--- ---- the same on the bytes of a block: the tag t of n bytes ends at `off`
+-- ---- the same on the bytes of a block: the tag t ends at `off`, and stands at `at`
 pub id-before-most : (t id : ℕ) → idBefore t id ≤ id + 1
 unfolding idBefore
 id-before-most t id = go (eqb (tagType3 t) typeCreate) (ltb (tagId t) id) (eqb (tagType3 t) typeDelete) (leb (tagId t) id)
@@ -229,26 +227,29 @@ id-before-most t id = go (eqb (tagType3 t) typeCreate) (ltb (tagId t) id) (eqb (
     go false x true false = omega arith
     go false x false y = omega arith
 
-module _ (b : List ℕ) (all : List Act) (id off t slot n : ℕ) (seats : List ℕ) (g : Gathering b all id (map (seen b) (back b off t)) slot seats) (en : n ≡ tagLength t) where
-  pub walk-over : off < 4 + n → Gathered b all id seats
-  walk-over h = ends-empty b all id slot seats (rw (back-none b off t (omega arith)) at g)
+module _ (b : List ℕ) (all : List Act) (id off t slot : ℕ) (seats : List ℕ)
+    (g : Gathering b all id (map (seen b) (back b off t)) slot seats) where
+  pub walk-over : off < 4 + tagLength t → Gathered b all id seats
+  walk-over h = ends-empty b all id slot seats (rw (back-over b off t h) at g)
 
-  module _ (h : 4 + n ≤ off) (made : Bool) (em : made ≡ createdAt t slot) where
+  module _ (at : ℕ) (e : Ends off t at) (made : Bool) (em : made ≡ createdAt t slot) where
     -- the acts before the tag
     abbrev older : List Act
-    older = map (seen b) (back b (off - n) (xor (be32 (drop (off - n) b)) t % 2 ^ 31))
+    older = map (seen b) (back b at (tagBefore b at t))
 
-    here : Gathering b all id (act t (bytesAt b (record { tag = t; off = off - n })) ∷ older) slot seats
+    here : Gathering b all id (act t (bytesAt b (record { tag = t; off = at })) ∷ older) slot seats
     unfolding seen
-    here = rw en (rw (back-more b off t (omega arith)) at g)
+    here = rw (back-on b off t at e) at g
 
     pub walk-created : made ≡ true → Gathered b all id seats
-    walk-created q = ends-created b all id t (bytesAt b (record { tag = t; off = off - n })) older slot seats (sym em ∙ q) here
+    walk-created q = ends-created b all id t (bytesAt b (record { tag = t; off = at })) older slot seats (sym em ∙ q)
+        here
 
-    -- w is the word that stands at the tag, `next` the seats and `before` the id behind it
-    pub walk-on : made ≡ false → t < 2 ^ 32 → off ≤ length b → length b ≤ 2 ^ 16 → (next : List ℕ) → next ≡ noted seats t (off - n) slot → (before : ℕ) → before ≡ idBefore t slot
-        → (w : ℕ) → w ≡ be32 (drop (off - n) b) → Gathering b all id (map (seen b) (back b (off - n) (bitXor w t % 0x8000_0000))) before next
-    unfolding xor
+    -- w is the tag before, `next` the seats and `before` the id behind the tag
+    pub walk-on : made ≡ false → t < 2 ^ 32 → off ≤ length b → length b ≤ 2 ^ 16 → (next : List ℕ)
+        → next ≡ noted seats t at slot → (before : ℕ) → before ≡ idBefore t slot
+        → (w : ℕ) → w ≡ tagBefore b at t → Gathering b all id (map (seen b) (back b at w)) before next
     walk-on q word fits most next enext before ebefore w ew =
         rw (enext, ebefore, ew)
-        (turns b all id t (off - n) older slot seats word (omega arith) (omega (arith, tagLength-ge t)) (omega arith) (g .full) (sym em ∙ q) here)
+        (turns b all id t at older slot seats word (back-first off t at e) (omega (arith, back-word off t at e))
+        (omega (arith, e .is, e .more)) (g .full) (sym em ∙ q) here)

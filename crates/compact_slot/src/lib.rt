@@ -8,6 +8,7 @@ ghost use Rattle.format.specs.Back.{back};
 ghost use Rattle.theory.specs.Back.BackActs.{seen};
 ghost use Rattle.theory.specs.Lookup.MoveState.{lastMove};
 ghost use Rattle.compact_slot.specs.Seat.{seatOf, loadIn, Inside, seatClass, createdAt, idBefore, noted, Gatherable, Gathered};
+use lookup_back::Back;
 
 const LFS_TYPE_NAME: u16 = 0x000;
 
@@ -100,17 +101,15 @@ pub fn gather(b: &[u8], end: usize, etag: u32, id: usize) -> [u64; 258]
     let mut tag = etag;
     let mut slot = id;
     loop {
-        let size = tag::lfs_tag_dsize(tag) as usize;
-        if off < 4 + size {
+        let Back::At(at) = lookup_back::place(off, tag) else {
             return seats;
-        }
+        };
         if created(tag, slot) {
             return seats;
         }
-        let at = off - size;
         note(&mut seats, tag, at, slot);
         slot = id_before(tag, slot);
-        tag = (word::within::be32(b, at) ^ tag) % 0x8000_0000;
+        tag = lookup_back::tag_before(b, at, tag);
         off = at;
     }
 }
@@ -123,15 +122,13 @@ pub fn newest_move(b: &[u8], end: usize, etag: u32) -> u64
     let mut off = end;
     let mut tag = etag;
     loop {
-        let size = tag::lfs_tag_dsize(tag) as usize;
-        if off < 4 + size {
+        let Back::At(at) = lookup_back::place(off, tag) else {
             return 0;
-        }
-        let at = off - size;
+        };
         if tag::lfs_tag_type3(tag) == LFS_TYPE_MOVESTATE {
             return seat_of(tag, at);
         }
-        tag = (word::within::be32(b, at) ^ tag) % 0x8000_0000;
+        tag = lookup_back::tag_before(b, at, tag);
         off = at;
     }
 }

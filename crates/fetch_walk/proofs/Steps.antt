@@ -2,22 +2,24 @@
 use mathlib.Core.Path.{_≡_, refl, sym, ap, _∙_}
 use mathlib.Core.Bool.{Bool, true, false, cond, _||_}
 use mathlib.Core.List.{List}
-use Prim.Native.Nat.{ℕ, suc, _+_, _-_, _/_, _%_, _^_, _<_, _≤_}
+use Prim.Native.Nat.{ℕ, _+_, _-_, _/_, _%_, _^_, _<_, _≤_}
 use native.Mathlib.Omega.{arith}
+use lib.IntN.{ℤ, pos, negsuc}
 use lib.Dec.{eqb}
 use lib.ListN.{take, drop}
 use mir.Syntax.{w8}
-use mir.Val.{toZ}
-use mir.Facts.{toZ-pos, toZ-neg}
+use mir.Val.{SFits, toZ}
 use borrow.Author.Tests.{eq-eqb, ne-eqb}
 use Rattle.format.specs.Word.{le32}
-use Rattle.format.specs.Tag.{tagType1, tagType2, tagType3, tagChunk, tagId, tagLength}
+use Rattle.format.specs.Tag.{tagType1, tagType2, tagType3, tagChunk, tagSplice, tagId, tagLength}
 use Rattle.format.specs.Kind.{isName, isSplice, isTail, isForward}
 use Rattle.format.specs.Walk.{readBehind, bodyLength, bodyOf}
 use Rattle.format.specs.Count.{countNamed, countSpliced}
 use Rattle.format.specs.Record.{counted, pairIn, forward}
 use Rattle.format.proofs.Parts.{le32-take, le32-take-second}
 use Rattle.format.proofs.Classes.{behind-wide}
+use Rattle.tag.specs.Splice.{fromLowest}
+use Rattle.tag.proofs.Splice.{splice-fits}
 use Rattle.fetch_walk.specs.Block.{fcrcOf}
 use Rattle.fetch_walk.specs.Dir.{withCount, named, spliced, tailed, forwarded, entered}
 use Rattle.fetch_walk.specs.declared.dir.DirState.{DirState}
@@ -32,15 +34,22 @@ module _ (t r : ℕ) (d : DirState) (e : r ≡ tagId t) where
   unfolding named
   name-same h = let m : d .count ≡ countNamed (d .count) (tagId t) = omega arith in ap (λ (n : ℕ). withCount n d) m
 
-module _ (n k : ℕ) where
-  pub splice-up : k < 128 → countSpliced n (toZ w8 k) ≡ (n + k) % 65_536
-  splice-up h = ap (countSpliced n) (toZ-pos w8 h)
+-- the count plus the splice z; r is how far that lies above -128
+module _ (n r : ℕ) where
+  none : (z : ℤ) → r ≡ fromLowest z → n + r < 128 → 0 ≡ countSpliced n z
+  none (pos m) e h = absurd (omega arith)
+  none (negsuc m) e h = omega arith
 
-  pub splice-down : 128 ≤ k → k < 256 → countSpliced n (toZ w8 k) ≡ (n - (256 - k)) % 65_536
-  splice-down h l =
-      let e : k ≡ 256 - suc (255 - k) = omega arith in
-      let f : n - suc (255 - k) ≡ n - (256 - k) = omega arith in
-      ap (λ (x : ℕ). countSpliced n (toZ w8 x)) e ∙ ap (countSpliced n) (toZ-neg w8 (255 - k) (omega arith)) ∙ ap (λ (x : ℕ). x % 65_536) f
+  some : (z : ℤ) → SFits w8 z → r ≡ fromLowest z → 128 ≤ n + r → (n + r - 128) % 65_536 ≡ countSpliced n z
+  some (pos m) f e h = omega arith
+  some (negsuc m) f e h = let l : m < 2 ^ 7 = f .sfits in omega arith
+
+  pub splice-none : (t : ℕ) → r ≡ fromLowest (tagSplice t) → n + r < 128 → 0 ≡ countSpliced n (tagSplice t)
+  splice-none t = none (tagSplice t)
+
+  pub splice-some : (t : ℕ) → r ≡ fromLowest (tagSplice t) → 128 ≤ n + r
+      → (n + r - 128) % 65_536 ≡ countSpliced n (tagSplice t)
+  splice-some t = some (tagSplice t) (splice-fits t)
 
 -- ---- the types are apart
 kinds-apart : (t : ℕ) → t / 2 ^ 28 % 8 ≡ 6 → t / 2 ^ 27 % 16 ≡ 10 → ⊥

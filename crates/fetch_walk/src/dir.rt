@@ -2,8 +2,7 @@
 ghost use mathlib.Core.Path.{_≡_};
 ghost use Prim.Native.Nat.{_+_, _≤_};
 ghost use lib.ListN.{length, drop};
-ghost use mir.Syntax.{w8};
-ghost use mir.Val.{toZ};
+ghost use Rattle.format.specs.Tag.{tagSplice};
 ghost use Rattle.format.specs.Count.{countSpliced};
 ghost use Rattle.format.specs.Walk.{readBehind};
 ghost use Rattle.fetch_walk.specs.Dir.{emptyDir, named, spliced, tailed, forwarded, entered};
@@ -69,7 +68,7 @@ impl DirState {
         ensures { λ r. ⌜ r ≡ spliced tag self ⌝ }
     {
         let count = self.count;
-        self.count = splice_count(count, tag::lfs_tag_chunk(tag));
+        self.count = splice_count(count, tag);
         self
     }
 
@@ -123,15 +122,14 @@ impl DirState {
     }
 }
 
-// "count plus splice, raised to 0 if below, then modulo 65,536." The splice is the chunk as signed: from 128 on it takes 256 - chunk away.
-fn splice_count(count: u16, chunk: u8) -> u16
-    ensures { λ r. ⌜ r ≡ countSpliced count (toZ w8 chunk) ⌝ }
+// "count plus splice, raised to 0 if below, then modulo 65,536."
+fn splice_count(count: u16, tag: u32) -> u16
+    ensures { λ r. ⌜ r ≡ countSpliced count (tagSplice tag) ⌝ }
 {
-    let n = count as u32;
-    let k = chunk as u32;
-    if k < 128 {
-        return ((n + k) % 65_536) as u16;
+    let n = count as u32 + tag::splice_from_lowest(tag);
+    if n < 128 {
+        0
+    } else {
+        ((n - 128) % 65_536) as u16
     }
-    let less = 256 - k;
-    if n < less { 0 } else { (n - less) as u16 }
 }

@@ -76,12 +76,7 @@ impl WalkState {
 fn crc_word(seed: u32, sum: u32) -> u32
     ensures { λ r. ⌜ r ≡ crc seed (toLe32 sum) ⌝ }
 {
-    let bytes = [
-        (sum % 0x100) as u8,
-        (sum / 0x100 % 0x100) as u8,
-        (sum / 0x1_0000 % 0x100) as u8,
-        (sum / 0x100_0000) as u8,
-    ];
+    let bytes = word::le_bytes(sum);
     crc::lfs_crc(seed, &bytes)
 }
 

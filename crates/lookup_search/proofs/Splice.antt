@@ -1,22 +1,21 @@
--- A splice as ids, from the chunk as an unsigned number. Assumes nothing.
-use mathlib.Core.Path.{_≡_}
-use Prim.Native.Nat.{ℕ, suc, _+_, _-_, _*_, _^_, _≤_, _<_}
+-- A splice as ids, from how far it lies above the lowest. Assumes nothing.
+use mathlib.Core.Path.{_≡_, ap, _∙_}
+use Prim.Native.Nat.{ℕ, _*_, _^_, _<_}
 use native.Mathlib.Omega.{arith}
+use lib.IntN.{ℤ, pos, negsuc}
 use mir.Syntax.{w8}
-use mir.Val.{toZ}
-use mir.Facts.{toZ-pos, toZ-neg}
+use mir.Val.{SFits}
+use Rattle.format.specs.Word.{minus32}
+use Rattle.format.specs.Tag.{tagSplice}
 use Rattle.format.specs.Look.{asIds}
+use Rattle.tag.specs.Splice.{fromLowest}
+use Rattle.tag.proofs.Splice.{splice-fits}
 
-pub ids-up : (chunk : ℕ) → chunk < 128 → chunk * 0x400 ≡ asIds (toZ w8 chunk)
+as-ids : (z : ℤ) → SFits w8 z → minus32 (fromLowest z * 0x400) 0x2_0000 ≡ asIds z
 unfolding asIds
-ids-up chunk h = rw (toZ-pos w8 {n = chunk} h) (omega arith)
+as-ids (pos n) h = let l : n < 2 ^ 7 = h .sfits in omega arith
+as-ids (negsuc n) h = let l : n < 2 ^ 7 = h .sfits in omega arith
 
--- in the upper half the chunk is 256 less
-below-zero : (k : ℕ) → k < 128 → 0xfffc_0000 + (2 ^ 8 - suc k) * 0x400 ≡ asIds (toZ w8 (2 ^ 8 - suc k))
-unfolding asIds
-below-zero k h = rw (toZ-neg w8 k h) (omega arith)
-
-pub ids-down : (chunk : ℕ) → 128 ≤ chunk → chunk < 256 → 0xfffc_0000 + chunk * 0x400 ≡ asIds (toZ w8 chunk)
-ids-down chunk h l =
-    let e : 2 ^ 8 - suc (255 - chunk) ≡ chunk = omega arith in
-    rw e at (below-zero (255 - chunk) (omega arith))
+-- r is that of the tag t
+pub ids-of : (t r : ℕ) → r ≡ fromLowest (tagSplice t) → minus32 (r * 0x400) 0x2_0000 ≡ asIds (tagSplice t)
+ids-of t r e = ap (λ (x : ℕ). minus32 (x * 0x400) 0x2_0000) e ∙ as-ids (tagSplice t) (splice-fits t)

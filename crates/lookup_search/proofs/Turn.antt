@@ -2,13 +2,11 @@
 use mathlib.Core.Path.{_≡_, refl, sym, ap, _∙_}
 use mathlib.Core.Bool.{Bool, true, false, not, cond, _&&_}
 use mathlib.Core.List.{List, _∷_}
-use Prim.Native.Nat.{ℕ, _+_, _-_, _%_, _^_, _≤_, _<_}
-use native.Mathlib.Omega.{arith}
-use lib.Bits.{bitAnd, bitXor}
+use Prim.Native.Nat.{ℕ, _+_, _^_, _<_}
+use lib.Bits.{bitAnd}
 use lib.Dec.{eqb, ltb}
-use lib.ListN.{drop}
 use borrow.Author.Tests.{eq-eqb, ne-eqb}
-use Rattle.format.specs.Word.{be32, xor, plus32, minus32}
+use Rattle.format.specs.Word.{plus32, minus32}
 use Rattle.format.specs.Tag.{tagSplice, tagLength, tagDelete, tagId}
 use Rattle.format.specs.Back.{Met, back}
 use Rattle.format.specs.Look.{Found, noEntry, found, asIds, splicedAt, createAt, wlook}
@@ -16,42 +14,48 @@ use Rattle.format.specs.Lookup.{hasIds, searchedFrom, searched}
 use Rattle.format.specs.Gstate.{gstateHasMoveHere}
 use Rattle.format.specs.declared.LfsMdir.{LfsMdir}
 use Rattle.format.specs.declared.LfsGstate.{LfsGstate}
-use Rattle.format.proofs.Back.{back-none, back-more}
+use Rattle.lookup_back.specs.Step.{Ends, tagBefore}
+use Rattle.lookup_back.proofs.Step.{back-over, back-on}
 
--- u is what the whole walk answers, n the length of the tag t, k the key here, s whether the tag is a splice at or below it
-module _ (b : List ℕ) (ids : Bool) (mask key off t d n : ℕ) (u : Found) (inv : u ≡ wlook ids mask key d (back b off t)) (en : n ≡ tagLength t) where
-  pub walk-over : off < 4 + n → noEntry ≡ u
-  unfolding wlook
-  walk-over h = sym (inv ∙ ap (wlook ids mask key d) (back-none b off t (omega arith)))
-
-  module _ (h : 4 + n ≤ off) (k : ℕ) (ek : k ≡ minus32 key d) (s : Bool) (es : s ≡ splicedAt ids t k) (c : ℕ) (ec : c ≡ createAt k) where
-    -- the walk before the tag
-    abbrev older : List Met
-    older = back b (off - tagLength t) (xor (be32 (drop (off - tagLength t) b)) t % 2 ^ 31)
-
-    here : u ≡ wlook ids mask key d (record { tag = t; off = off - tagLength t } ∷ older)
-    here = inv ∙ ap (wlook ids mask key d) (back-more b off t (omega arith))
-
-    pub turn-created : s && eqb t c ≡ true → noEntry ≡ u
+-- u is what the whole walk answers, `at` where the tag t stands, k the key here, s whether the tag is a splice at or
+-- below it
+module _ (b : List ℕ) (ids : Bool) (mask key off t d : ℕ) (u : Found) (inv : u ≡ wlook ids mask key d (back b off t))
+  where
+    pub walk-over : off < 4 + tagLength t → noEntry ≡ u
     unfolding wlook
-    turn-created q = sym (here ∙ rw (← ek, ← es, ← ec, q))
+    walk-over h = sym (inv ∙ ap (wlook ids mask key d) (back-over b off t h))
 
-    -- f is the difference behind the tag, l the key there
-    module _ (q : s && eqb t c ≡ false) (f : ℕ) (ef : f ≡ cond s (plus32 d (asIds (tagSplice t))) d) (l : ℕ) (el : l ≡ minus32 key f) where
-      past-create : u ≡ cond (eqb (bitAnd t mask) (bitAnd l mask)) (cond (tagDelete t) noEntry (found t (off - n) f)) (wlook ids mask key f older)
+    module _ (at : ℕ) (e : Ends off t at) (k : ℕ) (ek : k ≡ minus32 key d) (s : Bool) (es : s ≡ splicedAt ids t k)
+        (c : ℕ) (ec : c ≡ createAt k) where
+      -- the walk before the tag
+      abbrev older : List Met
+      older = back b at (tagBefore b at t)
+
+      here : u ≡ wlook ids mask key d (record { tag = t; off = at } ∷ older)
+      here = inv ∙ ap (wlook ids mask key d) (back-on b off t at e)
+
+      pub turn-created : s && eqb t c ≡ true → noEntry ≡ u
       unfolding wlook
-      past-create = here ∙ rw (← ek, ← es, ← ec, q, ← ef, ← el, ← en)
+      turn-created q = sym (here ∙ rw (← ek, ← es, ← ec, q))
 
-      pub turn-removed : bitAnd t mask ≡ bitAnd l mask → tagDelete t ≡ true → noEntry ≡ u
-      turn-removed m r = sym (past-create ∙ rw (eq-eqb (bitAnd t mask) (bitAnd l mask) m, r))
+      -- f is the difference behind the tag, l the key there
+      module _ (q : s && eqb t c ≡ false) (f : ℕ) (ef : f ≡ cond s (plus32 d (asIds (tagSplice t))) d) (l : ℕ)
+          (el : l ≡ minus32 key f) where
+        past-create : u ≡ cond (eqb (bitAnd t mask) (bitAnd l mask)) (cond (tagDelete t) noEntry (found t at f))
+            (wlook ids mask key f older)
+        unfolding wlook
+        past-create = here ∙ rw (← ek, ← es, ← ec, q, ← ef, ← el)
 
-      pub turn-found : bitAnd t mask ≡ bitAnd l mask → tagDelete t ≡ false → found t (off - n) f ≡ u
-      turn-found m r = sym (past-create ∙ rw (eq-eqb (bitAnd t mask) (bitAnd l mask) m, r))
+        pub turn-removed : bitAnd t mask ≡ bitAnd l mask → tagDelete t ≡ true → noEntry ≡ u
+        turn-removed m r = sym (past-create ∙ rw (eq-eqb (bitAnd t mask) (bitAnd l mask) m, r))
 
-      -- w is the word that stands at the tag
-      pub turn-on : (bitAnd t mask ≡ bitAnd l mask → ⊥) → (w : ℕ) → w ≡ be32 (drop (off - n) b) → u ≡ wlook ids mask key f (back b (off - n) (bitXor w t % 0x8000_0000))
-      unfolding xor
-      turn-on m w ew = past-create ∙ rw (ne-eqb (bitAnd t mask) (bitAnd l mask) m, ew, en)
+        pub turn-found : bitAnd t mask ≡ bitAnd l mask → tagDelete t ≡ false → found t at f ≡ u
+        turn-found m r = sym (past-create ∙ rw (eq-eqb (bitAnd t mask) (bitAnd l mask) m, r))
+
+        -- w is the tag before
+        pub turn-on : (bitAnd t mask ≡ bitAnd l mask → ⊥) → (w : ℕ) → w ≡ tagBefore b at t
+            → u ≡ wlook ids mask key f (back b at w)
+        turn-on m w ew = past-create ∙ rw (ne-eqb (bitAnd t mask) (bitAnd l mask) m, ew)
 
 -- where the search starts
 module _ (b : List ℕ) (dir : LfsMdir) (gdisk : LfsGstate) (mask key : ℕ) where

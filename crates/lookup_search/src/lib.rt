@@ -13,6 +13,7 @@ ghost use Rattle.format.specs.Lookup.{hasIds, searched};
 ghost use Rattle.lookup_search.specs.Hit.{foundAs, Inside};
 use format::LfsGstate;
 use format::LfsMdir;
+use lookup_back::Back;
 
 pub mod slice;
 
@@ -42,16 +43,11 @@ fn create_at(key: u32) -> u32
     tag::lfs_mktag(LFS_TYPE_CREATE, tag::lfs_tag_id(key) as u32, 0)
 }
 
-// A tag's splice as ids, a word that wraps. The chunk's upper half, which is below zero, lies 256 ids too high.
+// A tag's splice as ids, a word that wraps: counted from the lowest splice, and the 128 ids of that taken away.
 fn splice_as_ids(tag: u32) -> u32
     ensures { λ r. ⌜ r ≡ asIds (tagSplice tag) ⌝ }
 {
-    let chunk = tag::lfs_tag_chunk(tag) as u32;
-    if chunk < 128 {
-        chunk * 0x400
-    } else {
-        0xfffc_0000 + chunk * 0x400
-    }
+    std::num::wrapping_sub_u32(tag::splice_from_lowest(tag) * 0x400, 0x2_0000)
 }
 
 // The difference behind a tag: both are there before the choice, so that it compiles to a select. Where the splices of a log stand, no
@@ -81,11 +77,9 @@ fn find_back(b: &[u8], end: usize, etag: u32, gmask: u32, gtag: u32, diff: u32) 
     let mut tag = etag;
     let mut gdiff = diff;
     loop {
-        let size = tag::lfs_tag_dsize(tag) as usize;
-        if off < 4 + size {
+        let Back::At(at) = lookup_back::place(off, tag) else {
             return Hit::Nothing;
-        }
-        let at = off - size;
+        };
         let key = key_at(gtag, gdiff);
         let spliced = splices(ids, tag, key);
         if spliced & (tag == create_at(key)) {
@@ -99,7 +93,7 @@ fn find_back(b: &[u8], end: usize, etag: u32, gmask: u32, gtag: u32, diff: u32) 
             }
             return Hit::At(tag, at, next);
         }
-        tag = (word::within::be32(b, at) ^ tag) % 0x8000_0000;
+        tag = lookup_back::tag_before(b, at, tag);
         off = at;
         gdiff = next;
     }

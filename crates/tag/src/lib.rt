@@ -1,7 +1,9 @@
 // The tag of a metadata log: tag.rs, lfs.c's LFS_MKTAG and lfs_tag_*. Every function takes any word.
 // Fields are taken by `/` and `%` of powers of two, which compile to the shifts and masks of the C.
 ghost use mathlib.Core.Path.{_≡_};
+ghost use Prim.Native.Nat.{_^_, _<_};
 ghost use Rattle.format.specs.Tag.{tagValid, tagType1, tagType2, tagType3, tagChunk, tagSplice, tagId, tagSize, tagDelete, tagLength, mkTag, mkTagIf};
+ghost use Rattle.tag.specs.Splice.{fromLowest};
 
 const LFS_FROM_NOOP: u32 = 0x000;
 
@@ -75,6 +77,13 @@ pub fn lfs_tag_splice(tag: u32) -> i8
     } else {
         -1 - ((255 - chunk) as i8)
     }
+}
+
+// A tag's splice counted from the lowest, -128: what adds a splice to an unsigned number adds this and takes 128 away.
+pub fn splice_from_lowest(tag: u32) -> u32
+    ensures { λ r. ⌜ (r ≡ fromLowest (tagSplice tag)) × (r < 2 ^ 8) ⌝ }
+{
+    (lfs_tag_splice(tag) as i32 + 128) as u32
 }
 
 // Per lfs.c lfs_tag_id.

@@ -4,7 +4,7 @@ use mathlib.Core.Bool.{Bool, true, false, cond}
 use mathlib.Core.List.{List, [], _∷_}
 use Prim.Native.Nat.{ℕ, suc, _+_, _≤_}
 use native.Mathlib.Omega.{arith}
-use lib.ListN.{length, set}
+use lib.ListN.{length, getD, set}
 use lib.Seq.{sets}
 use borrow.Author.Tests.{leb-true}
 use Rattle.format.specs.Bytes.{inside}
@@ -21,9 +21,16 @@ pub second : {A : Type 0} (r test : Bool) (x y : A) → r ≡ test → r ≡ fal
 second r test x y e t = rw (sym e ∙ t)
 
 -- four stores, as the code counts their places
-pub four : (s : List ℕ) (at a b c d : ℕ) → set (set (set (set s at a) (at + 1) b) (at + 2) c) (at + 3) d ≡ sets s at (a ∷ b ∷ c ∷ d ∷ [])
-four s at a b c d =
+pub four : (s : List ℕ) (at : ℕ) (l : List ℕ) → length l ≡ 4
+    → set (set (set (set s at (getD l 0 0)) (at + 1) (getD l 1 0)) (at + 2) (getD l 2 0)) (at + 3) (getD l 3 0) ≡ sets
+    s at l
+four s at (a ∷ b ∷ c ∷ d ∷ []) h =
     let e1 : at + 1 ≡ suc at = omega arith in
     let e2 : at + 2 ≡ suc (suc at) = omega arith in
     let e3 : at + 3 ≡ suc (suc (suc at)) = omega arith in
     rw (e1, e2, e3)
+four s at [] h = absurd (omega arith)
+four s at (a ∷ []) h = absurd (omega arith)
+four s at (a ∷ b ∷ []) h = absurd (omega arith)
+four s at (a ∷ b ∷ c ∷ []) h = absurd (omega arith)
+four s at (a ∷ b ∷ c ∷ d ∷ e ∷ l) h = absurd (omega arith)

@@ -1,6 +1,7 @@
 // Words of 32 bits in bytes: what util.rs has as lfs_fromle32, lfs_tole32, lfs_frombe32 and lfs_tobe32 over a pointer cast is here a read or a
 // store of four bytes at an offset of a slice. Any slice and offset; what passes the end is refused, and a refused store alters nothing.
 ghost use mathlib.Core.Path.{_≡_};
+ghost use Rattle.format.specs.Word.{toLe32, toBe32};
 ghost use Rattle.format.specs.Bytes.{inside, le32At, be32At, putAnswer, putLe32, putBe32};
 use format::Altered;
 use format::Refusal;
@@ -8,6 +9,30 @@ use format::Word;
 
 // The same at an offset that the caller knows to be inside. They have a `requires`, and are for the crates of this repository.
 pub mod within;
+
+// The four bytes of a word, lowest first.
+pub fn le_bytes(v: u32) -> [u8; 4]
+    ensures { λ r. ⌜ r ≡ toLe32 v ⌝ }
+{
+    [
+        (v % 0x100) as u8,
+        (v / 0x100 % 0x100) as u8,
+        (v / 0x1_0000 % 0x100) as u8,
+        (v / 0x100_0000) as u8,
+    ]
+}
+
+// The four bytes of a word, highest first.
+pub fn be_bytes(v: u32) -> [u8; 4]
+    ensures { λ r. ⌜ r ≡ toBe32 v ⌝ }
+{
+    [
+        (v / 0x100_0000) as u8,
+        (v / 0x1_0000 % 0x100) as u8,
+        (v / 0x100 % 0x100) as u8,
+        (v % 0x100) as u8,
+    ]
+}
 
 // Whether four bytes at `at` are inside; `at` may be any number.
 fn has_word(s: &[u8], at: usize) -> bool

@@ -1,6 +1,5 @@
 // Words of 32 bits at an offset that the caller knows to be inside the slice: each function requires it.
 ghost use mathlib.Core.Path.{_≡_};
-ghost use mathlib.Core.List.{[], _∷_};
 ghost use Prim.Native.Nat.{_+_, _*_, _^_, _≤_};
 ghost use lib.ListN.{length, drop};
 ghost use lib.Seq.{sets};
@@ -28,40 +27,26 @@ pub fn be32(s: &[u8], at: usize) -> u32
 }
 
 // Four bytes, stored one after the other.
-fn put_four(s: &mut [u8], at: usize, a: u8, b: u8, c: u8, d: u8)
+fn put_four(s: &mut [u8], at: usize, bytes: [u8; 4])
     requires { ⌜ at + 4 ≤ length (now s) ⌝ }
-    ensures { λ _. ⌜ now (s .exit) ≡ sets (now (s .entry)) at (a ∷ b ∷ c ∷ d ∷ []) ⌝ }
+    ensures { λ _. ⌜ now (s .exit) ≡ sets (now (s .entry)) at bytes ⌝ }
 {
-    s[at] = a;
-    s[at + 1] = b;
-    s[at + 2] = c;
-    s[at + 3] = d;
+    s[at] = bytes[0];
+    s[at + 1] = bytes[1];
+    s[at + 2] = bytes[2];
+    s[at + 3] = bytes[3];
 }
 
 pub fn put_le32(s: &mut [u8], at: usize, v: u32)
     requires { ⌜ at + 4 ≤ length (now s) ⌝ }
     ensures { λ _. ⌜ now (s .exit) ≡ sets (now (s .entry)) at (toLe32 v) ⌝ }
 {
-    put_four(
-        s,
-        at,
-        (v % 0x100) as u8,
-        (v / 0x100 % 0x100) as u8,
-        (v / 0x1_0000 % 0x100) as u8,
-        (v / 0x100_0000) as u8,
-    );
+    put_four(s, at, crate::le_bytes(v));
 }
 
 pub fn put_be32(s: &mut [u8], at: usize, v: u32)
     requires { ⌜ at + 4 ≤ length (now s) ⌝ }
     ensures { λ _. ⌜ now (s .exit) ≡ sets (now (s .entry)) at (toBe32 v) ⌝ }
 {
-    put_four(
-        s,
-        at,
-        (v / 0x100_0000) as u8,
-        (v / 0x1_0000 % 0x100) as u8,
-        (v / 0x100 % 0x100) as u8,
-        (v % 0x100) as u8,
-    );
+    put_four(s, at, crate::be_bytes(v));
 }

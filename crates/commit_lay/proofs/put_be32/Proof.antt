@@ -1,14 +1,11 @@
--- `lay::put_be32` meets its contract: the array is the word's bytes. Assumes nothing.
-use Rattle.format.specs.Word.{toBe32}
+-- `commit_lay::put_be32` meets its contract: the array is the word's bytes. Assumes nothing.
 use borrow.Author.Needs.{needs}
 use Rattle.commit_lay.proofs.put_be32.Statement.{statement}
 use Rattle.commit_lay.proofs.put_be32.Tie as tie
 
 returns : tie.Need-returns
-unfolding toBe32
-returns c = c .before .before .put-all .ensures
+returns c = cc
 
 pub put-be32-spec : {M : Type 1} → statement M
-put-be32-spec =
-    tie.close
-    (tie.spec (λ c. search needs) (λ c. search needs) (λ c. search needs) (λ c. search needs) (λ c. search needs) (λ c κs. search needs) (λ c. search needs) returns)
+put-be32-spec = tie.close (tie.spec (λ c κs. search needs) (λ c. search needs) (λ c κs. search needs)
+    (λ c. search needs) returns)

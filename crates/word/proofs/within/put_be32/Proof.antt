@@ -1,12 +1,10 @@
 -- `word::within::put_be32` meets its contract: the four bytes of the word. Assumes nothing.
 use borrow.Author.Needs.{needs}
-use Rattle.format.specs.Word.{toBe32}
 use Rattle.word.proofs.within.put_be32.Statement.{statement}
 use Rattle.word.proofs.within.put_be32.Tie as tie
 
 returns : tie.Need-returns
-unfolding toBe32
-returns c = c .before .before .put-four .ensures
+returns c = cc
 
 pub put-be32-spec : {M : Type 1} → statement M
-put-be32-spec = tie.close (tie.spec (λ c. search needs) (λ c. search needs) (λ c. search needs) (λ c. search needs) (λ c κs. search needs) (λ c. search needs) returns)
+put-be32-spec = tie.close (tie.spec (λ c κs. search needs) (λ c κs. search needs) (λ c. search needs) returns)

@@ -7,9 +7,12 @@ use Rattle.word.proofs.within.put_four.Statement.{statement}
 use Rattle.word.proofs.within.put_four.Tie as tie
 
 returns : tie.Need-returns
-returns c = four (c .args .s .now) (c .args .at) (c .args .a) (c .args .b) (c .args .c) (c .args .d)
+returns c = four _ _ (c .args .t3) (omega (arith, c .good .1 .1 .0))
 
 pub put-four-spec : {M : Type 1} → statement M
 put-four-spec =
     tie.close
-    (tie.spec (λ c. search needs) (λ c. search needs) (λ c. simp length-set (omega arith)) (λ c. search needs) (λ c. simp length-set (omega arith)) (λ c. search needs) (λ c. simp length-set (omega arith)) (λ c. search needs) returns)
+    (tie.spec (λ c. search needs) (λ c. search needs) (λ c. search needs) (λ c. search needs)
+    (λ c. simp length-set (omega arith))
+    (λ c. search needs) (λ c. search needs) (λ c. simp length-set (omega arith))
+    (λ c. search needs) (λ c. search needs) (λ c. simp length-set (omega arith)) (λ c. search needs) returns)

@@ -1,0 +1,2 @@
+-- What a splice is as an unsigned number.
+pub mod Splice
