@@ -3,32 +3,7 @@ ghost use mathlib.Core.Path.{_≡_};
 ghost use Prim.Native.Nat.{_^_, _<_};
 ghost use Rattle.format.specs.Regular.{ruleOf, ruleHolds, countAfter};
 ghost use Rattle.commit_rules.specs.Rules.{ruleAs, countedBy};
-
-const LFS_TYPE_REG: u16 = 0x001;
-
-const LFS_TYPE_DIR: u16 = 0x002;
-
-const LFS_TYPE_SUPERBLOCK: u16 = 0x0ff;
-
-const LFS_TYPE_DIRSTRUCT: u16 = 0x200;
-
-const LFS_TYPE_INLINESTRUCT: u16 = 0x201;
-
-const LFS_TYPE_CTZSTRUCT: u16 = 0x202;
-
-const LFS_TYPE_USERATTR: u16 = 0x300;
-
-const LFS_TYPE_CREATE: u16 = 0x401;
-
-const LFS_TYPE_DELETE: u16 = 0x4ff;
-
-const LFS_TYPE_FCRC: u16 = 0x5ff;
-
-const LFS_TYPE_SOFTTAIL: u16 = 0x600;
-
-const LFS_TYPE_HARDTAIL: u16 = 0x601;
-
-const LFS_TYPE_MOVESTATE: u16 = 0x7ff;
+use format::types::*;
 
 // Which rule a type falls under.
 pub enum Rule {
@@ -102,13 +77,13 @@ fn rule_holds(rule: Rule, count: u32, id: u32, size: u32) -> bool
     match rule {
         Rule::Create => (id <= count) & (count <= 1022) & (size == 0),
         Rule::Delete => (id < count) & (size == 0),
-        Rule::Name => (id < count) & ((1 <= size) & (size <= 1022)),
-        Rule::Inlined => (id < count) & (size <= 1022),
+        Rule::Name => (id < count) & ((1 <= size) & (size <= LFS_ATTR_MAX)),
+        Rule::Inlined => (id < count) & (size <= LFS_ATTR_MAX),
         Rule::Eight => (id < count) & (size == 8),
-        Rule::Attribute => (id < count) & (size <= 0x3ff),
-        Rule::Tail => (id == 1023) & (size == 8),
-        Rule::Move => (id == 1023) & (size == 12),
-        Rule::Forward => (id == 1023) & (size == 8),
+        Rule::Attribute => (id < count) & (size <= REMOVAL),
+        Rule::Tail => (id == NO_SLOT) & (size == 8),
+        Rule::Move => (id == NO_SLOT) & (size == 12),
+        Rule::Forward => (id == NO_SLOT) & (size == 8),
         Rule::Bad => false,
     }
 }

@@ -100,7 +100,7 @@ fn start(b: &[u8], second: bool, m: LfsMdir) -> State
     requires { ⌜ 4 ≤ length (now b) ⌝ }
     ensures { λ r. ⌜ r ≡ startedOf second (now (b .entry)) m ⌝ }
 {
-    if !commit_regular::lfs_dir_regular(b) {
+    if !commit_regular::log_regular(b) {
         return refused(Refusal::Irregular);
     }
     let judging = Judging {
