@@ -1,12 +1,16 @@
-// The global state for C callers, who keep it: each export takes it where it stands, by `&` or `&mut`, and answers a word. Tests answer 1 or 0.
-// An export only copies the state and calls a core by value, which computes the word.
+// The global state for C callers, who keep it: each export takes it where it stands, by `&` or `&mut`, and answers a
+// word. Tests answer exactly 1 or 0.
+//
+// Each test has two functions. What takes a reference to a struct is proved by hand, step by step; what takes the struct
+// by value is proved by the prover. So an export does no more than copy the state and call its other half, which
+// computes the word.
 ghost use mathlib.Core.Path.{_≡_};
 ghost use Rattle.format.specs.Answer.{flagOf};
 ghost use Rattle.format.specs.Gstate.{gstateXor, gstateZero, gstateHasOrphans, gstateOrphans, gstateNeedsSuperblock, gstateHasMove, gstateHasMoveHere};
 use format::LfsGstate;
 use lanolin_answers::flag;
 
-// ---- by value
+// ---- by value: what the exports answer
 
 fn is_zero_word(a: LfsGstate) -> u32
     ensures { λ r. ⌜ r ≡ flagOf (gstateZero a) ⌝ }
@@ -44,7 +48,7 @@ fn has_move_here_word(a: LfsGstate, p0: u32, p1: u32) -> u32
     flag(gstate::has_move_here(a, p0, p1))
 }
 
-// ---- the exports
+// ---- the exports: a copy and a call
 
 #[no_mangle]
 pub extern "C" fn lanolin_gstate_iszero(a: &LfsGstate) -> u32
@@ -88,6 +92,7 @@ pub extern "C" fn lanolin_gstate_hasmovehere(a: &LfsGstate, p0: u32, p1: u32) ->
     has_move_here_word(*a, p0, p1)
 }
 
+// The only export that alters a state: both are copied, and the first is stored anew.
 #[no_mangle]
 pub extern "C" fn lanolin_gstate_xor(a: &mut LfsGstate, b: &LfsGstate)
     ensures { λ _. ⌜ now (a .exit) ≡ gstateXor (now (a .entry)) (now (b .entry)) ⌝ }
