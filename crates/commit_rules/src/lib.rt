@@ -29,45 +29,19 @@ pub enum Ruled {
 fn rule_of(logged: bool, kind: u16) -> Rule
     ensures { λ r. ⌜ ruleAs r ≡ ruleOf logged kind ⌝ }
 {
-    let create = kind == LFS_TYPE_CREATE;
-    let delete = kind == LFS_TYPE_DELETE;
-    let name = (kind == LFS_TYPE_REG)
-        | (kind == LFS_TYPE_DIR)
-        | (logged & (kind == LFS_TYPE_SUPERBLOCK));
-    let inlined = kind == LFS_TYPE_INLINESTRUCT;
-    let eight = (kind == LFS_TYPE_DIRSTRUCT) | (kind == LFS_TYPE_CTZSTRUCT);
-    let attribute = (LFS_TYPE_USERATTR <= kind) & (kind < LFS_TYPE_USERATTR + 0x100);
-    let tail = (kind == LFS_TYPE_SOFTTAIL) | (kind == LFS_TYPE_HARDTAIL);
-    let state = kind == LFS_TYPE_MOVESTATE;
-    let forward = logged & (kind == LFS_TYPE_FCRC);
-    if create {
-        return Rule::Create;
+    match kind {
+        LFS_TYPE_CREATE => Rule::Create,
+        LFS_TYPE_DELETE => Rule::Delete,
+        LFS_TYPE_REG | LFS_TYPE_DIR => Rule::Name,
+        LFS_TYPE_SUPERBLOCK => { if logged { Rule::Name } else { Rule::Bad } }
+        LFS_TYPE_INLINESTRUCT => Rule::Inlined,
+        LFS_TYPE_DIRSTRUCT | LFS_TYPE_CTZSTRUCT => Rule::Eight,
+        LFS_TYPE_USERATTR..=LAST_USERATTR => Rule::Attribute,
+        LFS_TYPE_SOFTTAIL | LFS_TYPE_HARDTAIL => Rule::Tail,
+        LFS_TYPE_MOVESTATE => Rule::Move,
+        LFS_TYPE_FCRC => { if logged { Rule::Forward } else { Rule::Bad } }
+        _ => Rule::Bad,
     }
-    if delete {
-        return Rule::Delete;
-    }
-    if name {
-        return Rule::Name;
-    }
-    if inlined {
-        return Rule::Inlined;
-    }
-    if eight {
-        return Rule::Eight;
-    }
-    if attribute {
-        return Rule::Attribute;
-    }
-    if tail {
-        return Rule::Tail;
-    }
-    if state {
-        return Rule::Move;
-    }
-    if forward {
-        return Rule::Forward;
-    }
-    Rule::Bad
 }
 
 // Whether an entry passes its rule at a count.
