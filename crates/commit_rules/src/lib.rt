@@ -70,14 +70,7 @@ fn count_after(rule: Rule, count: u32) -> u32
     match rule {
         Rule::Create => count + 1,
         Rule::Delete => { if count == 0 { 0 } else { count - 1 } }
-        Rule::Name => count,
-        Rule::Inlined => count,
-        Rule::Eight => count,
-        Rule::Attribute => count,
-        Rule::Tail => count,
-        Rule::Move => count,
-        Rule::Forward => count,
-        Rule::Bad => count,
+        _ => count,
     }
 }
 
