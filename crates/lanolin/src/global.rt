@@ -1,8 +1,8 @@
 // The global state for C callers, who keep it: each export takes it where it stands, by `&` or `&mut`, and answers a
 // word. Tests answer exactly 1 or 0.
 //
-// Each test has two functions. What takes a reference to a struct is proved by hand, step by step; what takes the struct
-// by value is proved by the prover. So an export does no more than copy the state and call its other half, which
+// Each test has two functions. What takes a reference to a struct is proved by hand, step by step; what takes the
+// struct by value is proved by the prover. So an export does no more than copy the state and call its other half, which
 // computes the word.
 ghost use mathlib.Core.Path.{_≡_};
 ghost use Rattle.format.specs.Answer.{flagOf};

@@ -1,5 +1,5 @@
--- What comes back with a refusal that the code does not tell by its name. Of a `_` the prover knows that the case is one
--- of those left, by their places in the enum. Assumes nothing.
+-- What comes back with a refusal that the code does not tell by its name. Of a `_` the prover knows that the case is
+-- one of those left, by their places in the enum. Assumes nothing.
 use mathlib.Core.Path.{_≡_, refl}
 use mathlib.Core.List.{[], _∷_}
 use Prim.{tt}

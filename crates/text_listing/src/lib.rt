@@ -261,10 +261,10 @@ pub fn fetch_input(input: &[u8]) -> Fetched
     fetch::lfs_dir_fetch(g, &input[0..half], &input[half..], 0, 1, 0, 0)
 }
 
-// The listing of both images, one behind the other, as far as `out` has room; the answer is the length of the whole text,
-// so a caller whose buffer was too short knows how long a one to lend. The images have the numbers 0 and 1, so the
-// record's first number says which half the text is read from. The text begins at 0 in either case, and is shorter than
-// 2^32: the length that `text` counts does not wrap.
+// The listing of both images, one behind the other, as far as `out` has room. The answer is the length of the whole
+// text, so a caller whose buffer was too short knows how long a one to lend. The images have the numbers 0 and 1, so
+// the first number of the record says which half is listed. No listing reaches 2^32 bytes, where `text`'s count would
+// wrap.
 pub fn lfs_dir_list(input: &[u8], out: &mut [u8]) -> u32
     ensures { λ r. ⌜ r ≡ length (listingOf (now (input .entry))) ⌝ }
     ensures { λ _. ⌜ now (out .exit) ≡ writtenTo (now (out .entry)) (listingOf (now (input .entry))) ⌝ }

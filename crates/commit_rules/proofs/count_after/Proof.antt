@@ -27,4 +27,6 @@ returns-4 c = count-stays (c .before .args .rule) (c .before .args .count) (c .m
 
 pub count-after-spec : {M : Type 1} → statement M
 count-after-spec =
-    tie.close (tie.spec (λ c. search needs) add-result (λ c. search needs) (λ c. search needs) returns returns-2 returns-3 returns-4)
+    tie.close
+    (tie.spec (λ c. search needs) add-result (λ c. search needs) (λ c. search needs) returns returns-2 returns-3
+    returns-4)

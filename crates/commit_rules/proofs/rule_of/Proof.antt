@@ -50,7 +50,8 @@ returns-11 c = is-attribute _ _ (c .before .if5 .left) (c .if6 .taken)
 
 returns-12 : tie.Need-returns-12
 returns-12 c =
-    is-tail _ _ (c .before .before .before .before .before .before .match .rest .1) (c .before .if7 .left) (c .if8 .taken)
+    is-tail _ _ (c .before .before .before .before .before .before .match .rest .1) (c .before .if7 .left)
+    (c .if8 .taken)
 
 returns-13 : tie.Need-returns-13
 returns-13 c = bad-first _ _ (c .before .match .rest) (c .if3 .taken)
@@ -68,5 +69,6 @@ returns-16 c = bad-last _ _ (c .before .before .before .before .before .before .
 pub rule-of-spec : {M : Type 1} → statement M
 rule-of-spec =
     tie.close
-    (tie.spec returns returns-2 returns-3 returns-4 returns-5 returns-6 returns-7 returns-8 returns-9 returns-10 returns-11
+    (tie.spec returns returns-2 returns-3 returns-4 returns-5 returns-6 returns-7 returns-8 returns-9 returns-10
+    returns-11
     returns-12 returns-13 returns-14 returns-15 returns-16)
