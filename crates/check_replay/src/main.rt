@@ -14,6 +14,76 @@ use libc::STDOUT_FILENO;
 
 const MOST: usize = 1024;
 
+// ---- the words of a header, by oracle/RECORDED.md's table; where it has one word for several kinds, by kind
+
+const KIND: usize = 0;
+
+const BLOCK_SIZE: usize = 1;
+
+const PROG_SIZE: usize = 2;
+
+const N0: usize = 3;
+
+const N1: usize = 4;
+
+const BLOCK_COUNT: usize = 5;
+
+const SEED: usize = 6;
+// the record: of a fetch the expected one, of a lookup the given one
+const PAIR: usize = 7;
+
+const REV: usize = 9;
+
+const END: usize = 10;
+
+const END_TAG: usize = 11;
+
+const COUNT: usize = 12;
+
+const IS_ERASED: usize = 13;
+
+const IS_SPLIT: usize = 14;
+
+const TAIL: usize = 15;
+// fetch
+const WANT_SEED: usize = 17;
+// the lookups
+const GDISK: usize = 17;
+// getslice
+const GMASK: usize = 20;
+
+const GTAG: usize = 21;
+
+const GOFF: usize = 22;
+// getgstate
+const GIVEN_STATE: usize = 20;
+// getinfo
+const NAME_MAX: usize = 24;
+
+const ID: usize = 25;
+// what is expected: the result of each, and behind it what belongs to its kind
+const WANT_RESULT: usize = 26;
+
+const WANT_TAG: usize = 27;
+
+const WANT_TYPE: usize = 27;
+
+const WANT_STATE: usize = 27;
+
+const WANT_SIZE: usize = 28;
+
+const BUFFER_SIZE: usize = 30;
+
+// ---- the kinds
+
+const FETCH: u32 = 1;
+
+const GETSLICE: u32 = 2;
+
+const GETINFO: u32 = 3;
+
+const GETGSTATE: u32 = 4;
+
 struct Tally {
     fetches: u32,
     slices: u32,
@@ -36,18 +106,18 @@ fn at(head: [u8; 128], k: usize) -> u32 {
 fn mdir(head: [u8; 128]) -> LfsMdir {
     LfsMdir {
         pair: LfsPair {
-            n0: at(head, 7),
-            n1: at(head, 8),
+            n0: at(head, PAIR),
+            n1: at(head, PAIR + 1),
         },
-        rev: at(head, 9),
-        off: at(head, 10),
-        etag: at(head, 11),
-        count: (at(head, 12) % 65536) as u16,
-        erased: at(head, 13) == 1,
-        split: at(head, 14) == 1,
+        rev: at(head, REV),
+        off: at(head, END),
+        etag: at(head, END_TAG),
+        count: (at(head, COUNT) % 65536) as u16,
+        erased: at(head, IS_ERASED) == 1,
+        split: at(head, IS_SPLIT) == 1,
         tail: LfsPair {
-            n0: at(head, 15),
-            n1: at(head, 16),
+            n0: at(head, TAIL),
+            n1: at(head, TAIL + 1),
         },
     }
 }
@@ -69,8 +139,8 @@ fn gstate_of(tag: u32, n0: u32, n1: u32) -> LfsGstate {
 
 fn geometry(head: [u8; 128]) -> Geometry {
     Geometry {
-        block_size: at(head, 1),
-        prog_size: at(head, 2),
+        block_size: at(head, BLOCK_SIZE),
+        prog_size: at(head, PROG_SIZE),
     }
 }
 
@@ -101,21 +171,21 @@ fn number(r: Refusal) -> u32 {
 }
 
 fn same_fetch(head: [u8; 128], b0: &[u8], b1: &[u8]) -> bool {
-    let result = at(head, 26);
+    let result = at(head, WANT_RESULT);
     let want = mdir(head);
-    let seed = at(head, 17);
+    let seed = at(head, WANT_SEED);
     match fetch::lfs_dir_fetch(
         geometry(head),
         b0,
         b1,
-        at(head, 3),
-        at(head, 4),
-        at(head, 5),
-        at(head, 6),
+        at(head, N0),
+        at(head, N1),
+        at(head, BLOCK_COUNT),
+        at(head, SEED),
     ) {
         Fetched::Found(m, s) => (result == 0) & same_mdir(m, want) & (s == seed),
         Fetched::Refused(r) => match r {
-            Refusal::TooMany(m, s) => (result == 0xffff_fffe) & same_mdir(m, want) & (s == seed),
+            Refusal::TooMany(m, s) => (result == number(r)) & same_mdir(m, want) & (s == seed),
             _ => result == number(r),
         },
     }
@@ -123,21 +193,21 @@ fn same_fetch(head: [u8; 128], b0: &[u8], b1: &[u8]) -> bool {
 
 // The lookup into a buffer, and the buffer against the expected one.
 fn slice_into(head: [u8; 128], b0: &[u8], b1: &[u8], want: &[u8], buffer: &mut [u8]) -> bool {
-    let result = at(head, 26);
+    let result = at(head, WANT_RESULT);
     let equal = match lookup::lfs_dir_getslice(
         geometry(head),
         b0,
         b1,
-        at(head, 3),
-        at(head, 4),
+        at(head, N0),
+        at(head, N1),
         mdir(head),
-        gstate(head, 17),
-        at(head, 20),
-        at(head, 21),
-        at(head, 22),
+        gstate(head, GDISK),
+        at(head, GMASK),
+        at(head, GTAG),
+        at(head, GOFF),
         buffer,
     ) {
-        Got::Found(t) => (result == 0) & (t == at(head, 27)),
+        Got::Found(t) => (result == 0) & (t == at(head, WANT_TAG)),
         Got::Refused(r) => result == number(r),
     };
     equal & check::same(buffer, want)
@@ -161,22 +231,25 @@ fn same_info(head: [u8; 128], b0: &[u8], b1: &[u8], want: &[u8]) -> bool {
         geometry(head),
         b0,
         b1,
-        at(head, 3),
-        at(head, 4),
+        at(head, N0),
+        at(head, N1),
         mdir(head),
-        gstate(head, 17),
-        at(head, 24),
-        at(head, 25),
+        gstate(head, GDISK),
+        at(head, NAME_MAX),
+        at(head, ID),
     );
     let answer = i.answer;
     let info = i.info;
     let name = info.name;
-    let result = at(head, 26);
+    let result = at(head, WANT_RESULT);
     let equal = match answer {
         Altered::Done => result == 0,
         Altered::Refused(r) => result == number(r),
     };
-    equal & (info.kind as u32 == at(head, 27)) & (info.size == at(head, 28)) & same_name(name, want)
+    equal
+        & (info.kind as u32 == at(head, WANT_TYPE))
+        & (info.size == at(head, WANT_SIZE))
+        & same_name(name, want)
 }
 
 fn same_state(head: [u8; 128], b0: &[u8], b1: &[u8]) -> bool {
@@ -184,16 +257,16 @@ fn same_state(head: [u8; 128], b0: &[u8], b1: &[u8]) -> bool {
         geometry(head),
         b0,
         b1,
-        at(head, 3),
-        at(head, 4),
+        at(head, N0),
+        at(head, N1),
         mdir(head),
-        gstate(head, 17),
-        gstate(head, 20),
+        gstate(head, GDISK),
+        gstate(head, GIVEN_STATE),
     );
     let answer = got.answer;
     let state = got.gstate;
-    let want = gstate(head, 27);
-    let result = at(head, 26);
+    let want = gstate(head, WANT_STATE);
+    let result = at(head, WANT_RESULT);
     let equal = match answer {
         Altered::Done => result == 0,
         Altered::Refused(r) => result == number(r),
@@ -222,13 +295,13 @@ fn one_more(n: u32) -> u32 {
 }
 
 fn compared(head: [u8; 128], kind: u32, b0: &[u8], b1: &[u8], want: &[u8]) -> bool {
-    if kind == 1 {
+    if kind == FETCH {
         return same_fetch(head, b0, b1);
     }
-    if kind == 2 {
+    if kind == GETSLICE {
         return same_slice(head, b0, b1, want);
     }
-    if kind == 3 {
+    if kind == GETINFO {
         return same_info(head, b0, b1, want);
     }
     same_state(head, b0, b1)
@@ -236,16 +309,16 @@ fn compared(head: [u8; 128], kind: u32, b0: &[u8], b1: &[u8], want: &[u8]) -> bo
 
 fn counted(t: Tally, kind: u32, equal: bool) -> Tally {
     let mut next = t;
-    if kind == 1 {
+    if kind == FETCH {
         next.fetches = one_more(t.fetches);
     }
-    if kind == 2 {
+    if kind == GETSLICE {
         next.slices = one_more(t.slices);
     }
-    if kind == 3 {
+    if kind == GETINFO {
         next.infos = one_more(t.infos);
     }
-    if kind == 4 {
+    if kind == GETGSTATE {
         next.states = one_more(t.states);
     }
     if !equal {
@@ -256,9 +329,9 @@ fn counted(t: Tally, kind: u32, equal: bool) -> Tally {
 
 // The record behind a header, compared.
 fn replayed(head: [u8; 128], t: Tally) -> Tally {
-    let kind = at(head, 0);
-    let size = at(head, 1) as usize;
-    let more = at(head, 30) as usize;
+    let kind = at(head, KIND);
+    let size = at(head, BLOCK_SIZE) as usize;
+    let more = at(head, BUFFER_SIZE) as usize;
     let b0 = part(size);
     let b1 = part(size);
     let want = part(more);
@@ -298,7 +371,7 @@ fn run() -> Tally {
     let mut left: u32 = 100_000;
     while 0 < left {
         let head = header();
-        if at(head, 0) == 0 {
+        if at(head, KIND) == 0 {
             return t;
         }
         t = replayed(head, t);

@@ -6,6 +6,7 @@ ghost use Prim.Native.Nat.{min};
 ghost use Rattle.format.specs.Word.{toBe32, toLe32};
 ghost use Rattle.format.specs.Crc.{crc};
 ghost use Rattle.commit_lay.specs.Laid.{laid, putOf, putsOf, Part, bodyOf, inBufferOf};
+use format::types::REMOVAL;
 
 // Where the next store goes, and how many may still be made.
 pub struct Run {
@@ -80,7 +81,7 @@ pub fn in_buffer(dat: &[u8], off: u32, len: u32) -> bool
     ensures { λ r. ⌜ r ≡ inBufferOf (now (dat .entry)) off len ⌝ }
 {
     let end = (off as usize) + (len as usize);
-    (len == 0x3ff) | (end <= dat.len())
+    (len == REMOVAL) | (end <= dat.len())
 }
 
 fn least(a: usize, b: usize) -> usize
@@ -93,7 +94,7 @@ fn least(a: usize, b: usize) -> usize
 fn body(dat: &[u8], off: u32, len: u32) -> Span
     ensures { λ r. ⌜ Part (now (dat .entry)) off len r ⌝ }
 {
-    if len == 0x3ff {
+    if len == REMOVAL {
         return Span { from: 0, to: 0 };
     }
     let n = dat.len();

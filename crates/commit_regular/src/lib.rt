@@ -1,5 +1,6 @@
-// Whether the log of a block is regular: one walk over the block, the rules run against the count that the entries leave. What is not committed
-// does not count.
+// Whether the log of a block is regular: one walk over the block, the rules run against the count that the entries
+// leave. What is not committed does not count. `log_regular` has a `requires` and is for the crates of this repository,
+// which have fetched from the block: littlefs has no such call, and none of ours to C is made of it alone.
 ghost use mathlib.Core.Path.{_≡_};
 ghost use Prim.Native.Nat.{_≤_};
 ghost use lib.ListN.{length};
@@ -10,6 +11,7 @@ ghost use Rattle.fetch_walk.specs.State.{from};
 use commit_rules::Ruled;
 use fetch_walk::cursor::Cursor;
 use fetch_walk::cursor::Seen;
+use format::types::LFS_ATTR_MAX;
 
 // The count behind what was met, whether all of it passed, and whether all up to the last check did.
 pub struct Passing {
@@ -62,7 +64,7 @@ impl Passing {
     fn check(self, size: u32) -> Self
         ensures { λ r. ⌜ r ≡ checking size self ⌝ }
     {
-        let good = self.good & ((4 <= size) & (size <= 1022));
+        let good = self.good & ((4 <= size) & (size <= LFS_ATTR_MAX));
         Passing {
             count: self.count,
             good,
@@ -72,7 +74,7 @@ impl Passing {
 }
 
 // Whether the committed log of a block is regular.
-pub fn lfs_dir_regular(b: &[u8]) -> bool
+pub fn log_regular(b: &[u8]) -> bool
     requires { ⌜ 4 ≤ length (now b) ⌝ }
     ensures { λ r. ⌜ r ≡ Regular (log (now (b .entry))) ⌝ }
 {

@@ -11,6 +11,8 @@ ghost use Rattle.commit_room.specs.Tests.{Prog, meets};
 const CHECK_LENGTH: usize = 8;
 // "a check tag 0x500, id 1,023", of size 0.
 const LFS_CHECK_TAG: u32 = 0x500f_fc00;
+// Four bytes of erased room, read as the checksum behind a check tag that was cut short.
+const ERASED: u32 = 0xffff_ffff;
 
 // Where a commit ends whose check tag stands at `at`: the next multiple of the program size behind tag and checksum.
 pub fn rounded_end(prog: u32, at: usize) -> usize
@@ -64,7 +66,7 @@ pub fn coincides(sum: u32, word: u32) -> bool
     let one = [tag[0], 0xff, 0xff, 0xff];
     let two = [tag[0], tag[1], 0xff, 0xff];
     let three = [tag[0], tag[1], tag[2], 0xff];
-    (crc::lfs_crc(sum, &one) == 0xffff_ffff)
-        | (crc::lfs_crc(sum, &two) == 0xffff_ffff)
-        | (crc::lfs_crc(sum, &three) == 0xffff_ffff)
+    (crc::lfs_crc(sum, &one) == ERASED)
+        | (crc::lfs_crc(sum, &two) == ERASED)
+        | (crc::lfs_crc(sum, &three) == ERASED)
 }

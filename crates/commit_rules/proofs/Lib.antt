@@ -1,2 +1,3 @@
 -- Laws of the rules.
+pub mod Arms
 pub mod Passed

@@ -1,12 +1,19 @@
 -- The count behind an entry that passes its rule fits a word, and the answer by cases. Assumes nothing.
 use mathlib.Core.Path.{_≡_, refl, ap}
 use mathlib.Core.Bool.{Bool, true, false, _&&_}
+use mathlib.Core.List.{[], _∷_}
+use Prim.{tt}
 use Prim.Native.Nat.{ℕ, _^_, _<_}
 use native.Mathlib.Omega.{arith}
 use lib.Dec.{leb, eqb}
+use types.Run.{OneOf, miss}
+use denote.Enum.Declared.{tagOf}
 use borrow.Author.Tests.{leb-true}
 use Rattle.format.specs.Regular.{Rule, ruleOf, ruleHolds, countAfter, create, delete, name, inlined, eight, attribute, tail, move, forward, bad}
-use Rattle.commit_rules.specs.Rules.{countedBy}
+use Rattle.commit_rules.specs.Rules.{ruleAs, countedBy}
+use Rattle.commit_rules.specs.declared.Rule as declared
+use Rattle.commit_rules.specs.declared.Rule.the-variants as told
+use Rattle.commit_rules.proofs.Rule.{the-type}
 use Rattle.commit_rules.specs.declared.Ruled.the-variants as ruled
 
 both : (a b : Bool) → a && b ≡ true → (a ≡ true) × (b ≡ true)
@@ -37,3 +44,18 @@ module _ (logged : Bool) (kind c id size : ℕ) (R : Rule) (is : R ≡ ruleOf lo
   pub fails : x ≡ false → ruled.Bad ≡ countedBy logged kind c id size
   unfolding countedBy
   fails h = let t : ruleHolds (ruleOf logged kind) c id size ≡ false = rw (← is, ← tested) h in rw t
+
+-- a rule that is told by a `_`, behind create and delete: it leaves the count
+pub count-stays : (R : declared.Rule) (c : ℕ) → OneOf (2 ∷ 3 ∷ 4 ∷ 5 ∷ 6 ∷ 7 ∷ 8 ∷ 9 ∷ []) (tagOf the-type R)
+    → c ≡ countAfter (ruleAs R) c
+unfolding countAfter
+count-stays told.Create c h = absurd (miss (2 ∷ 3 ∷ 4 ∷ 5 ∷ 6 ∷ 7 ∷ 8 ∷ 9 ∷ []) 0 tt h)
+count-stays told.Delete c h = absurd (miss (2 ∷ 3 ∷ 4 ∷ 5 ∷ 6 ∷ 7 ∷ 8 ∷ 9 ∷ []) 1 tt h)
+count-stays told.Name c h = refl
+count-stays told.Inlined c h = refl
+count-stays told.Eight c h = refl
+count-stays told.Attribute c h = refl
+count-stays told.Tail c h = refl
+count-stays told.Move c h = refl
+count-stays told.Forward c h = refl
+count-stays told.Bad c h = refl

@@ -3,32 +3,7 @@ ghost use mathlib.Core.Path.{_≡_};
 ghost use Prim.Native.Nat.{_^_, _<_};
 ghost use Rattle.format.specs.Regular.{ruleOf, ruleHolds, countAfter};
 ghost use Rattle.commit_rules.specs.Rules.{ruleAs, countedBy};
-
-const LFS_TYPE_REG: u16 = 0x001;
-
-const LFS_TYPE_DIR: u16 = 0x002;
-
-const LFS_TYPE_SUPERBLOCK: u16 = 0x0ff;
-
-const LFS_TYPE_DIRSTRUCT: u16 = 0x200;
-
-const LFS_TYPE_INLINESTRUCT: u16 = 0x201;
-
-const LFS_TYPE_CTZSTRUCT: u16 = 0x202;
-
-const LFS_TYPE_USERATTR: u16 = 0x300;
-
-const LFS_TYPE_CREATE: u16 = 0x401;
-
-const LFS_TYPE_DELETE: u16 = 0x4ff;
-
-const LFS_TYPE_FCRC: u16 = 0x5ff;
-
-const LFS_TYPE_SOFTTAIL: u16 = 0x600;
-
-const LFS_TYPE_HARDTAIL: u16 = 0x601;
-
-const LFS_TYPE_MOVESTATE: u16 = 0x7ff;
+use format::types::*;
 
 // Which rule a type falls under.
 pub enum Rule {
@@ -54,45 +29,19 @@ pub enum Ruled {
 fn rule_of(logged: bool, kind: u16) -> Rule
     ensures { λ r. ⌜ ruleAs r ≡ ruleOf logged kind ⌝ }
 {
-    let create = kind == LFS_TYPE_CREATE;
-    let delete = kind == LFS_TYPE_DELETE;
-    let name = (kind == LFS_TYPE_REG)
-        | (kind == LFS_TYPE_DIR)
-        | (logged & (kind == LFS_TYPE_SUPERBLOCK));
-    let inlined = kind == LFS_TYPE_INLINESTRUCT;
-    let eight = (kind == LFS_TYPE_DIRSTRUCT) | (kind == LFS_TYPE_CTZSTRUCT);
-    let attribute = (LFS_TYPE_USERATTR <= kind) & (kind < LFS_TYPE_USERATTR + 0x100);
-    let tail = (kind == LFS_TYPE_SOFTTAIL) | (kind == LFS_TYPE_HARDTAIL);
-    let state = kind == LFS_TYPE_MOVESTATE;
-    let forward = logged & (kind == LFS_TYPE_FCRC);
-    if create {
-        return Rule::Create;
+    match kind {
+        LFS_TYPE_CREATE => Rule::Create,
+        LFS_TYPE_DELETE => Rule::Delete,
+        LFS_TYPE_REG | LFS_TYPE_DIR => Rule::Name,
+        LFS_TYPE_SUPERBLOCK => { if logged { Rule::Name } else { Rule::Bad } }
+        LFS_TYPE_INLINESTRUCT => Rule::Inlined,
+        LFS_TYPE_DIRSTRUCT | LFS_TYPE_CTZSTRUCT => Rule::Eight,
+        LFS_TYPE_USERATTR..=LAST_USERATTR => Rule::Attribute,
+        LFS_TYPE_SOFTTAIL | LFS_TYPE_HARDTAIL => Rule::Tail,
+        LFS_TYPE_MOVESTATE => Rule::Move,
+        LFS_TYPE_FCRC => { if logged { Rule::Forward } else { Rule::Bad } }
+        _ => Rule::Bad,
     }
-    if delete {
-        return Rule::Delete;
-    }
-    if name {
-        return Rule::Name;
-    }
-    if inlined {
-        return Rule::Inlined;
-    }
-    if eight {
-        return Rule::Eight;
-    }
-    if attribute {
-        return Rule::Attribute;
-    }
-    if tail {
-        return Rule::Tail;
-    }
-    if state {
-        return Rule::Move;
-    }
-    if forward {
-        return Rule::Forward;
-    }
-    Rule::Bad
 }
 
 // Whether an entry passes its rule at a count.
@@ -102,13 +51,13 @@ fn rule_holds(rule: Rule, count: u32, id: u32, size: u32) -> bool
     match rule {
         Rule::Create => (id <= count) & (count <= 1022) & (size == 0),
         Rule::Delete => (id < count) & (size == 0),
-        Rule::Name => (id < count) & ((1 <= size) & (size <= 1022)),
-        Rule::Inlined => (id < count) & (size <= 1022),
+        Rule::Name => (id < count) & ((1 <= size) & (size <= LFS_ATTR_MAX)),
+        Rule::Inlined => (id < count) & (size <= LFS_ATTR_MAX),
         Rule::Eight => (id < count) & (size == 8),
-        Rule::Attribute => (id < count) & (size <= 0x3ff),
-        Rule::Tail => (id == 1023) & (size == 8),
-        Rule::Move => (id == 1023) & (size == 12),
-        Rule::Forward => (id == 1023) & (size == 8),
+        Rule::Attribute => (id < count) & (size <= REMOVAL),
+        Rule::Tail => (id == NO_SLOT) & (size == 8),
+        Rule::Move => (id == NO_SLOT) & (size == 12),
+        Rule::Forward => (id == NO_SLOT) & (size == 8),
         Rule::Bad => false,
     }
 }
@@ -121,14 +70,7 @@ fn count_after(rule: Rule, count: u32) -> u32
     match rule {
         Rule::Create => count + 1,
         Rule::Delete => { if count == 0 { 0 } else { count - 1 } }
-        Rule::Name => count,
-        Rule::Inlined => count,
-        Rule::Eight => count,
-        Rule::Attribute => count,
-        Rule::Tail => count,
-        Rule::Move => count,
-        Rule::Forward => count,
-        Rule::Bad => count,
+        _ => count,
     }
 }
 

@@ -21,7 +21,7 @@ use Rattle.commit_steps.specs.State.{state, refusedState, judgingFrom, s
 use Rattle.commit_steps.specs.declared.State.{State}
 use Rattle.commit_steps.specs.declared.Phase.the-variants.{Judge}
 
--- ---- `start`: x is what `lfs_dir_regular` answers
+-- ---- `start`: x is what `log_regular` answers
 module _ (second : Bool) (b : List ℕ) (m : LfsMdir) (x : Bool) (is : x ≡ Regular (log b)) where
   pub starts-irregular : (s : State) → not x ≡ true → s ≡ refusedState Irregular → s ≡ startedOf second b m
   unfolding startedOf

@@ -16,6 +16,8 @@ use format::Geometry;
 use format::LfsMdir;
 use format::Refusal;
 use format::Stored;
+use format::types::CRC_START;
+use format::types::UNLIMITED;
 
 // "Lookup buffer and entry data at most 65,536 bytes each; at most 8,192 entries"
 const MOST_DATA: usize = 65_536;
@@ -100,7 +102,7 @@ fn start(b: &[u8], second: bool, m: LfsMdir) -> State
     requires { ⌜ 4 ≤ length (now b) ⌝ }
     ensures { λ r. ⌜ r ≡ startedOf second (now (b .entry)) m ⌝ }
 {
-    if !commit_regular::lfs_dir_regular(b) {
+    if !commit_regular::log_regular(b) {
         return refused(Refusal::Irregular);
     }
     let judging = Judging {
@@ -110,7 +112,7 @@ fn start(b: &[u8], second: bool, m: LfsMdir) -> State
         count: m.count as u32,
         size: 0,
         prev: m.etag,
-        sum: 0xffff_ffff,
+        sum: CRC_START,
     };
     State {
         second,
@@ -288,7 +290,7 @@ fn lay_check(b: &mut [u8], l: Laying) -> Laying
     }
 }
 
-// "An accepted call answers what fetch gives on the finished pair from the same seed." No state that is sealed still judges.
+// "An accepted call answers what fetch gives on the finished pair from the same seed."
 pub fn answer(
     st: State,
     g: Geometry,
@@ -304,6 +306,7 @@ pub fn answer(
     let phase = st.phase;
     match phase {
         Phase::Refused(r) => Committed::Refused(r),
+        // never: `decide` leaves no state that judges, and neither `step` nor `seal` makes one that does not
         Phase::Judge(_) => Committed::Refused(Refusal::Invalid),
         Phase::Lay(_) => match lfs_dir_fetch(g, b0, b1, n0, n1, block_count, seed) {
             Fetched::Found(m, s) => Committed::Done(m, s),
@@ -312,11 +315,11 @@ pub fn answer(
     }
 }
 
-// As many stores as a commit may have.
+// As many stores as a commit may have. A function, for the walks over `commit` to cite.
 pub fn unlimited() -> u32
     ensures { λ r. ⌜ r ≡ unlimited ⌝ }
 {
-    0xffff_ffff
+    UNLIMITED
 }
 
 // "the number made is the answer": what is left of the limit was not made.
@@ -326,6 +329,7 @@ pub fn made(st: State, stores: u32) -> Stored
     let phase = st.phase;
     match phase {
         Phase::Refused(r) => Stored::Refused(r),
+        // never, as in `answer`
         Phase::Judge(_) => Stored::Refused(Refusal::Invalid),
         Phase::Lay(l) => {
             let left = l.run.left;

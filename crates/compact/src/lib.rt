@@ -7,6 +7,7 @@ use format::Committed;
 use format::Fetched;
 use format::Geometry;
 use format::Stored;
+use format::types::UNLIMITED;
 
 // "exactly the first n of demand 3's list are made (all, if n is larger) and the number made is the answer": the erase is the first, then single
 // bytes rise. `CompactStoresLeaves` has demand 3 of what stands in the images now: the finished pair or the old one.
@@ -52,7 +53,7 @@ pub fn lfs_dir_compact(
     ensures { λ _. ⌜ CompactLeaves g (now (b0 .entry)) (now (b1 .entry)) n0 n1 «block_count» seed
         (now (b0 .exit)) (now (b1 .exit)) ⌝ }
 {
-    match lfs_dir_compact_stores(g, b0, b1, n0, n1, block_count, seed, 0xffff_ffff) {
+    match lfs_dir_compact_stores(g, b0, b1, n0, n1, block_count, seed, UNLIMITED) {
         Stored::Refused(r) => Committed::Refused(r),
         Stored::Made(_) => match fetch::lfs_dir_fetch(g, b0, b1, n0, n1, block_count, seed) {
             Fetched::Found(dir, read) => Committed::Done(dir, read),

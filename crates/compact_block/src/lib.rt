@@ -15,6 +15,8 @@ use compact_entries::Emit;
 use format::LfsMdir;
 use format::Refusal;
 use format::Stored;
+use format::types::CRC_START;
+use format::types::FIRST_PREV;
 
 // "erases the block .. to 0xff": one store.
 fn erase(b: &mut [u8])
@@ -32,7 +34,7 @@ fn sum_rev(rev: u32) -> u32
     ensures { λ r. ⌜ r ≡ crc allOnes (toLe32 rev) ⌝ }
 {
     let bytes = word::le_bytes(rev);
-    crc::lfs_crc(0xffff_ffff, &bytes)
+    crc::lfs_crc(CRC_START, &bytes)
 }
 
 // Where the entries begin: behind the revision, "The previous tag starts at 0xffffffff".
@@ -43,7 +45,7 @@ fn begin(rev: u32, run: Run) -> Emit
     Emit {
         run,
         end: 4,
-        prev: 0xffff_ffff,
+        prev: FIRST_PREV,
         sum,
     }
 }
@@ -74,7 +76,7 @@ pub fn renew(prog: u32, old: &[u8], new: &mut [u8], dir: LfsMdir, stores: u32) -
     ensures { λ r. ⌜ r ≡ compactMade stores (compactable prog false (now (old .entry)) (log (now (old .entry)))) ⌝ }
     ensures { λ _. ⌜ now (new .exit) ≡ renewedTo stores (now (new .entry)) (compactable prog false (now (old .entry)) (log (now (old .entry)))) ⌝ }
 {
-    if !commit_regular::lfs_dir_regular(old) {
+    if !commit_regular::log_regular(old) {
         return Stored::Refused(Refusal::Irregular);
     }
     let rev = std::num::wrapping_add_u32(dir.rev, 1);

@@ -18,16 +18,7 @@ ghost use Rattle.compact_entries.specs.Emitted.{standing, emitted, emits
 use commit_lay::Run;
 use format::LfsMdir;
 use format::LfsPair;
-
-const LFS_TYPE_CREATE: u32 = 0x401;
-
-const LFS_TYPE_SOFTTAIL: u32 = 0x600;
-
-const LFS_TYPE_HARDTAIL: u32 = 0x601;
-
-const LFS_BLOCK_NULL: u32 = 0xffff_ffff;
-// The id of what belongs to no slot.
-const NO_SLOT: u32 = 0x3ff;
+use format::types::*;
 
 // Where the writing stands: the stores, the end of what is written, the previous tag and the checksum.
 pub struct Emit {
@@ -75,7 +66,14 @@ fn slot(old: &[u8], new: &mut [u8], e: Emit, id: u32, seats: &[u64; 258]) -> Emi
     requires { ⌜ SlotSeated (now old) e id (now seats) ⌝ }
     ensures { λ r. ⌜ standing r (now (new .exit)) ≡ emits (standing e (now (new .entry))) (createItem id ∷ slotItems classes 0 id (slotIn (now (old .entry)) (now (seats .entry)))) ⌝ }
 {
-    let mut w = entry(new, e, tag::lfs_mktag(LFS_TYPE_CREATE, id, 0), old, 0, 0);
+    let mut w = entry(
+        new,
+        e,
+        tag::lfs_mktag(LFS_TYPE_CREATE as u32, id, 0),
+        old,
+        0,
+        0,
+    );
     let mut class = 0;
     while class < compact_slot::CLASSES {
         w = class_entry(old, new, w, id, seats[class]);
@@ -100,7 +98,7 @@ fn slots(old: &[u8], new: &mut [u8], e: Emit, end: usize, etag: u32, count: u32)
 }
 
 // "tail 0x600 soft, 0x601 hard"
-fn tail_type(split: bool) -> u32
+fn tail_type(split: bool) -> u16
     ensures { λ r. ⌜ r ≡ cond split typeHardTail typeTail ⌝ }
 {
     if split {
@@ -126,7 +124,7 @@ fn tail(new: &mut [u8], e: Emit, split: bool, pair: LfsPair) -> Emit
     entry(
         new,
         e,
-        tag::lfs_mktag(tail_type(split), NO_SLOT, 8),
+        tag::lfs_mktag(tail_type(split) as u32, NO_SLOT, 8),
         &dat,
         0,
         8,

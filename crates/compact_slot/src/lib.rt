@@ -8,19 +8,8 @@ ghost use Rattle.format.specs.Back.{back};
 ghost use Rattle.theory.specs.Back.BackActs.{seen};
 ghost use Rattle.theory.specs.Lookup.MoveState.{lastMove};
 ghost use Rattle.compact_slot.specs.Seat.{seatOf, loadIn, Inside, seatClass, createdAt, idBefore, noted, Gatherable, Gathered};
+use format::types::*;
 use lookup_back::Back;
-
-const LFS_TYPE_NAME: u16 = 0x000;
-
-const LFS_TYPE_STRUCT: u16 = 0x200;
-
-const LFS_TYPE_USERATTR: u16 = 0x300;
-
-const LFS_TYPE_CREATE: u16 = 0x401;
-
-const LFS_TYPE_DELETE: u16 = 0x4ff;
-
-const LFS_TYPE_MOVESTATE: u16 = 0x7ff;
 
 // A name, a struct, and 256 user attributes.
 pub const CLASSES: usize = 258;

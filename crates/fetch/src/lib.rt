@@ -10,6 +10,7 @@ use format::Geometry;
 use format::LfsMdir;
 use format::LfsPair;
 use format::Refusal;
+use format::types::CRC_START;
 
 // Where the first tag stands, behind the revision: the end of a log with no commit.
 const LOG_START: usize = 4;
@@ -43,7 +44,7 @@ fn erased(prog: u32, b: &[u8], w: Walked) -> bool
         return false;
     }
     let to = off + size;
-    crc::lfs_crc(0xffff_ffff, &b[off..to]) == fcrc.sum
+    crc::lfs_crc(CRC_START, &b[off..to]) == fcrc.sum
 }
 
 // The record of the block n, whose bytes are b; m is the other block's number.

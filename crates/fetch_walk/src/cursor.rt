@@ -7,12 +7,7 @@ ghost use Rattle.format.specs.Tag.{tagLength, tagFlipped};
 ghost use Rattle.format.specs.Kind.{isCheck};
 ghost use Rattle.format.specs.Walk.{readBehind};
 ghost use Rattle.fetch_walk.specs.Next.{startOf, nextOf, tagSeen, checkSeen, afterEntry, CheckFits};
-
-const LFS_TYPE_TAIL: u16 = 0x600;
-
-const LFS_TYPE_CCRC: u16 = 0x500;
-
-const LFS_TYPE_FCRC: u16 = 0x5ff;
+use format::types::*;
 
 // Where the walk stands: the next tag's place, the tag before it, and the checksum so far.
 pub struct Cursor {
@@ -41,8 +36,8 @@ impl Cursor {
     {
         Cursor {
             at: 4,
-            prev: 0xffff_ffff,
-            sum: crc::lfs_crc(0xffff_ffff, &b[0..4]),
+            prev: FIRST_PREV,
+            sum: crc::lfs_crc(CRC_START, &b[0..4]),
         }
     }
 
@@ -102,7 +97,7 @@ fn check_at(b: &[u8], at: usize, tag: u32, sum: u32) -> Seen
         Cursor {
             at: next,
             prev,
-            sum: 0xffff_ffff,
+            sum: CRC_START,
         },
     )
 }

@@ -7,16 +7,7 @@ ghost use Rattle.format.specs.Count.{countSpliced};
 ghost use Rattle.format.specs.Walk.{readBehind};
 ghost use Rattle.fetch_walk.specs.Dir.{emptyDir, named, spliced, tailed, forwarded, entered};
 use format::LfsPair;
-
-const LFS_BLOCK_NULL: u32 = 0xffff_ffff;
-
-const LFS_TYPE_NAME: u16 = 0x000;
-
-const LFS_TYPE_SPLICE: u16 = 0x400;
-
-const LFS_TYPE_TAIL: u16 = 0x600;
-
-const LFS_TYPE_FCRC: u16 = 0x5ff;
+use format::types::*;
 
 // The last forward check: whether one was seen, its length and its checksum.
 pub struct LfsFcrc {

@@ -15,6 +15,7 @@ pub mod dir;
 use cursor::Cursor;
 use cursor::Seen;
 use dir::DirState;
+use format::types::FIRST_PREV;
 
 // What the last commit took: "count, tail, split, end and end tag", and the seed. An end of 4: there is no commit.
 pub struct Taken {
@@ -39,7 +40,7 @@ impl WalkState {
         let taken = Taken {
             dir,
             off: 4,
-            etag: 0xffff_ffff,
+            etag: FIRST_PREV,
             seed,
         };
         WalkState { dir, taken }

@@ -19,6 +19,7 @@ use Rattle.format.specs.Tag.{tagOf}
 use Rattle.format.specs.Commit.{Item, checkTag}
 use Rattle.format.specs.Stores.{entriesLength, coincides, compacting}
 use Rattle.format.specs.Writer.{checkLength, roundedEnd, checkSize, blockAt, isSecond, Images, images, committedAs}
+use Rattle.format.specs.Writer.{unlimited}
 use Rattle.format.specs.declared.Geometry.{Geometry}
 use Rattle.format.specs.declared.LfsPair.{LfsPair}
 use Rattle.format.specs.declared.Refusal.{Refusal}
@@ -115,14 +116,15 @@ compactMade n (compactRefused r) = stored.Refused r
 compactMade n (compactAccepted second rev is size) = stored.Made (min n (compactStores is))
 
 module _ (g : Geometry) (b0 b1 : List ℕ) (n0 n1 count seed : ℕ) where
-  -- the images after n stores; all of them are fewer than 0xffffffff
+  -- the images after n stores: of the call with a limit, and, all stores made, of `lfs_dir_compact`
   unfoldable pub compactImages : ℕ → Images
   compactImages n = compactImagesAfter n b0 b1 (compactVerdict g b0 b1 n0 n1 count seed)
 
   -- `lfs_dir_compact`: "An accepted call answers what fetch gives on the finished pair from the same seed."
   unfoldable pub compactOf : Committed
   compactOf =
-      compactAnswer (fetchOf g (compactImages allOnes .b0) (compactImages allOnes .b1) n0 n1 count seed) (compactVerdict g b0 b1 n0 n1 count seed)
+      compactAnswer (fetchOf g (compactImages unlimited .b0) (compactImages unlimited .b1) n0 n1 count seed)
+      (compactVerdict g b0 b1 n0 n1 count seed)
 
   -- `lfs_dir_compact_stores`
   unfoldable pub compactStoresOf : ℕ → Stored

@@ -128,7 +128,7 @@ imagesAfter n b0 b1 (refused r) = images b0 b1
 imagesAfter n b0 b1 (accepted false is size) = images (storedTo b0 is size n) b1
 imagesAfter n b0 b1 (accepted true is size) = images b0 (storedTo b1 is size n)
 
--- all stores: no commit that is accepted has more than a block has bytes
+-- all stores: no commit or compaction that is accepted has more than a block has bytes, and the erase
 abbrev pub unlimited : ℕ
 unlimited = allOnes
 

@@ -1,5 +1,8 @@
-// The plain types that the calls share: what goes in and what is answered. They hold numbers and no reference, so each goes in and comes
-// back by value. `specs/` says what they mean; `specs/Answer.antt` gives document 01's number and values for each answer.
+// The plain types that the calls share: what goes in and what is answered. They hold numbers and no reference, so each
+// goes in and comes back by value. `specs/` says what they mean; `specs/Answer.antt` gives document 01's number and
+// values for each answer.
+
+pub mod types;
 
 // "Block size 128 to 32,768; program size 4 to 512; block size a multiple of it." Any two numbers may be asked about.
 #[repr(C)]

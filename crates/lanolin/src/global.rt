@@ -56,6 +56,7 @@ pub extern "C" fn lanolin_gstate_hasmovehere(a: &LfsGstate, p0: u32, p1: u32) ->
     flag(gstate::lfs_gstate_hasmovehere(a, p0, p1))
 }
 
+// The only export that alters a state: both are copied, and the first is stored anew.
 #[no_mangle]
 pub extern "C" fn lanolin_gstate_xor(a: &mut LfsGstate, b: &LfsGstate)
     ensures { λ _. ⌜ now (a .exit) ≡ gstateXor (now (a .entry)) (now (b .entry)) ⌝ }

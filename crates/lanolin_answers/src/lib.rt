@@ -137,14 +137,7 @@ fn refused_mdir(r: Refusal) -> LfsMdir
 {
     match r {
         Refusal::TooMany(m, _) => m,
-        Refusal::Invalid => zero_mdir(),
-        Refusal::Corrupt => zero_mdir(),
-        Refusal::NoEntry => zero_mdir(),
-        Refusal::BadEntry(_) => zero_mdir(),
-        Refusal::Irregular => zero_mdir(),
-        Refusal::NoSpace => zero_mdir(),
-        Refusal::Unclean => zero_mdir(),
-        Refusal::Coincidence => zero_mdir(),
+        _ => zero_mdir(),
     }
 }
 
@@ -154,14 +147,7 @@ fn refused_seed(seed: u32, r: Refusal) -> u32
 {
     match r {
         Refusal::TooMany(_, s) => s,
-        Refusal::Invalid => seed,
-        Refusal::Corrupt => seed,
-        Refusal::NoEntry => seed,
-        Refusal::BadEntry(_) => seed,
-        Refusal::Irregular => seed,
-        Refusal::NoSpace => seed,
-        Refusal::Unclean => seed,
-        Refusal::Coincidence => seed,
+        _ => seed,
     }
 }
 
@@ -202,14 +188,7 @@ fn refused_index(r: Refusal) -> u32
 {
     match r {
         Refusal::BadEntry(i) => i,
-        Refusal::Invalid => 0,
-        Refusal::Corrupt => 0,
-        Refusal::NoEntry => 0,
-        Refusal::TooMany(_, _) => 0,
-        Refusal::Irregular => 0,
-        Refusal::NoSpace => 0,
-        Refusal::Unclean => 0,
-        Refusal::Coincidence => 0,
+        _ => 0,
     }
 }
 

@@ -11,19 +11,7 @@ use format::LfsGstate;
 use format::LfsInfo;
 use format::LfsMdir;
 use format::Refusal;
-
-// The id of what belongs to no slot, and here of the root.
-pub const ROOT: u32 = 0x3ff;
-
-const LFS_TYPE_NAME: u32 = 0x000;
-
-const LFS_TYPE_DIR: u8 = 0x02;
-
-const LFS_TYPE_STRUCT: u32 = 0x200;
-
-const LFS_TYPE_INLINESTRUCT: u16 = 0x201;
-
-const LFS_TYPE_CTZSTRUCT: u16 = 0x202;
+use format::types::*;
 
 pub fn refused(r: Refusal) -> Informed
     ensures { λ i. ⌜ i ≡ infoRefused r ⌝ }
@@ -46,7 +34,7 @@ pub fn root() -> Informed
     Informed {
         answer: Altered::Done,
         info: LfsInfo {
-            kind: LFS_TYPE_DIR,
+            kind: LFS_TYPE_DIR as u8,
             size: 0,
             name: name,
         },
@@ -74,8 +62,8 @@ fn named(b: &[u8], dir: LfsMdir, gdisk: LfsGstate, id: u32, t: u32, name: [u8; 2
     ensures { λ r. ⌜ r ≡ infoNamed t name (readAnswer (now (b .entry)) 8 (searched (now (b .entry)) dir gdisk structMask (structKey id))) (readBuffer (now (b .entry)) 8 (searched (now (b .entry)) dir gdisk structMask (structKey id))) ⌝ }
 {
     let mut s = [0u8; 8];
-    let gmask = tag::lfs_mktag(0x700, ROOT, 0);
-    let gtag = tag::lfs_mktag(LFS_TYPE_STRUCT, id, 8);
+    let gmask = tag::lfs_mktag(TYPE1_MASK, NO_SLOT, 0);
+    let gtag = tag::lfs_mktag(LFS_TYPE_STRUCT as u32, id, 8);
     match lookup_search::slice::read(b, dir, gdisk, gmask, gtag, 0, &mut s) {
         Got::Refused(r) => refused(r),
         Got::Found(u) => {
@@ -99,8 +87,8 @@ pub fn read(b: &[u8], dir: LfsMdir, gdisk: LfsGstate, name_max: u32, id: u32) ->
 {
     let mut name = [0u8; 256];
     let size = name_max as usize + 1;
-    let gmask = tag::lfs_mktag(0x780, ROOT, 0);
-    let gtag = tag::lfs_mktag(LFS_TYPE_NAME, id, name_max + 1);
+    let gmask = tag::lfs_mktag(TYPE2_MASK, NO_SLOT, 0);
+    let gtag = tag::lfs_mktag(LFS_TYPE_NAME as u32, id, name_max + 1);
     match lookup_search::slice::read(b, dir, gdisk, gmask, gtag, 0, &mut name[..size]) {
         Got::Refused(r) => refused(r),
         Got::Found(t) => named(b, dir, gdisk, id, t, name),

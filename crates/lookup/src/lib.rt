@@ -11,6 +11,7 @@ use format::LfsGstate;
 use format::LfsMdir;
 use format::LfsPair;
 use format::Refusal;
+use format::types::NO_SLOT;
 
 mod domain;
 mod info;
@@ -101,10 +102,10 @@ pub fn lfs_dir_getinfo(
     ensures { λ r. ⌜ r ≡ getinfoOf g (now (b0 .entry)) (now (b1 .entry)) n0 n1 dir gdisk «name_max» id ⌝ }
 {
     let fits = domain::record_fits(g, b0.len(), b1.len(), n0, n1, dir);
-    if !(fits & (1 <= name_max) & (name_max <= 255) & (id <= info::ROOT)) {
+    if !(fits & (1 <= name_max) & (name_max <= 255) & (id <= NO_SLOT)) {
         return info::refused(Refusal::Invalid);
     }
-    if id == info::ROOT {
+    if id == NO_SLOT {
         return info::root();
     }
     let pair = dir.pair;

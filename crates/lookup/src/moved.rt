@@ -10,9 +10,9 @@ use format::Got;
 use format::LfsGstate;
 use format::LfsMdir;
 use format::LfsPair;
+use format::types::LFS_TYPE_MOVESTATE;
+use format::types::TYPE3_MASK;
 use lookup_search::Hit;
-
-const LFS_TYPE_MOVESTATE: u32 = 0x7ff;
 
 // The three words of a state, little-endian: what the Rust has by a pointer cast and lfs_gstate_fromle32.
 fn gstate_in(d: &[u8]) -> LfsGstate
@@ -54,8 +54,8 @@ pub fn read(b: &[u8], dir: LfsMdir, gdisk: LfsGstate, gstate: LfsGstate) -> GotG
     requires { ⌜ dir .off ≤ length (now b) ⌝ }
     ensures { λ r. ⌜ (r .answer ≡ moveAnswer (now (b .entry)) (searched (now (b .entry)) dir gdisk moveMask moveKey)) × (r .gstate ≡ moveState (now (b .entry)) gstate (searched (now (b .entry)) dir gdisk moveMask moveKey)) ⌝ }
 {
-    let gmask = tag::lfs_mktag(0x7ff, 0, 0);
-    let gtag = tag::lfs_mktag(LFS_TYPE_MOVESTATE, 0, 12);
+    let gmask = tag::lfs_mktag(TYPE3_MASK, 0, 0);
+    let gtag = tag::lfs_mktag(LFS_TYPE_MOVESTATE as u32, 0, 12);
     match lookup_search::newest(b, dir, gdisk, gmask, gtag) {
         Hit::Nothing => GotGstate {
             answer: Altered::Done,

@@ -13,13 +13,11 @@ ghost use Rattle.format.specs.Lookup.{hasIds, searched};
 ghost use Rattle.lookup_search.specs.Hit.{foundAs, Inside};
 use format::LfsGstate;
 use format::LfsMdir;
+use format::types::LFS_TYPE_CREATE;
+use format::types::LFS_TYPE_SPLICE;
 use lookup_back::Back;
 
 pub mod slice;
-
-const LFS_TYPE_SPLICE: u16 = 0x400;
-
-const LFS_TYPE_CREATE: u32 = 0x401;
 
 // What was found: the tag, where it stands, and the difference there.
 pub enum Hit {
@@ -40,7 +38,7 @@ fn splices(ids: bool, tag: u32, key: u32) -> bool
 fn create_at(key: u32) -> u32
     ensures { λ r. ⌜ r ≡ createAt key ⌝ }
 {
-    tag::lfs_mktag(LFS_TYPE_CREATE, tag::lfs_tag_id(key) as u32, 0)
+    tag::lfs_mktag(LFS_TYPE_CREATE as u32, tag::lfs_tag_id(key) as u32, 0)
 }
 
 // A tag's splice as ids, a word that wraps: counted from the lowest splice, and the 128 ids of that taken away.

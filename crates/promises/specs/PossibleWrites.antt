@@ -142,7 +142,7 @@ module _ (g : Geometry) (b0 b1 : List ℕ) (n0 n1 count seed : ℕ) where
   pub compact-possible : CommittedOr CompactRefuses (compactOf g b0 b1 n0 n1 count seed)
   unfolding compactOf
   compact-possible =
-      let after : Images = compactImages g b0 b1 n0 n1 count seed allOnes in
+      let after : Images = compactImages g b0 b1 n0 n1 count seed unlimited in
       compact-answer (fetchOf g (after .b0) (after .b1) n0 n1 count seed) (compactVerdict g b0 b1 n0 n1 count seed)
       (fetch-possible g (after .b0) (after .b1) n0 n1 count seed) compact-verdict-possible
 

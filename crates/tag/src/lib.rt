@@ -4,8 +4,8 @@ ghost use mathlib.Core.Path.{_≡_};
 ghost use Prim.Native.Nat.{_^_, _<_};
 ghost use Rattle.format.specs.Tag.{tagValid, tagType1, tagType2, tagType3, tagChunk, tagSplice, tagId, tagSize, tagDelete, tagLength, mkTag, mkTagIf};
 ghost use Rattle.tag.specs.Splice.{fromLowest};
-
-const LFS_FROM_NOOP: u32 = 0x000;
+use format::types::LFS_FROM_NOOP;
+use format::types::REMOVAL;
 
 // Per lfs.c LFS_MKTAG: any three words, nothing masked.
 pub fn lfs_mktag(type_: u32, id: u32, size: u32) -> u32
@@ -21,7 +21,7 @@ pub fn lfs_mktag_if(cond: bool, type_: u32, id: u32, size: u32) -> u32
     if cond {
         lfs_mktag(type_, id, size)
     } else {
-        lfs_mktag(LFS_FROM_NOOP, 0, 0)
+        lfs_mktag(LFS_FROM_NOOP as u32, 0, 0)
     }
 }
 
@@ -36,7 +36,7 @@ pub fn lfs_tag_isvalid(tag: u32) -> bool
 pub fn lfs_tag_isdelete(tag: u32) -> bool
     ensures { λ r. ⌜ r ≡ tagDelete tag ⌝ }
 {
-    lfs_tag_size(tag) == 0x3ff
+    lfs_tag_size(tag) == REMOVAL
 }
 
 // Per lfs.c lfs_tag_type1.
@@ -105,5 +105,5 @@ pub fn lfs_tag_dsize(tag: u32) -> u32
     ensures { λ r. ⌜ r ≡ tagLength tag ⌝ }
 {
     let size = lfs_tag_size(tag);
-    if size == 0x3ff { 4 } else { 4 + size }
+    if size == REMOVAL { 4 } else { 4 + size }
 }

@@ -15,14 +15,8 @@ ghost use Rattle.text_audit.specs.Audited.{Told, Few, SlotAudited, Slots
 use format::Fetched;
 use format::LfsMdir;
 use format::Refusal;
+use format::types::*;
 
-const LFS_TYPE_DIR: u32 = 0x002;
-
-const LFS_TYPE_SUPERBLOCK: u32 = 0x0ff;
-
-const LFS_TYPE_INLINESTRUCT: u32 = 0x201;
-
-const LFS_TYPE_CTZSTRUCT: u32 = 0x202;
 // The class of the deadline, the user attribute 0x74: a name and a struct come before.
 const DEADLINE: usize = 2 + 0x74;
 
@@ -153,7 +147,7 @@ fn block_audit(out: &mut [u8], b: &[u8], m: LfsMdir) -> u32
     requires { ⌜ Listable (now b) m ⌝ }
     ensures { λ r. ⌜ text r (now (out .exit)) ≡ putsOf (text 0 (now (out .entry))) (blockAudit m (now (b .entry))) ⌝ }
 {
-    if !commit_regular::lfs_dir_regular(b) {
+    if !commit_regular::log_regular(b) {
         return text_listing::refused(out, 0, Refusal::Irregular);
     }
     let a = slot_audits(out, b, m.off as usize, m.etag, m.count as u32);

@@ -15,15 +15,15 @@ use format::Geometry;
 use format::LfsMdir;
 use format::LfsPair;
 use format::Refusal;
+use format::types::LFS_BLOCK_NULL;
 
-const LFS_BLOCK_NULL: u32 = 0xffff_ffff;
 // The class of the first user attribute: a name and a struct come before.
 const ATTRIBUTES: usize = 2;
 
 // What stands at a seat: nothing, or an entry's type and where its data begin and end in the block.
 pub struct Held {
     pub held: bool,
-    pub kind: u32,
+    pub kind: u16,
     pub from: usize,
     pub to: usize,
 }
@@ -48,7 +48,7 @@ pub fn part(seat: u64) -> Held
     let from = (seat % 0x1_0000) as usize + 4;
     Held {
         held: true,
-        kind: tag::lfs_tag_type3(found) as u32,
+        kind: tag::lfs_tag_type3(found),
         from,
         to: from + tag::lfs_tag_size(found) as usize,
     }
@@ -66,7 +66,7 @@ fn name_fields(out: &mut [u8], at: u32, b: &[u8], seat: u64) -> u32
     let from = p.from;
     let to = p.to;
     let n = text::puts(out, at, b" ");
-    let n = text::hex_type(out, n, p.kind);
+    let n = text::hex_type(out, n, p.kind as u32);
     let n = text::puts(out, n, b" ");
     text::name_bytes(out, n, &b[from..to])
 }
@@ -82,7 +82,7 @@ fn struct_fields(out: &mut [u8], at: u32, b: &[u8], seat: u64) -> u32
     }
     let size = (p.to - p.from) as u32;
     let n = text::puts(out, at, b" ");
-    let n = text::hex_type(out, n, p.kind);
+    let n = text::hex_type(out, n, p.kind as u32);
     text::number_line(out, n, b" ", size)
 }
 
@@ -110,7 +110,7 @@ fn attr_line(out: &mut [u8], at: u32, b: &[u8], id: u32, seat: u64) -> u32
     let n = text::puts(out, at, b"attr ");
     let n = text::decimal(out, n, id);
     let n = text::puts(out, n, b" ");
-    let n = text::hex_type(out, n, p.kind);
+    let n = text::hex_type(out, n, p.kind as u32);
     let n = text::puts(out, n, b" ");
     let n = attr_data(out, n, &b[from..to]);
     text::puts(out, n, b"\n")
@@ -235,7 +235,7 @@ fn block_text(out: &mut [u8], b: &[u8], m: LfsMdir) -> u32
     ensures { λ r. ⌜ text r (now (out .exit)) ≡ putsOf (text 0 (now (out .entry))) (blockText m (now (b .entry))) ⌝ }
 {
     let n = record_lines(out, 0, m);
-    if !commit_regular::lfs_dir_regular(b) {
+    if !commit_regular::log_regular(b) {
         return refused(out, n, Refusal::Irregular);
     }
     slot_lines(out, n, b, m.off as usize, m.etag, m.count as u32)
@@ -261,6 +261,10 @@ pub fn fetch_input(input: &[u8]) -> Fetched
     fetch::lfs_dir_fetch(g, &input[0..half], &input[half..], 0, 1, 0, 0)
 }
 
+// The listing of both images, one behind the other, as far as `out` has room. The answer is the length of the whole
+// text, so a caller whose buffer was too short knows how long a one to lend. The images have the numbers 0 and 1, so
+// the first number of the record says which half is listed. No listing reaches 2^32 bytes, where `text`'s count would
+// wrap.
 pub fn lfs_dir_list(input: &[u8], out: &mut [u8]) -> u32
     ensures { λ r. ⌜ r ≡ length (listingOf (now (input .entry))) ⌝ }
     ensures { λ _. ⌜ now (out .exit) ≡ writtenTo (now (out .entry)) (listingOf (now (input .entry))) ⌝ }

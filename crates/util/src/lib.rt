@@ -8,8 +8,7 @@ ghost use Rattle.format.specs.Pair.{pairSwapped, pairNull, pairCmp, pairSync};
 use format::LfsPair;
 use format::Refusal;
 use format::Word;
-
-const LFS_BLOCK_NULL: u32 = 0xffff_ffff;
+use format::types::LFS_BLOCK_NULL;
 
 // Per lfs_util.h lfs_max.
 pub fn lfs_max(a: u32, b: u32) -> u32

@@ -8,28 +8,83 @@ use Rattle.compact_block.proofs.renew.Statement.{statement}
 use Rattle.compact_block.proofs.renew.Tie as tie
 
 returns : tie.Need-returns
-returns c = renew-irregular _ _ _ _ _ (c .before .before .before .before .pre) _ (c .before .lfs-dir-regular .ensures) (c .if1 .taken)
+returns c =
+    renew-irregular _ _ _ _ _ (c .before .before .before .before .pre) _ (c .before .log-regular .ensures)
+    (c .if1 .taken)
 
 entries-requires : tie.Need-entries-requires
-entries-requires c κs = rw (c .begin .ensures) (reads-all _ _ _ _ (c .before .before .before .before .before .before .before .pre .recorded) (sym (c .before .before .before .before .lfs-dir-regular .ensures) ∙ not-false _ (c .before .before .before .if1 .left)))
+entries-requires c κs =
+    rw (c .begin .ensures) (reads-all _ _ _ _ (c .before .before .before .before .before .before .before .pre .recorded)
+    (sym (c .before .before .before .before .log-regular .ensures) ∙ not-false _ (c .before .before .before .if1
+    .left)))
 
 rounded-end-requires : tie.Need-rounded-end-requires
-rounded-end-requires c κs = renew-prog _ _ _ _ 0 (c .before .before .before .before .before .before .before .before .before .before .pre) _ (c .before .before .before .before .before .before .before .lfs-dir-regular .ensures) (c .before .before .before .before .before .before .if1 .left) _ (c .before .before .before .before .before .wrapping-add-u32 .ensures) _ _ (c .before .before .before .begin .ensures) _ (c .before .before .entries .ensures)
+rounded-end-requires c κs =
+    renew-prog _ _ _ _ 0 (c .before .before .before .before .before .before .before .before .before .before .pre) _
+    (c .before .before .before .before .before .before .before .log-regular .ensures)
+    (c .before .before .before .before .before .before .if1 .left) _
+    (c .before .before .before .before .before .wrapping-add-u32 .ensures) _ _
+    (c .before .before .before .begin .ensures) _ (c .before .before .entries .ensures)
 
 returns-2 : tie.Need-returns-2
-returns-2 c = renew-full _ _ _ _ _ (c .before .before .before .before .before .before .before .before .before .before .before .before .pre) _ (c .before .before .before .before .before .before .before .before .before .lfs-dir-regular .ensures) (c .before .before .before .before .before .before .before .before .if1 .left) _ (c .before .before .before .before .before .before .before .wrapping-add-u32 .ensures) _ _ (c .before .before .before .before .before .begin .ensures) _ (c .before .before .before .before .entries .ensures) _ (c .before .rounded-end .ensures) (c .if2 .taken)
+returns-2 c =
+    renew-full _ _ _ _ _
+    (c .before .before .before .before .before .before .before .before .before .before .before .before .pre) _
+    (c .before .before .before .before .before .before .before .before .before .log-regular .ensures)
+    (c .before .before .before .before .before .before .before .before .if1 .left) _
+    (c .before .before .before .before .before .before .before .wrapping-add-u32 .ensures) _ _
+    (c .before .before .before .before .before .begin .ensures) _ (c .before .before .before .before .entries .ensures)
+    _ (c .before .rounded-end .ensures) (c .if2 .taken)
 
 check-tag-requires : tie.Need-check-tag-requires
-check-tag-requires c κs = renew-prog _ _ _ _ 0 (c .before .before .before .before .before .before .before .before .before .before .before .before .pre) _ (c .before .before .before .before .before .before .before .before .before .lfs-dir-regular .ensures) (c .before .before .before .before .before .before .before .before .if1 .left) _ (c .before .before .before .before .before .before .before .wrapping-add-u32 .ensures) _ _ (c .before .before .before .before .before .begin .ensures) _ (c .before .before .before .before .entries .ensures)
+check-tag-requires c κs =
+    renew-prog _ _ _ _ 0
+    (c .before .before .before .before .before .before .before .before .before .before .before .before .pre) _
+    (c .before .before .before .before .before .before .before .before .before .log-regular .ensures)
+    (c .before .before .before .before .before .before .before .before .if1 .left) _
+    (c .before .before .before .before .before .before .before .wrapping-add-u32 .ensures) _ _
+    (c .before .before .before .before .before .begin .ensures) _ (c .before .before .before .before .entries .ensures)
 
 returns-3 : tie.Need-returns-3
-returns-3 c = renew-coincides _ _ _ _ _ (c .before .before .before .before .before .before .before .before .before .before .before .before .before .before .before .before .pre) _ (c .before .before .before .before .before .before .before .before .before .before .before .before .before .lfs-dir-regular .ensures) (c .before .before .before .before .before .before .before .before .before .before .before .before .if1 .left) _ (c .before .before .before .before .before .before .before .before .before .before .before .wrapping-add-u32 .ensures) _ _ (c .before .before .before .before .before .before .before .before .before .begin .ensures) _ (c .before .before .before .before .before .before .before .before .entries .ensures) _ (c .before .before .before .before .before .rounded-end .ensures) (c .before .before .before .before .if2 .left) _ (c .before .before .before .check-tag .ensures) _ (c .before .coincides .ensures) (c .if3 .taken)
+returns-3 c =
+    renew-coincides _ _ _ _ _ (c .before .before .before .before .before .before .before .before .before .before .before
+    .before .before .before .before .before .pre) _ (c .before .before .before .before .before .before .before .before
+    .before .before .before .before .before .log-regular .ensures)
+    (c .before .before .before .before .before .before .before .before .before .before .before .before .if1 .left) _ (c
+    .before .before .before .before .before .before .before .before .before .before .before .wrapping-add-u32 .ensures)
+    _ _ (c .before .before .before .before .before .before .before .before .before .begin .ensures) _
+    (c .before .before .before .before .before .before .before .before .entries .ensures) _
+    (c .before .before .before .before .before .rounded-end .ensures) (c .before .before .before .before .if2 .left) _
+    (c .before .before .before .check-tag .ensures) _ (c .before .coincides .ensures) (c .if3 .taken)
 
 write-requires : tie.Need-write-requires
-write-requires c κs = renew-writes _ _ _ _ 0 (c .before .before .before .before .before .before .before .before .before .before .before .before .before .before .before .before .before .pre) _ (c .before .before .before .before .before .before .before .before .before .before .before .before .before .before .lfs-dir-regular .ensures) (c .before .before .before .before .before .before .before .before .before .before .before .before .before .if1 .left) _ (c .before .before .before .before .before .before .before .before .before .before .before .before .wrapping-add-u32 .ensures) _ _ (c .before .before .before .before .before .before .before .before .before .before .begin .ensures) _ (c .before .before .before .before .before .before .before .before .before .entries .ensures) _ (c .before .before .before .before .before .before .rounded-end .ensures) (c .before .before .before .before .before .if2 .left) _ (c .before .before .before .before .check-tag .ensures) _ (c .before .before .coincides .ensures)
+write-requires c κs =
+    renew-writes _ _ _ _ 0 (c .before .before .before .before .before .before .before .before .before .before .before
+    .before .before .before .before .before .before .pre) _ (c .before .before .before .before .before .before .before
+    .before .before .before .before .before .before .before .log-regular .ensures) (c .before .before .before .before
+    .before .before .before .before .before .before .before .before .before .if1 .left) _ (c .before .before .before
+    .before .before .before .before .before .before .before .before .before .wrapping-add-u32 .ensures) _ _
+    (c .before .before .before .before .before .before .before .before .before .before .begin .ensures) _
+    (c .before .before .before .before .before .before .before .before .before .entries .ensures) _
+    (c .before .before .before .before .before .before .rounded-end .ensures)
+    (c .before .before .before .before .before .if2 .left) _ (c .before .before .before .before .check-tag .ensures) _
+    (c .before .before .coincides .ensures)
 
 returns-4 : tie.Need-returns-4
-returns-4 c = renew-made _ _ _ _ _ (c .before .before .before .before .before .before .before .before .before .before .before .before .before .before .before .before .before .before .before .before .pre) _ (c .before .before .before .before .before .before .before .before .before .before .before .before .before .before .before .before .before .lfs-dir-regular .ensures) (c .before .before .before .before .before .before .before .before .before .before .before .before .before .before .before .before .if1 .left) _ (c .before .before .before .before .before .before .before .before .before .before .before .before .before .before .before .wrapping-add-u32 .ensures) _ _ (c .before .before .before .before .before .before .before .before .before .before .before .before .before .begin .ensures) _ (c .before .before .before .before .before .before .before .before .before .before .before .before .entries .ensures) _ (c .before .before .before .before .before .before .before .before .before .rounded-end .ensures) (c .before .before .before .before .before .before .before .before .if2 .left) _ (c .before .before .before .before .before .before .before .check-tag .ensures) _ (c .before .before .before .before .before .coincides .ensures) (c .before .before .before .before .if3 .left) _ (c .before .before .write .ensures .0) _ (c .before .before .write .ensures .1)
+returns-4 c =
+    renew-made _ _ _ _ _ (c .before .before .before .before .before .before .before .before .before .before .before
+    .before .before .before .before .before .before .before .before .before .pre) _ (c .before .before .before .before
+    .before .before .before .before .before .before .before .before .before .before .before .before .before .log-regular
+    .ensures) (c .before .before .before .before .before .before .before .before .before .before .before .before .before
+    .before .before .before .if1 .left) _ (c .before .before .before .before .before .before .before .before .before
+    .before .before .before .before .before .before .wrapping-add-u32 .ensures) _ _ (c .before .before .before .before
+    .before .before .before .before .before .before .before .before .before .begin .ensures) _ (c .before .before
+    .before .before .before .before .before .before .before .before .before .before .entries .ensures) _
+    (c .before .before .before .before .before .before .before .before .before .rounded-end .ensures)
+    (c .before .before .before .before .before .before .before .before .if2 .left) _
+    (c .before .before .before .before .before .before .before .check-tag .ensures) _
+    (c .before .before .before .before .before .coincides .ensures) (c .before .before .before .before .if3 .left) _
+    (c .before .before .write .ensures .0) _ (c .before .before .write .ensures .1)
 
 pub renew-spec : {M : Type 1} → statement M
 renew-spec =

@@ -36,4 +36,6 @@ returns c = slot-done _ _ _ _ _ (c .loop-test .left) (c .before .loop .inv .3) �
 pub slot-spec : {M : Type 1} → statement M
 slot-spec =
     tie.close
-    (tie.spec Inv-loop μ-loop (λ c κs. search needs) (λ c κs. omega arith) loop-holds (λ c. search needs) (λ c. search needs) class-entry-requires (λ c. omega arith) (λ c. omega arith) loop-again (λ c. search needs) returns)
+    (tie.spec Inv-loop μ-loop (λ c. search needs) (λ c κs. search needs) (λ c κs. omega arith) loop-holds
+    (λ c. search needs) (λ c. search needs) class-entry-requires (λ c. omega arith) (λ c. omega arith) loop-again
+    (λ c. search needs) returns)

@@ -1,12 +1,16 @@
--- `answers::refused_index` meets its contract: each case has the table's value. Assumes nothing.
+-- `answers::refused_index` meets its contract: what the one case holds, and the same with every other. Assumes nothing.
 use mathlib.Core.Path.{sym, ap}
 use borrow.Author.Needs.{needs}
 use Rattle.format.specs.Answer.{refusalIndex}
+use Rattle.lanolin_answers.proofs.Others.{unindexed}
 use Rattle.lanolin_answers.proofs.refused_index.Statement.{statement}
 use Rattle.lanolin_answers.proofs.refused_index.Tie as tie
 
 returns : tie.Need-returns
 returns c = sym (ap refusalIndex (c .before .r .given .1))
 
+returns-2 : tie.Need-returns-2
+returns-2 c = unindexed (c .before .args .r) (c .match .keys2)
+
 pub refused-index-spec : {M : Type 1} → statement M
-refused-index-spec = tie.close (tie.spec (λ c. search needs) (λ c. search needs) (λ c. search needs) (λ c. search needs) (λ c. search needs) (λ c. search needs) (λ c. search needs) (λ c. search needs) (λ c. search needs) returns (λ c. search needs) (λ c. search needs) (λ c. search needs) (λ c. search needs) (λ c. search needs) (λ c. search needs) (λ c. search needs) (λ c. search needs))
+refused-index-spec = tie.close (tie.spec (λ c. search needs) returns returns-2)

@@ -12,4 +12,6 @@ unfolding tagOf
 returns c = c .lfs-mktag .ensures ∙ rw (c .before .lfs-tag-id .ensures) (mkTag-sum 0x401 (tagId (c .before .before .args .key)) 0 (omega arith) (omega arith) (omega arith))
 
 pub create-at-spec : {M : Type 1} → statement M
-create-at-spec = tie.close (tie.spec (λ c κs. search needs) (λ c. search needs) (λ c κs. search needs) returns)
+create-at-spec =
+    tie.close
+    (tie.spec (λ c. search needs) (λ c κs. search needs) (λ c. search needs) (λ c κs. search needs) returns)

@@ -7,4 +7,6 @@ returns : tie.Need-returns
 returns c = rw (c .before .if1 .taken) (c .lfs-mktag .ensures)
 
 pub lfs-mktag-if-spec : {M : Type 1} → statement M
-lfs-mktag-if-spec = tie.close (tie.spec (λ c κs. search needs) (λ c κs. search needs) returns (λ c. search needs))
+lfs-mktag-if-spec =
+    tie.close
+    (tie.spec (λ c κs. search needs) (λ c. search needs) (λ c κs. search needs) returns (λ c. search needs))

@@ -16,4 +16,5 @@ returns-3 c = stands-made (c .before .before .before .before .before .args .seat
 pub part-spec : {M : Type 1} → statement M
 part-spec =
     tie.close
-    (tie.spec returns (λ c. search needs) (λ c κs. search needs) returns-2 (λ c. search needs) (λ c κs. search needs) (λ c. search needs) (λ c κs. search needs) (λ c. search needs) (λ c. search needs) returns-3)
+    (tie.spec returns (λ c. search needs) (λ c κs. search needs) returns-2 (λ c. search needs) (λ c κs. search needs)
+    (λ c κs. search needs) (λ c. search needs) (λ c. search needs) returns-3)

@@ -100,7 +100,7 @@ module _ (g : Geometry) (b0 b1 : List ℕ) (n0 n1 count seed : ℕ) (w : Bool) (
   i n = compactImages g b0 b1 n0 n1 count seed n
 
   abbrev f : Images
-  f = compactImages g b0 b1 n0 n1 count seed allOnes
+  f = compactImages g b0 b1 n0 n1 count seed unlimited
 
   left : (n : ℕ) → (blockAt (not w) (i n .b0) (i n .b1) ≡ compactedTo o rev is size n) × (blockAt w (i n .b0) (i n .b1) ≡ x)
   left n = compaction-written g b0 b1 n0 n1 count seed w rev is size h n
@@ -108,7 +108,7 @@ module _ (g : Geometry) (b0 b1 : List ℕ) (n0 n1 count seed : ℕ) (w : Bool) (
   image-lengths : (n : ℕ) → (length (i n .b0) ≡ length b0) × (length (i n .b1) ≡ length b1)
   image-lengths n = lengths w (i n .b0) (i n .b1) b0 b1 (ap length (left n .1)) (ap length (left n .0) ∙ image-length (min n (compactStores is)))
 
-  all-stores : min allOnes (compactStores is) ≡ compactStores is
+  all-stores : min unlimited (compactStores is) ≡ compactStores is
   all-stores =
       let z = found-sized g b0 b1 n0 n1 count seed (compact-found .0) (compact-found .1) (compact-found .2) in
       min-eq-right (omega (arith, compacts .room, block-length g b0 b1 (not w) z, z .block .1))
@@ -121,8 +121,8 @@ module _ (g : Geometry) (b0 b1 : List ℕ) (n0 n1 count seed : ℕ) (w : Bool) (
 
   finished-block : blockAt (not w) (f .b0) (f .b1) ≡ finished
   finished-block =
-      let n : min allOnes (compactStores is) ≡ suc (compactCheckAt is + checkLength) = all-stores ∙ omega arith in
-      left allOnes .0 ∙ ap (compacting o rev is (checkTag size) rest) n ∙ whole
+      let n : min unlimited (compactStores is) ≡ suc (compactCheckAt is + checkLength) = all-stores ∙ omega arith in
+      left unlimited .0 ∙ ap (compacting o rev is (checkTag size) rest) n ∙ whole
 
   after : (n : ℕ) → AfterCompact w x (le32 x) (log x) is (checkTag size) (compactedTo o rev is size n) finished
   after n = compaction-stopped g b0 b1 n0 n1 count seed w rev is size h (word-fits x bytes) n
@@ -132,7 +132,10 @@ module _ (g : Geometry) (b0 b1 : List ℕ) (n0 n1 count seed : ℕ) (w : Bool) (
     where
       go : (compactedTo o rev is size n ≡ finished) ⊎ (viewAt w x (compactedTo o rev is size n) ≡ at w (le32 x) (log x))
           → ((i n .b0 ≡ f .b0) × (i n .b1 ≡ f .b1)) ⊎ ReadsAs g n0 n1 b0 b1 (i n .b0) (i n .b1)
-      go (inl e) = inl (both-blocks w (i n .b0) (i n .b1) (f .b0) (f .b1) (left n .1 ∙ sym (left allOnes .1)) (left n .0 ∙ e ∙ sym finished-block))
+      go (inl e) =
+          inl
+          (both-blocks w (i n .b0) (i n .b1) (f .b0) (f .b1) (left n .1 ∙ sym (left unlimited .1))
+          (left n .0 ∙ e ∙ sym finished-block))
       go (inr e) =
           inr (reads-as g n0 n1 count seed b0 b1 (i n .b0) (i n .b1) (image-lengths n .0) (image-lengths n .1) (compact-found .0) (compact-found .1) (compact-found .2) (le32 x) (log x) w
           (compacts .answers) (rw (left n .0, left n .1) e) (ap (take (logEnd (log x))) (left n .1)))
@@ -140,7 +143,7 @@ module _ (g : Geometry) (b0 b1 : List ℕ) (n0 n1 count seed : ℕ) (w : Bool) (
   -- ---- the finished pair
   finished-view : viewAt (not w) (blockAt (not w) (f .b0) (f .b1)) (blockAt (not (not w)) (f .b0) (f .b1)) ≡ at (not w) rev finishedLog
   finished-view =
-      rw (not-not w, finished-block, left allOnes .1)
+      rw (not-not w, finished-block, left unlimited .1)
       (sym (turned w x finished) ∙ after 0 .finished ∙ rw (compacts .next))
 
   finished-log : log (blockAt (not w) (f .b0) (f .b1)) ≡ finishedLog
@@ -158,7 +161,7 @@ module _ (g : Geometry) (b0 b1 : List ℕ) (n0 n1 count seed : ℕ) (w : Bool) (
   pub compact-finished : Shows g n0 n1 (f .b0) (f .b1) (machineOf (log x))
   compact-finished =
       let few = few-slots (blockAt (not w) (f .b0) (f .b1)) finishedLog finished-log regular-finished in
-      let L = image-lengths allOnes in
+      let L = image-lengths unlimited in
       let k = refound g n0 n1 count seed b0 b1 (f .b0) (f .b1) (L .0) (L .1) (compact-found .0) (compact-found .1) (compact-found .2) rev finishedLog few (not w) finished-view in
       let p = refound-place g n0 n1 count seed b0 b1 (f .b0) (f .b1) (L .0) (L .1) (compact-found .0) (compact-found .1) (compact-found .2) rev finishedLog (not w) in
       let s = shows g (f .b0) (f .b1) n0 n1 count seed _ _ k (not w) p (rw finished-log regular-finished) in

@@ -18,4 +18,5 @@ returns-2 c = let a = c .before .before .before .before .before .before .before 
 pub read-spec : {M : Type 1} → statement M
 read-spec =
     tie.close
-    (tie.spec (λ c κs. search needs) (λ c κs. search needs) (λ c κs. search needs) (λ c. search needs) (λ c. search needs) xored-at-requires returns returns-2)
+    (tie.spec (λ c κs. search needs) (λ c. search needs) (λ c κs. search needs) (λ c κs. search needs)
+    (λ c. search needs) (λ c. search needs) xored-at-requires returns returns-2)

@@ -1,0 +1,2 @@
+-- Laws of the refusals.
+pub mod Others
