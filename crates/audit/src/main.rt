@@ -1,9 +1,10 @@
-// The audit as a program: both images of a pair on standard input, one behind the other, as the program `list` takes them; the text on standard output.
+// The audit as a program: both images of a pair on standard input, one behind the other, as the program `list` takes
+// them; the text on standard output.
 use libc::STDIN_FILENO;
 
-// The buffer has room for every text. A slot with a line has a create and a deadline, or a create and a struct of one byte or more: eight bytes at
-// least, and its line without the name has at most 24. A byte of a name shows at most four. So a block of 32,768 bytes shows at most 4 * 32,768, and
-// the three lines behind have at most 89 bytes.
+// The buffer has room for every text. A slot with a line has a create and a deadline, or a create and a struct of one
+// byte or more: eight bytes at least, and its line without the name has at most 24. A byte of a name shows at most
+// four. So a block of 32,768 bytes shows at most 4 * 32,768, and the three lines behind have at most 89 bytes.
 fn show(pair: &[u8]) {
     let mut text = [0u8; 131_200];
     let n = text_audit::lfs_dir_audit(pair, &mut text);

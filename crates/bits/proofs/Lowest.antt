@@ -1,7 +1,8 @@
 -- `a & -a` is a's lowest set digit, 2 to the number of its trailing zeros. Assumes nothing.
 use mathlib.Core.Path.{_≡_, refl, sym, ap, ap₂, _∙_}
 use Prim.Native.Nat.{ℕ, zero, suc, _+_, _-_, _*_, _/_, _%_, _^_, _<_, _≤_, min}
-use native.Mathlib.Nat.{mod-lt, le-of-suc-le-suc, not-suc-le-zero, zero-lt-suc, pow-suc, lt-irrefl, lt-of-le-of-lt, le-of-eq, le-trans, lt-of-not-le}
+use native.Mathlib.Nat.{mod-lt, le-of-suc-le-suc, not-suc-le-zero, zero-lt-suc, pow-suc, lt-irrefl, lt-of-le-of-lt}
+use native.Mathlib.Nat.{le-of-eq, le-trans, lt-of-not-le}
 use native.Mathlib.Omega.{arith}
 use lib.Arith.{lt-one}
 use lib.Pow.{pow-pos, pow-mono}
@@ -18,14 +19,17 @@ apart (suc k) b h =
     let hi : (2 ^ suc k - 1 - b) / 2 ≡ 2 ^ k - 1 - b / 2 = omega arith in
     let lo : (2 ^ suc k - 1 - b) % 2 ≡ 1 - b % 2 = omega arith in
     let z : min (b % 2) (1 - b % 2) ≡ 0 = omega arith in
-    and-step b (2 ^ suc k - 1 - b) ∙ ap₂ (λ (x y : ℕ). bitAnd (b / 2) x * 2 + min (b % 2) y) hi lo ∙ ap₂ (λ (x y : ℕ). x * 2 + y) (apart k (b / 2) (omega arith)) z
+    and-step b (2 ^ suc k - 1 - b) ∙ ap₂ (λ (x y : ℕ). bitAnd (b / 2) x * 2 + min (b % 2) y) hi lo
+    ∙ ap₂ (λ (x y : ℕ). x * 2 + y) (apart k (b / 2) (omega arith)) z
 
 pub lowest : (k a : ℕ) → 0 < a → a < 2 ^ k → bitAnd a (2 ^ k - a) ≡ 2 ^ trailingZeros k a
 unfolding trailingZeros
 lowest zero a p h = absurd (lt-irrefl 0 (omega arith))
 lowest (suc k) a p h = go (lowest k (a / 2)) (a % 2) refl (mod-lt a (zero-lt-suc 1)) (pow-suc 2 k)
   where
-    go : (0 < a / 2 → a / 2 < 2 ^ k → bitAnd (a / 2) (2 ^ k - a / 2) ≡ 2 ^ trailingZeros k (a / 2)) → (d : ℕ) → a % 2 ≡ d → d < 2 → 2 ^ suc k ≡ 2 ^ k * 2 → bitAnd a (2 ^ suc k - a) ≡ 2 ^ under (a % 2) (trailingZeros k (a / 2))
+    go : (0 < a / 2 → a / 2 < 2 ^ k → bitAnd (a / 2) (2 ^ k - a / 2) ≡ 2 ^ trailingZeros k (a / 2)) → (d : ℕ)
+        → a % 2 ≡ d → d < 2 → 2 ^ suc k ≡ 2 ^ k * 2
+        → bitAnd a (2 ^ suc k - a) ≡ 2 ^ under (a % 2) (trailingZeros k (a / 2))
     go rest zero f l e =
         let hi : (2 ^ suc k - a) / 2 ≡ 2 ^ k - a / 2 = omega arith in
         let lo : (2 ^ suc k - a) % 2 ≡ 0 = omega arith in
@@ -52,9 +56,11 @@ ctz-is (suc n) m h hm e =
     let f : m ≡ 2 ^ 32 - a = omega arith in
     let low : bitAnd a m ≡ 2 ^ t = ap (bitAnd a) f ∙ lowest 32 a (zero-lt-suc n) h in
     let b : 2 ^ t < 2 ^ 32 = lt-of-le-of-lt (le-trans (le-of-eq (sym low)) (and-le-l a m)) h in
-    let l : t < 32 = lt-of-not-le (λ (g : 32 ≤ t). lt-irrefl (2 ^ 32) (lt-of-le-of-lt (pow-mono {i = 32} {j = t} g) b)) in
+    let l : t < 32 = lt-of-not-le (λ (g : 32 ≤ t). lt-irrefl (2 ^ 32)
+    (lt-of-le-of-lt (pow-mono {i = 32} {j = t} g) b)) in
     let q : t + 1 ≡ npw2 ((bitAnd a m + 1) % 2 ^ 32) =
-    top-npw2 ((bitAnd a m + 1) % 2 ^ 32) (2 ^ t) t (omega (arith, low, b, pow-pos t)) l (record { low = native.Mathlib.Nat.le-refl (2 ^ t); high = omega (arith, pow-pos t) }) in
+    top-npw2 ((bitAnd a m + 1) % 2 ^ 32) (2 ^ t) t (omega (arith, low, b, pow-pos t)) l
+    (record { low = native.Mathlib.Nat.le-refl (2 ^ t); high = omega (arith, pow-pos t) }) in
     omega (arith, q)
 
 pub npw2-pos : (a : ℕ) → 1 ≤ npw2 a

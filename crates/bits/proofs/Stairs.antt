@@ -2,7 +2,8 @@
 use mathlib.Core.Path.{_≡_, ap, _∙_}
 use mathlib.Core.Logic.{⊎-elim}
 use Prim.Native.Nat.{ℕ, suc, _+_, _-_, _*_, _/_, _%_, _^_, _<_, _≤_}
-use native.Mathlib.Nat.{le-trans, le-of-eq, mul-comm, one-mul, div-one, le-div-iff-mul-le, div-lt-iff-lt-mul, pow-suc, zero-div, eq-zero-or-pos}
+use native.Mathlib.Nat.{le-trans, le-of-eq, mul-comm, one-mul, div-one, le-div-iff-mul-le, div-lt-iff-lt-mul, pow-suc}
+use native.Mathlib.Nat.{zero-div, eq-zero-or-pos}
 use native.Mathlib.Omega.{arith}
 use lib.Pow.{pow-pos, pow-add, shr-lt, suc-ones, lt-of-le-ones}
 use lib.Count.{leadingZeros, leading-unique, leading-of-zero}
@@ -26,18 +27,27 @@ pub step : (k w s : ℕ) → Dropped k w s → 0 < w → w < 2 ^ (k + k) → (0 
 step k w s d p h = ⊎-elim far near (d .way)
   where
     far : (2 ^ k - 1 < w) × (s ≡ k) → (0 < w / 2 ^ s) × (w / 2 ^ s < 2 ^ k)
-    far q = rw (q .1) (le-div-iff-mul-le (pow-pos k) .1 (le-trans (le-of-eq (one-mul (2 ^ k))) (omega (arith, suc-ones k, q .0))), shr-lt k k h)
+    far q = rw (q .1) (
+      le-div-iff-mul-le (pow-pos k) .1 (le-trans (le-of-eq (one-mul (2 ^ k)))
+          (omega (arith, suc-ones k, q .0))),
+      shr-lt k k h,
+    )
 
     near : (w ≤ 2 ^ k - 1) × (s ≡ 0) → (0 < w / 2 ^ s) × (w / 2 ^ s < 2 ^ k)
     near q = rw (q .1) (rw (div-one w) (p, lt-of-le-ones k (q .0)))
 
 -- 0 stays
 pub flat : (k w s : ℕ) → Dropped k w s → w ≡ 0 → (s ≡ 0) × (w / 2 ^ s ≡ 0)
-flat k w s d e = (⊎-elim (λ q. omega (arith, q .0)) (λ q. q .1) (d .way), ap (λ (x : ℕ). x / 2 ^ s) e ∙ zero-div (2 ^ s))
+flat k w s d e = (
+  ⊎-elim (λ q. omega (arith, q .0)) (λ q. q .1) (d .way),
+  ap (λ (x : ℕ). x / 2 ^ s) e ∙ zero-div (2 ^ s),
+)
 
 -- five steps
-pub stairs : (w s4 s3 s2 s1 s0 : ℕ) → Dropped 16 w s4 → Dropped 8 (w / 2 ^ s4) s3 → Dropped 4 (w / 2 ^ s4 / 2 ^ s3) s2 → Dropped 2 (w / 2 ^ s4 / 2 ^ s3 / 2 ^ s2) s1
-    → Dropped 1 (w / 2 ^ s4 / 2 ^ s3 / 2 ^ s2 / 2 ^ s1) s0 → 0 < w → w < 2 ^ 32 → Top w (s4 + (s3 + (s2 + (s1 + (s0 + 0)))))
+pub stairs : (w s4 s3 s2 s1 s0 : ℕ) → Dropped 16 w s4 → Dropped 8 (w / 2 ^ s4) s3 → Dropped 4 (w / 2 ^ s4 / 2 ^ s3) s2
+    → Dropped 2 (w / 2 ^ s4 / 2 ^ s3 / 2 ^ s2) s1
+    → Dropped 1 (w / 2 ^ s4 / 2 ^ s3 / 2 ^ s2 / 2 ^ s1) s0 → 0 < w → w < 2 ^ 32
+    → Top w (s4 + (s3 + (s2 + (s1 + (s0 + 0)))))
 stairs w s4 s3 s2 s1 s0 d4 d3 d2 d1 d0 p h =
     let a = step 16 w s4 d4 p h in
     let b = step 8 (w / 2 ^ s4) s3 d3 (a .0) (a .1) in
@@ -51,7 +61,8 @@ pub top-npw2 : (a w j : ℕ) → w ≡ (a + 0xffff_ffff) % 2 ^ 32 → j < 32 →
 unfolding npw2
 top-npw2 a w j e h t =
     let z : 32 - suc j ≡ leadingZeros 32 w =
-    leading-unique 32 w (32 - suc j) (suc j) (omega arith) (rw (pow-suc 2 j) (t .high)) (rw (pow-suc 2 j) (omega (arith, t .low))) in
+    leading-unique 32 w (32 - suc j) (suc j) (omega arith) (rw (pow-suc 2 j) (t .high))
+    (rw (pow-suc 2 j) (omega (arith, t .low))) in
     rw (← e) (omega (arith, z))
 
 pub zero-npw2 : (a w : ℕ) → w ≡ (a + 0xffff_ffff) % 2 ^ 32 → w ≡ 0 → 1 ≡ npw2 a
@@ -59,8 +70,10 @@ unfolding npw2
 zero-npw2 a w e z = rw (← e) (rw z (omega (arith, leading-of-zero 32)))
 
 -- the steps' sum, and one more
-pub npw2-is : (a w s4 s3 s2 s1 s0 : ℕ) → Dropped 16 w s4 → Dropped 8 (w / 2 ^ s4) s3 → Dropped 4 (w / 2 ^ s4 / 2 ^ s3) s2 → Dropped 2 (w / 2 ^ s4 / 2 ^ s3 / 2 ^ s2) s1
-    → Dropped 1 (w / 2 ^ s4 / 2 ^ s3 / 2 ^ s2 / 2 ^ s1) s0 → w < 2 ^ 32 → w ≡ (a + 0xffff_ffff) % 2 ^ 32 → s4 + s3 + s2 + s1 + s0 + 1 ≡ npw2 a
+pub npw2-is : (a w s4 s3 s2 s1 s0 : ℕ) → Dropped 16 w s4 → Dropped 8 (w / 2 ^ s4) s3
+    → Dropped 4 (w / 2 ^ s4 / 2 ^ s3) s2 → Dropped 2 (w / 2 ^ s4 / 2 ^ s3 / 2 ^ s2) s1
+    → Dropped 1 (w / 2 ^ s4 / 2 ^ s3 / 2 ^ s2 / 2 ^ s1) s0 → w < 2 ^ 32 → w ≡ (a + 0xffff_ffff) % 2 ^ 32
+    → s4 + s3 + s2 + s1 + s0 + 1 ≡ npw2 a
 npw2-is a w s4 s3 s2 s1 s0 d4 d3 d2 d1 d0 h e = ⊎-elim none some (eq-zero-or-pos w)
   where
     none : w ≡ 0 → s4 + s3 + s2 + s1 + s0 + 1 ≡ npw2 a
@@ -77,5 +90,6 @@ npw2-is a w s4 s3 s2 s1 s0 d4 d3 d2 d1 d0 h e = ⊎-elim none some (eq-zero-or-p
     some p =
         let k : s4 + s3 + s2 + s1 + s0 + 1 ≡ s4 + (s3 + (s2 + (s1 + (s0 + 0)))) + 1 = omega arith in
         k
-        ∙ top-npw2 a w (s4 + (s3 + (s2 + (s1 + (s0 + 0))))) e (omega (arith, d4 .small, d3 .small, d2 .small, d1 .small, d0 .small))
+        ∙ top-npw2 a w (s4 + (s3 + (s2 + (s1 + (s0 + 0))))) e
+        (omega (arith, d4 .small, d3 .small, d2 .small, d1 .small, d0 .small))
         (stairs w s4 s3 s2 s1 s0 d4 d3 d2 d1 d0 p h)

@@ -1,4 +1,5 @@
-// The binary log, the trailing zeros and the set digits of a word: util.rs, lfs_util.h without the compiler's intrinsics, by shifts.
+// The binary log, the trailing zeros and the set digits of a word: util.rs, lfs_util.h without the compiler's
+// intrinsics, by shifts.
 ghost use mathlib.Core.Path.{_≡_};
 ghost use Prim.Native.Nat.{_<_, _-_, _^_};
 ghost use Rattle.format.specs.Arith.{npw2, ctz, popc};
@@ -45,7 +46,8 @@ fn halves_added(y: u32, mask: u32, k: u32) -> u32
     (y & mask) + (y >> k & mask)
 }
 
-// Per lfs_util.h lfs_popc: fields of 1, 2, 4, 8 and 16 digits are added in pairs. (The Rust adds the last two at once, by a product.)
+// Per lfs_util.h lfs_popc: fields of 1, 2, 4, 8 and 16 digits are added in pairs. (The Rust adds the last two at once,
+// by a product.)
 pub fn lfs_popc(a: u32) -> u32
     ensures { λ r. ⌜ r ≡ popc a ⌝ }
 {

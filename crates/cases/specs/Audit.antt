@@ -1,5 +1,5 @@
--- The audit by computation: document 01's listing lacks nothing; the same instruction with its deadline in a commit of its own, stopped before that
--- commit's check, has a payload and no deadline. Assumes nothing.
+-- The audit by computation: document 01's listing lacks nothing; the same instruction with its deadline in a commit of
+-- its own, stopped before that commit's check, has a payload and no deadline. Assumes nothing.
 use mathlib.Core.Path.{_≡_, refl}
 use mathlib.Core.List.{List, [], _∷_, _++_}
 use Prim.Native.Nat.{ℕ}
@@ -13,16 +13,25 @@ use Rattle.format.specs.View.{rank, view}
 use Rattle.format.specs.Fetch.{geometryFits, pairFits, tooHigh, erasedOf, mdirOf, fetchOf}
 use Rattle.format.specs.Regular.{ruleOf, ruleHolds, countAfter, regularFrom, Regular}
 use Rattle.format.specs.Directory.{empty, upd, apply, dir, act, acts, dirOf}
-use Rattle.format.specs.Listing.{ascii, hexDigit, decimalIn, isPlain, nameByte, nameBytes, numberLine, refusedLine, fetchInput}
-use Rattle.format.specs.Audit.{isInstruction, isPayload, isDeadline, lacksDeadline, lacksPayload, nameOrDash, lackLine, auditLine, auditLines, tally, totalLines, slotsAudit, blockAudit, auditOf}
+use Rattle.format.specs.Listing.{ascii, hexDigit, decimalIn, isPlain, nameByte, nameBytes, numberLine, refusedLine}
+use Rattle.format.specs.Listing.{fetchInput}
+use Rattle.format.specs.Audit.{isInstruction, isPayload, isDeadline, lacksDeadline, lacksPayload, nameOrDash, lackLine}
+use Rattle.format.specs.Audit.{auditLine, auditLines, tally, totalLines, slotsAudit, blockAudit, auditOf}
 use Rattle.cases.specs.Listing.{q212, abc, deadline, blank, listing}
 
 -- payload and deadline in one commit
-pub together : auditOf (listing ++ blank 128) ≡ ascii "payload without deadline 0\ndeadline without payload 0\nslots 1\n"
-unfolding fetchInput blockAudit slotsAudit totalLines tally auditLines auditLine lackLine nameOrDash lacksPayload lacksDeadline isDeadline isPayload isInstruction refusedLine numberLine nameBytes nameByte isPlain decimalIn hexDigit dirOf acts act dir apply upd empty Regular regularFrom ruleOf ruleHolds countAfter fetchOf mdirOf erasedOf tooHigh pairFits geometryFits view rank seedOf forwardOf splitOf tailOf countOf counted stoppedStraight tagAfter span eventLength log committed walk walkFrom walkIn classOf readBehind bodyLength tagFlipped tagLength be32 le32 toLe32 xor crc crcByte crcBits crcBit
+pub together : auditOf (listing ++ blank 128)
+    ≡ ascii "payload without deadline 0\ndeadline without payload 0\nslots 1\n"
+unfolding fetchInput blockAudit slotsAudit totalLines tally auditLines auditLine lackLine nameOrDash lacksPayload
+    lacksDeadline isDeadline isPayload isInstruction refusedLine numberLine nameBytes nameByte isPlain decimalIn
+    hexDigit dirOf acts act dir apply upd empty Regular regularFrom ruleOf ruleHolds countAfter fetchOf mdirOf erasedOf
+    tooHigh pairFits geometryFits view rank seedOf forwardOf splitOf tailOf countOf counted stoppedStraight tagAfter
+    span eventLength log committed walk walkFrom walkIn classOf readBehind bodyLength tagFlipped tagLength be32 le32
+    toLe32 xor crc crcByte crcBits crcBit
 together = refl
 
--- a create, the name q212, the inline file abc and the check of the first commit; then the deadline, with no check behind it
+-- a create, the name q212, the inline file abc and the check of the first commit; then the deadline, with no check
+-- behind it
 abbrev pub apart : List ℕ
 apart =
     (0x01 ∷ 0x00 ∷ 0x00 ∷ 0x00 ∷ [])
@@ -34,6 +43,12 @@ apart =
     ++ (0x67 ∷ 0x4f ∷ 0xfc ∷ 0x01 ∷ deadline)
     ++ blank 88
 
-pub lost : auditOf (apart ++ blank 128) ≡ ascii "slot 0 q212 no deadline\npayload without deadline 1\ndeadline without payload 0\nslots 1\n"
-unfolding fetchInput blockAudit slotsAudit totalLines tally auditLines auditLine lackLine nameOrDash lacksPayload lacksDeadline isDeadline isPayload isInstruction refusedLine numberLine nameBytes nameByte isPlain decimalIn hexDigit dirOf acts act dir apply upd empty Regular regularFrom ruleOf ruleHolds countAfter fetchOf mdirOf erasedOf tooHigh pairFits geometryFits view rank seedOf forwardOf splitOf tailOf countOf counted stoppedStraight tagAfter span eventLength log committed walk walkFrom walkIn classOf readBehind bodyLength tagFlipped tagLength be32 le32 toLe32 xor crc crcByte crcBits crcBit
+pub lost : auditOf (apart ++ blank 128)
+    ≡ ascii "slot 0 q212 no deadline\npayload without deadline 1\ndeadline without payload 0\nslots 1\n"
+unfolding fetchInput blockAudit slotsAudit totalLines tally auditLines auditLine lackLine nameOrDash lacksPayload
+    lacksDeadline isDeadline isPayload isInstruction refusedLine numberLine nameBytes nameByte isPlain decimalIn
+    hexDigit dirOf acts act dir apply upd empty Regular regularFrom ruleOf ruleHolds countAfter fetchOf mdirOf erasedOf
+    tooHigh pairFits geometryFits view rank seedOf forwardOf splitOf tailOf countOf counted stoppedStraight tagAfter
+    span eventLength log committed walk walkFrom walkIn classOf readBehind bodyLength tagFlipped tagLength be32 le32
+    toLe32 xor crc crcByte crcBits crcBit
 lost = refl

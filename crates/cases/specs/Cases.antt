@@ -27,7 +27,8 @@ cases =
     ∷ record { given = pos (tagLength 0x500f_fc0d); said = pos 17 }
     -- "(3) splice of 0x4ff00000 is -1"
     ∷ record { given = tagSplice 0x4ff0_0000; said = negℤ (pos 1) }
-    -- "(4) revisions 0xffffffff, 0: second first; (5) 5, 5: first; (6) 0, 0x80000000: first": 1 where the second ranks first
+    -- "(4) revisions 0xffffffff, 0: second first; (5) 5, 5: first; (6) 0, 0x80000000: first": 1 where the second ranks
+    -- first
     ∷ record { given = pos (flagOf (secondFirst 0xffff_ffff 0)); said = pos 1 }
     ∷ record { given = pos (flagOf (secondFirst 5 5)); said = pos 0 }
     ∷ record { given = pos (flagOf (secondFirst 0 0x8000_0000)); said = pos 0 }
@@ -36,7 +37,11 @@ cases =
     ∷ record { given = pos (countSpliced 65_535 (pos 1)); said = pos 0 }
     ∷ record { given = pos (countNamed 0 1_023); said = pos 1_024 }
     -- "(10) all 0xff pair: -84"
-    ∷ record { given = fetchedResult (fetchOf (record { «block_size» = 128; «prog_size» = 16 }) (replicate 128 0xff) (replicate 128 0xff) 0 1 0 0); said = negℤ (pos 84) }
+    ∷ record {
+      given = fetchedResult (fetchOf (record { «block_size» = 128; «prog_size» = 16 }) (replicate 128 0xff)
+          (replicate 128 0xff) 0 1 0 0);
+      said = negℤ (pos 84);
+    }
     -- "(11) `lfs_npw2` of 0, 1, 5: 32, 1, 3"
     ∷ record { given = pos (npw2 0); said = pos 32 }
     ∷ record { given = pos (npw2 1); said = pos 1 }
@@ -47,5 +52,6 @@ cases =
     ∷ []
 
 pub all-said : map (λ c. c .given) cases ≡ map (λ c. c .said) cases
-unfolding tagLength npw2 ctz leadingZeros trailingZeros fetchOf geometryFits pairFits tooHigh view rank log committed walk walkFrom walkIn classOf readBehind bodyLength tagFlipped be32 le32 xor crc crcByte crcBits crcBit
+unfolding tagLength npw2 ctz leadingZeros trailingZeros fetchOf geometryFits pairFits tooHigh view rank log committed
+    walk walkFrom walkIn classOf readBehind bodyLength tagFlipped be32 le32 xor crc crcByte crcBits crcBit
 all-said = refl

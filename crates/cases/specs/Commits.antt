@@ -1,4 +1,5 @@
--- Document 01's listing block, and a commit behind it that sets the attribute 0x374 of slot 0 anew: by computation. Assumes nothing.
+-- Document 01's listing block, and a commit behind it that sets the attribute 0x374 of slot 0 anew: by computation.
+-- Assumes nothing.
 use mathlib.Core.Path.{_≡_, refl}
 use mathlib.Core.Bool.{false}
 use mathlib.Core.List.{List, [], _∷_, _++_}
@@ -16,7 +17,8 @@ use Rattle.format.specs.Regular.{ruleOf, ruleHolds, countAfter, regularFrom, Re
 use Rattle.format.specs.Commit.{commitBytes}
 use Rattle.format.specs.Stores.{erased, allErased, fill, entriesLength, appending, coincides}
 use Rattle.format.specs.Entries.{entryBody, judge}
-use Rattle.format.specs.Writer.{roundedEnd, checkSize, commitFits, roomClean, placed, appended, verdictOf, Images, images, unlimited, commitImages, commitOf, commitStoresOf}
+use Rattle.format.specs.Writer.{roundedEnd, checkSize, commitFits, roomClean, placed, appended, verdictOf, Images}
+use Rattle.format.specs.Writer.{images, unlimited, commitImages, commitOf, commitStoresOf}
 use Rattle.format.specs.declared.Geometry.{Geometry}
 use Rattle.format.specs.declared.Entry.{Entry}
 use Rattle.format.specs.declared.Refusal.the-variants.{Invalid, BadEntry, NoSpace, Unclean}
@@ -29,7 +31,9 @@ geometry = record { «block_size» = 128; «prog_size» = 16 }
 
 -- the first block up to its checksum's last byte
 abbrev laid : List ℕ
-laid = 0x01 ∷ 0x00 ∷ 0x00 ∷ 0x00 ∷ 0xbf ∷ 0xef ∷ 0xff ∷ 0xff ∷ 0x40 ∷ 0x00 ∷ 0x00 ∷ 0x04 ∷ 0x71 ∷ 0x32 ∷ 0x31 ∷ 0x32 ∷ 0x20 ∷ 0x00 ∷ 0x00 ∷ 0x07 ∷ 0x61 ∷ 0x62 ∷ 0x63 ∷ 0x17 ∷ 0x50 ∷ 0x00 ∷ 0x07 ∷ 0x90 ∷ 0x5f ∷ 0x01 ∷ 0x00 ∷ 0x67 ∷ 0x4f ∷ 0xfc ∷ 0x09 ∷ 0x47 ∷ 0x38 ∷ 0xe4 ∷ 0x4d ∷ []
+laid = 0x01 ∷ 0x00 ∷ 0x00 ∷ 0x00 ∷ 0xbf ∷ 0xef ∷ 0xff ∷ 0xff ∷ 0x40 ∷ 0x00 ∷ 0x00 ∷ 0x04 ∷ 0x71 ∷ 0x32 ∷ 0x31 ∷ 0x32
+    ∷ 0x20 ∷ 0x00 ∷ 0x00 ∷ 0x07 ∷ 0x61 ∷ 0x62 ∷ 0x63 ∷ 0x17 ∷ 0x50 ∷ 0x00 ∷ 0x07 ∷ 0x90 ∷ 0x5f ∷ 0x01 ∷ 0x00 ∷ 0x67
+    ∷ 0x4f ∷ 0xfc ∷ 0x09 ∷ 0x47 ∷ 0x38 ∷ 0xe4 ∷ 0x4d ∷ []
 
 abbrev first : List ℕ
 first = laid ++ erased 89
@@ -46,7 +50,8 @@ seconds = 0x10 ∷ 0x0e ∷ 0x00 ∷ 0x00 ∷ []
 
 -- the sixteen bytes of the commit, at 48: tag, data, check tag, checksum
 abbrev more : List ℕ
-more = 0x67 ∷ 0x4f ∷ 0xfc ∷ 0x09 ∷ 0x10 ∷ 0x0e ∷ 0x00 ∷ 0x00 ∷ 0x67 ∷ 0x4f ∷ 0xfc ∷ 0x00 ∷ 0xf2 ∷ 0x6a ∷ 0x39 ∷ 0x72 ∷ []
+more = 0x67 ∷ 0x4f ∷ 0xfc ∷ 0x09 ∷ 0x10 ∷ 0x0e ∷ 0x00 ∷ 0x00 ∷ 0x67 ∷ 0x4f ∷ 0xfc ∷ 0x00 ∷ 0xf2 ∷ 0x6a ∷ 0x39 ∷ 0x72
+    ∷ []
 
 -- a slot created behind slot 0, and a name for it that reads past the buffer
 abbrev create : Entry
@@ -65,14 +70,23 @@ image es dat n = commitImages geometry first second 0 1 0 0 es dat n
 abbrev answer : List ℕ → List Entry → List ℕ → Committed
 answer b es dat = commitOf geometry b second 0 1 0 0 es dat
 
--- five stores; all of them; the answers; "an entry is bad", the space, both ("-201, -28": the entry), a set byte far behind the end, equal block
--- numbers
+-- five stores; all of them; the answers; "an entry is bad", the space, both ("-201, -28": the entry), a set byte far
+-- behind the end, equal block numbers
 listing : (image (deadline ∷ []) seconds 5 ≡ images (laid ++ erased 9 ++ take 5 more ++ erased 75) second)
     × (commitStoresOf geometry first second 0 1 0 0 (deadline ∷ []) seconds 5 ≡ stored.Made 5)
     × (image (deadline ∷ []) seconds unlimited ≡ images (laid ++ erased 9 ++ more ++ erased 64) second)
     × (commitStoresOf geometry first second 0 1 0 0 (deadline ∷ []) seconds 17 ≡ stored.Made 16)
     × (answer first (deadline ∷ []) seconds
-    ≡ committed.Done (record { pair = record { n0 = 0; n1 = 1 }; rev = 1; off = 64; etag = 0x500f_fc04; count = 1; erased = false; split = false; tail = noTail })
+    ≡ committed.Done (record {
+      pair = record { n0 = 0; n1 = 1 };
+      rev = 1;
+      off = 64;
+      etag = 0x500f_fc04;
+      count = 1;
+      erased = false;
+      split = false;
+      tail = noTail;
+    })
     0x4cc2e8dd)
     × (answer first (create ∷ past ∷ []) seconds ≡ committed.Refused (BadEntry 1))
     × (image (create ∷ past ∷ []) seconds 5 ≡ images first second)
@@ -81,5 +95,9 @@ listing : (image (deadline ∷ []) seconds 5 ≡ images (laid ++ erased 9 ++ tak
     × (answer first (struct 69 ∷ past ∷ []) (erased 69) ≡ committed.Refused (BadEntry 1))
     × (answer (laid ++ erased 88 ++ (0xfe ∷ [])) (deadline ∷ []) seconds ≡ committed.Refused Unclean)
     × (commitOf geometry first second 7 7 0 0 [] [] ≡ committed.Refused Invalid)
-unfolding commitImages commitOf commitStoresOf verdictOf commitFits pairFits geometryFits fetchOf tooHigh view rank log committed walk walkFrom walkIn classOf readBehind bodyLength tagLength tagFlipped be32 le32 toBe32 toLe32 xor crc crcByte crcBits crcBit mdirOf erasedOf stoppedStraight span eventLength tagAfter countOf counted splitOf tailOf forwardOf seedOf appended Regular regularFrom ruleOf ruleHolds countAfter judge entryBody placed roundedEnd checkSize roomClean allErased coincides fill entriesLength tagOf appending commitBytes
+unfolding commitImages commitOf commitStoresOf verdictOf commitFits pairFits geometryFits fetchOf tooHigh view rank log
+    committed walk walkFrom walkIn classOf readBehind bodyLength tagLength tagFlipped be32 le32 toBe32 toLe32 xor crc
+    crcByte crcBits crcBit mdirOf erasedOf stoppedStraight span eventLength tagAfter countOf counted splitOf tailOf
+    forwardOf seedOf appended Regular regularFrom ruleOf ruleHolds countAfter judge entryBody placed roundedEnd
+    checkSize roomClean allErased coincides fill entriesLength tagOf appending commitBytes
 listing = (refl, refl, refl, refl, refl, refl, refl, refl, refl, refl, refl, refl)

@@ -1,4 +1,5 @@
--- Document 01's listing input, its first block: it walks to its five entries and ends at 48, and its log is regular. Assumes nothing.
+-- Document 01's listing input, its first block: it walks to its five entries and ends at 48, and its log is regular.
+-- Assumes nothing.
 use mathlib.Core.Path.{_≡_, refl}
 use mathlib.Core.Bool.{true, false}
 use mathlib.Core.List.{List, [], _∷_, _++_}
@@ -31,8 +32,8 @@ abc = 0x61 ∷ 0x62 ∷ 0x63 ∷ []
 abbrev pub deadline : List ℕ
 deadline = 0x90 ∷ 0x5f ∷ 0x01 ∷ 0x00 ∷ []
 
--- "first 128 bytes, revision 1, raw tags 0xbfefffff, 0x40000004 + "q212", 0x20000007 + "abc", 0x17500007 + 90 5f 01 00, 0x674ffc09,
--- checksum, then 0xff"
+-- "first 128 bytes, revision 1, raw tags 0xbfefffff, 0x40000004 + "q212", 0x20000007 + "abc", 0x17500007 + 90 5f 01 00,
+-- 0x674ffc09, checksum, then 0xff"
 abbrev pub listing : List ℕ
 listing =
     (0x01 ∷ 0x00 ∷ 0x00 ∷ 0x00 ∷ [])
@@ -56,7 +57,8 @@ entries =
 
 -- the walk meets them, and then erased flash, straight after the commit
 pub walked : walk listing ≡ entries ++ (inv ∷ [])
-unfolding walk walkFrom walkIn classOf readBehind bodyLength tagFlipped be32 le32 xor tagLength crc crcByte crcBits crcBit
+unfolding walk walkFrom walkIn classOf readBehind bodyLength tagFlipped be32 le32 xor tagLength crc crcByte crcBits
+    crcBit
 walked = refl
 
 pub straight-after : stoppedStraight false (entries ++ (inv ∷ [])) ≡ true
@@ -64,7 +66,8 @@ unfolding stoppedStraight
 straight-after = refl
 
 pub logged : log listing ≡ entries
-unfolding log committed walk walkFrom walkIn classOf readBehind bodyLength tagFlipped be32 le32 xor tagLength crc crcByte crcBits crcBit
+unfolding log committed walk walkFrom walkIn classOf readBehind bodyLength tagFlipped be32 le32 xor tagLength crc
+    crcByte crcBits crcBit
 logged = refl
 
 pub ends-at-48 : logEnd entries ≡ 48

@@ -13,7 +13,8 @@ use Rattle.format.specs.View.{rank, view}
 use Rattle.format.specs.Fetch.{geometryFits, pairFits, tooHigh, erasedOf, mdirOf, fetchOf}
 use Rattle.format.specs.Back.{backs, back}
 use Rattle.format.specs.Look.{asIds, splicedAt, wlook}
-use Rattle.format.specs.Lookup.{recordFits, searched, blankBuffer, getsliceFits, getsliceOf, getsliceBuffer, getinfoFits, getinfoOf}
+use Rattle.format.specs.Lookup.{recordFits, searched, blankBuffer, getsliceFits, getsliceOf, getsliceBuffer}
+use Rattle.format.specs.Lookup.{getinfoFits, getinfoOf}
 use Rattle.format.specs.declared.Geometry.{Geometry}
 use Rattle.format.specs.declared.LfsMdir.{LfsMdir}
 use Rattle.format.specs.declared.LfsGstate.{LfsGstate}
@@ -42,12 +43,26 @@ listed =
     }
 
 pub fetched-listing : fetchOf geometry listing (blank 128) 0 1 0 0 ≡ fetched.Found listed 0x1ec4_df69
-unfolding fetchOf geometryFits pairFits tooHigh view rank log committed walk walkFrom walkIn classOf readBehind bodyLength tagFlipped be32 le32 toLe32 xor tagLength crc crcByte crcBits crcBit mdirOf erasedOf stoppedStraight span eventLength tagAfter counted countOf tailOf splitOf forwardOf seedOf
+unfolding fetchOf geometryFits pairFits tooHigh view rank log committed walk walkFrom walkIn classOf readBehind
+    bodyLength tagFlipped be32 le32 toLe32 xor tagLength crc crcByte crcBits crcBit mdirOf erasedOf stoppedStraight span
+    eventLength tagAfter counted countOf tailOf splitOf forwardOf seedOf
 fetched-listing = refl
 
 -- the blocks given the other way round: the record's pair begins with the block that answered
-pub fetched-second : fetchOf geometry (blank 128) listing 7 5 8 0 ≡ fetched.Found (record { pair = record { n0 = 5; n1 = 7 }; rev = 1; off = 48; etag = 0x500f_fc0d; count = 1; erased = false; split = false; tail = record { n0 = allOnes; n1 = allOnes } }) 0x1ec4_df69
-unfolding fetchOf geometryFits pairFits tooHigh view rank log committed walk walkFrom walkIn classOf readBehind bodyLength tagFlipped be32 le32 toLe32 xor tagLength crc crcByte crcBits crcBit mdirOf erasedOf stoppedStraight span eventLength tagAfter counted countOf tailOf splitOf forwardOf seedOf
+pub fetched-second : fetchOf geometry (blank 128) listing 7 5 8 0 ≡ fetched.Found
+    (record {
+      pair = record { n0 = 5; n1 = 7 };
+      rev = 1;
+      off = 48;
+      etag = 0x500f_fc0d;
+      count = 1;
+      erased = false;
+      split = false;
+      tail = record { n0 = allOnes; n1 = allOnes };
+    }) 0x1ec4_df69
+unfolding fetchOf geometryFits pairFits tooHigh view rank log committed walk walkFrom walkIn classOf readBehind
+    bodyLength tagFlipped be32 le32 toLe32 xor tagLength crc crcByte crcBits crcBit mdirOf erasedOf stoppedStraight span
+    eventLength tagAfter counted countOf tailOf splitOf forwardOf seedOf
 fetched-second = refl
 
 -- "Fetch tests -22, -84, -2": equal numbers before a number that is too high
@@ -71,46 +86,74 @@ abbrev byType3 : ℕ
 byType3 = 0x7fff_fc00
 
 -- the name of slot 0: its tag, and the name in a buffer of six bytes, the rest of it zeroed
-pub name-found : getsliceOf geometry listing (blank 128) 0 1 listed still byType1 0x0000_0000 0 (blank 6) ≡ got.Found 0x0010_0004
-unfolding getsliceOf getsliceFits recordFits geometryFits pairFits searched back backs wlook splicedAt asIds be32 xor tagLength tagOf
+pub name-found : getsliceOf geometry listing (blank 128) 0 1 listed still byType1 0x0000_0000 0 (blank 6)
+    ≡ got.Found 0x0010_0004
+unfolding getsliceOf getsliceFits recordFits geometryFits pairFits searched back backs wlook splicedAt asIds be32 xor
+    tagLength tagOf
 name-found = refl
 
-pub name-read : getsliceBuffer geometry listing (blank 128) 0 1 listed still byType1 0x0000_0000 0 (blank 6) ≡ 0x71 ∷ 0x32 ∷ 0x31 ∷ 0x32 ∷ 0 ∷ 0 ∷ []
-unfolding getsliceBuffer getsliceFits recordFits geometryFits pairFits searched back backs wlook splicedAt asIds be32 xor tagLength tagOf
+pub name-read : getsliceBuffer geometry listing (blank 128) 0 1 listed still byType1 0x0000_0000 0 (blank 6)
+    ≡ 0x71 ∷ 0x32 ∷ 0x31 ∷ 0x32 ∷ 0 ∷ 0 ∷ []
+unfolding getsliceBuffer getsliceFits recordFits geometryFits pairFits searched back backs wlook splicedAt asIds be32
+    xor tagLength tagOf
 name-read = refl
 
 -- the deadline, two bytes of it from offset 1
-pub deadline-found : getsliceOf geometry listing (blank 128) 0 1 listed still byType3 0x3740_0000 1 (blank 2) ≡ got.Found 0x3740_0004
-unfolding getsliceOf getsliceFits recordFits geometryFits pairFits searched back backs wlook splicedAt asIds be32 xor tagLength tagOf
+pub deadline-found : getsliceOf geometry listing (blank 128) 0 1 listed still byType3 0x3740_0000 1 (blank 2)
+    ≡ got.Found 0x3740_0004
+unfolding getsliceOf getsliceFits recordFits geometryFits pairFits searched back backs wlook splicedAt asIds be32 xor
+    tagLength tagOf
 deadline-found = refl
 
-pub deadline-read : getsliceBuffer geometry listing (blank 128) 0 1 listed still byType3 0x3740_0000 1 (blank 2) ≡ 0x5f ∷ 0x01 ∷ []
-unfolding getsliceBuffer getsliceFits recordFits geometryFits pairFits searched back backs wlook splicedAt asIds be32 xor tagLength tagOf
+pub deadline-read : getsliceBuffer geometry listing (blank 128) 0 1 listed still byType3 0x3740_0000 1 (blank 2)
+    ≡ 0x5f ∷ 0x01 ∷ []
+unfolding getsliceBuffer getsliceFits recordFits geometryFits pairFits searched back backs wlook splicedAt asIds be32
+    xor tagLength tagOf
 deadline-read = refl
 
 -- an attribute that is not there: the search ends at the slot's create, and the buffer stays
-pub attribute-missing : getsliceOf geometry listing (blank 128) 0 1 listed still byType3 0x3750_0000 0 (blank 2) ≡ got.Refused NoEntry
-unfolding getsliceOf getsliceFits recordFits geometryFits pairFits searched back backs wlook splicedAt asIds be32 xor tagLength tagOf
+pub attribute-missing : getsliceOf geometry listing (blank 128) 0 1 listed still byType3 0x3750_0000 0 (blank 2)
+    ≡ got.Refused NoEntry
+unfolding getsliceOf getsliceFits recordFits geometryFits pairFits searched back backs wlook splicedAt asIds be32 xor
+    tagLength tagOf
 attribute-missing = refl
 
-pub attribute-missing-buffer : getsliceBuffer geometry listing (blank 128) 0 1 listed still byType3 0x3750_0000 0 (blank 2) ≡ blank 2
-unfolding getsliceBuffer getsliceFits recordFits geometryFits pairFits searched back backs wlook splicedAt asIds be32 xor tagLength tagOf
+pub attribute-missing-buffer : getsliceBuffer geometry listing (blank 128) 0 1 listed still byType3 0x3750_0000 0
+    (blank 2) ≡ blank 2
+unfolding getsliceBuffer getsliceFits recordFits geometryFits pairFits searched back backs wlook splicedAt asIds be32
+    xor tagLength tagOf
 attribute-missing-buffer = refl
 
 -- a pending move of slot 0 on this pair: "answers -2 at its own id"
-pub moved-away : getsliceOf geometry listing (blank 128) 0 1 listed (record { tag = 0x4ff0_0000; pair = record { n0 = 1; n1 = 9 } }) byType1 0x0000_0000 0 (blank 6) ≡ got.Refused NoEntry
+pub moved-away : getsliceOf geometry listing (blank 128) 0 1 listed
+    (record { tag = 0x4ff0_0000; pair = record { n0 = 1; n1 = 9 } }) byType1 0x0000_0000 0 (blank 6)
+    ≡ got.Refused NoEntry
 unfolding getsliceOf getsliceFits recordFits geometryFits pairFits searched
 moved-away = refl
 
 -- "a record whose pair isn't the two given numbers .. or whose end passes the block": -22
-pub end-past : getsliceOf geometry listing (blank 128) 0 1 (record { pair = listed .pair; rev = 1; off = 129; etag = 0; count = 1; erased = false; split = false; tail = listed .tail }) still byType1 0 0 [] ≡ got.Refused Invalid
+pub end-past : getsliceOf geometry listing (blank 128) 0 1
+    (record {
+      pair = listed .pair;
+      rev = 1;
+      off = 129;
+      etag = 0;
+      count = 1;
+      erased = false;
+      split = false;
+      tail = listed .tail;
+    }) still byType1 0 0 [] ≡ got.Refused Invalid
 unfolding getsliceOf getsliceFits recordFits geometryFits pairFits
 end-past = refl
 
 -- the info of slot 0, and of the root
 pub info-of-slot : getinfoOf geometry listing (blank 128) 0 1 listed still 8 0
-    ≡ record { answer = altered.Done; info = record { kind = 1; size = 3; name = 0x71 ∷ 0x32 ∷ 0x31 ∷ 0x32 ∷ blankBuffer 252 } }
-unfolding getinfoOf getinfoFits recordFits geometryFits pairFits searched back backs wlook splicedAt asIds be32 le32 xor tagLength tagOf
+    ≡ record {
+      answer = altered.Done;
+      info = record { kind = 1; size = 3; name = 0x71 ∷ 0x32 ∷ 0x31 ∷ 0x32 ∷ blankBuffer 252 };
+    }
+unfolding getinfoOf getinfoFits recordFits geometryFits pairFits searched back backs wlook splicedAt asIds be32 le32 xor
+    tagLength tagOf
 info-of-slot = refl
 
 pub info-of-root : getinfoOf geometry listing (blank 128) 0 1 listed still 8 1_023

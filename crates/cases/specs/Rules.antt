@@ -3,7 +3,9 @@ use mathlib.Core.Path.{_≡_, refl}
 use mathlib.Core.Bool.{Bool, true, false}
 use mathlib.Core.List.{List, [], _∷_, map}
 use Prim.Native.Nat.{ℕ}
-use Rattle.format.specs.Kind.{typeName, typeFile, typeDirectory, typeSuperblock, typeDirStruct, typeInlineStruct, typeCtzStruct, typeUserAttr, typeSplice, typeCreate, typeDelete, typeCheck, typeForward, typeTail, typeHardTail, typeMove, noSlot}
+use Rattle.format.specs.Kind.{typeName, typeFile, typeDirectory, typeSuperblock, typeDirStruct, typeInlineStruct}
+use Rattle.format.specs.Kind.{typeCtzStruct, typeUserAttr, typeSplice, typeCreate, typeDelete, typeCheck, typeForward}
+use Rattle.format.specs.Kind.{typeTail, typeHardTail, typeMove, noSlot}
 use Rattle.format.specs.Tag.{mkTag}
 use Rattle.format.specs.Walk.{ent, chk}
 use Rattle.format.specs.Regular.{ruleOf, ruleHolds, countAfter, regularFrom, Regular}
@@ -68,7 +70,8 @@ unfolding ruleOf ruleHolds
 in-a-log = refl
 
 -- "every check tag's size is 4 to 1,022"; names alone don't raise the count
-pub check-sizes : map Regular ((chk (mkTag typeCheck 0 4) 0 ∷ []) ∷ (chk (mkTag typeCheck 0 3) 0 ∷ []) ∷ (chk (mkTag typeCheck 0 1_022) 0 ∷ []) ∷ (chk (mkTag typeCheck 0 1_023) 0 ∷ []) ∷ [])
+pub check-sizes : map Regular ((chk (mkTag typeCheck 0 4) 0 ∷ []) ∷ (chk (mkTag typeCheck 0 3) 0 ∷ [])
+    ∷ (chk (mkTag typeCheck 0 1_022) 0 ∷ []) ∷ (chk (mkTag typeCheck 0 1_023) 0 ∷ []) ∷ [])
     ≡ true ∷ false ∷ true ∷ false ∷ []
 unfolding Regular regularFrom
 check-sizes = refl

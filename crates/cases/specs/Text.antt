@@ -11,11 +11,20 @@ use Rattle.format.specs.View.{rank, view}
 use Rattle.format.specs.Fetch.{geometryFits, pairFits, tooHigh, erasedOf, mdirOf, fetchOf}
 use Rattle.format.specs.Regular.{ruleOf, ruleHolds, countAfter, regularFrom, Regular}
 use Rattle.format.specs.Directory.{empty, upd, apply, dir, act, acts, dirOf}
-use Rattle.format.specs.Listing.{ascii, hexDigit, decimalIn, decimal, hexBytes, isPlain, nameByte, nameBytes, numberLine, tailLine, erasedLine, recordLines, nameFields, structFields, slotLine, attrLine, attrLines, slotLines, refusedLine, dirLines, blockText, fetchInput, listingOf}
+use Rattle.format.specs.Listing.{ascii, hexDigit, decimalIn, decimal, hexBytes, isPlain, nameByte, nameBytes}
+use Rattle.format.specs.Listing.{numberLine, tailLine, erasedLine, recordLines, nameFields, structFields, slotLine}
+use Rattle.format.specs.Listing.{attrLine, attrLines, slotLines, refusedLine, dirLines, blockText, fetchInput}
+use Rattle.format.specs.Listing.{listingOf}
 use Rattle.cases.specs.Listing.{blank, listing}
 
-pub text : listingOf (listing ++ blank 128) ≡ ascii "rev 1\nblock 0\nend 48\ncount 1\ntail none\nerased no\nslot 0 001 q212 201 3\nattr 0 374 905f0100\n"
-unfolding fetchInput blockText dirLines refusedLine slotLines attrLines attrLine slotLine structFields nameFields recordLines erasedLine tailLine numberLine nameBytes nameByte isPlain hexBytes decimalIn hexDigit dirOf acts act dir apply upd empty Regular regularFrom ruleOf ruleHolds countAfter fetchOf mdirOf erasedOf tooHigh pairFits geometryFits view rank seedOf forwardOf splitOf tailOf countOf counted stoppedStraight tagAfter span eventLength log committed walk walkFrom walkIn classOf readBehind bodyLength tagFlipped tagLength be32 le32 toLe32 xor crc crcByte crcBits crcBit
+pub text : listingOf (listing ++ blank 128)
+    ≡ ascii "rev 1\nblock 0\nend 48\ncount 1\ntail none\nerased no\nslot 0 001 q212 201 3\nattr 0 374 905f0100\n"
+unfolding fetchInput blockText dirLines refusedLine slotLines attrLines attrLine slotLine structFields nameFields
+    recordLines erasedLine tailLine numberLine nameBytes nameByte isPlain hexBytes decimalIn hexDigit dirOf acts act dir
+    apply upd empty Regular regularFrom ruleOf ruleHolds countAfter fetchOf mdirOf erasedOf tooHigh pairFits
+    geometryFits view rank seedOf forwardOf splitOf tailOf countOf counted stoppedStraight tagAfter span eventLength log
+    committed walk walkFrom walkIn classOf readBehind bodyLength tagFlipped tagLength be32 le32 toLe32 xor crc crcByte
+    crcBits crcBit
 text = refl
 
 -- erased flash: no valid commit; an odd length, an empty input, halves that are no block
@@ -23,7 +32,12 @@ pub refusals : (listingOf (blank 256) ≡ ascii "refused -84\n")
     × (listingOf (listing ++ blank 127) ≡ ascii "refused -22\n")
     × (listingOf [] ≡ ascii "refused -22\n")
     × (listingOf (blank 224) ≡ ascii "refused -22\n")
-unfolding fetchInput blockText dirLines refusedLine slotLines attrLines attrLine slotLine structFields nameFields recordLines erasedLine tailLine numberLine nameBytes nameByte isPlain hexBytes decimalIn hexDigit dirOf acts act dir apply upd empty Regular regularFrom ruleOf ruleHolds countAfter fetchOf mdirOf erasedOf tooHigh pairFits geometryFits view rank seedOf forwardOf splitOf tailOf countOf counted stoppedStraight tagAfter span eventLength log committed walk walkFrom walkIn classOf readBehind bodyLength tagFlipped tagLength be32 le32 toLe32 xor crc crcByte crcBits crcBit
+unfolding fetchInput blockText dirLines refusedLine slotLines attrLines attrLine slotLine structFields nameFields
+    recordLines erasedLine tailLine numberLine nameBytes nameByte isPlain hexBytes decimalIn hexDigit dirOf acts act dir
+    apply upd empty Regular regularFrom ruleOf ruleHolds countAfter fetchOf mdirOf erasedOf tooHigh pairFits
+    geometryFits view rank seedOf forwardOf splitOf tailOf countOf counted stoppedStraight tagAfter span eventLength log
+    committed walk walkFrom walkIn classOf readBehind bodyLength tagFlipped tagLength be32 le32 toLe32 xor crc crcByte
+    crcBits crcBit
 refusals = (refl, refl, refl, refl)
 
 -- a space, `!`, a backslash, `~`, 0x7f, 0xff and 0

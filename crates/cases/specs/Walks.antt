@@ -10,28 +10,34 @@ use Rattle.format.specs.Log.{committed, log, span, eventLength, tagAfter, logEn
 use Rattle.format.specs.Count.{countSpliced}
 use Rattle.cases.specs.Listing.{blank}
 
--- Of erased flash the first tag decodes as tag 0, a valid name of id 0, and the next one is invalid; nothing is committed.
+-- Of erased flash the first tag decodes as tag 0, a valid name of id 0, and the next one is invalid; nothing is
+-- committed.
 pub erased : walk (blank 128) ≡ ent 0 [] ∷ inv ∷ []
-unfolding walk walkFrom walkIn classOf readBehind bodyLength tagFlipped be32 le32 xor tagLength crc crcByte crcBits crcBit
+unfolding walk walkFrom walkIn classOf readBehind bodyLength tagFlipped be32 le32 xor tagLength crc crcByte crcBits
+    crcBit
 erased = refl
 
 pub erased-log : log (blank 128) ≡ []
-unfolding log committed walk walkFrom walkIn classOf readBehind bodyLength tagFlipped be32 le32 xor tagLength crc crcByte crcBits crcBit
+unfolding log committed walk walkFrom walkIn classOf readBehind bodyLength tagFlipped be32 le32 xor tagLength crc
+    crcByte crcBits crcBit
 erased-log = refl
 
--- "Tail: .. 8 bytes are read, though the size be smaller": a tail of removal size is 4 bytes long, reads 8 behind them, and stops the walk
--- where these pass the block.
+-- "Tail: .. 8 bytes are read, though the size be smaller": a tail of removal size is 4 bytes long, reads 8 behind them,
+-- and stops the walk where these pass the block.
 pub tail-reads-eight : (classOf 0x600f_ffff 12 ≡ entry) × (classOf 0x600f_ffff 11 ≡ past) × (tagLength 0x600f_ffff ≡ 4)
 unfolding classOf readBehind tagLength
 tail-reads-eight = (refl, refl, refl)
 
--- A check whose size is 0 is checked all the same, and the next tag stands on its checksum's bytes: the walk reads 0xc5e694f0 there,
--- which XORed with the check's tag, 0x500ffc00, is invalid.
+-- A check whose size is 0 is checked all the same, and the next tag stands on its checksum's bytes: the walk reads
+-- 0xc5e694f0 there, which XORed with the check's tag, 0x500ffc00, is invalid.
 abbrev bare : List ℕ
-bare = (0x01 ∷ 0x00 ∷ 0x00 ∷ 0x00 ∷ []) ++ (0xaf ∷ 0xf0 ∷ 0x03 ∷ 0xff ∷ []) ++ (0xc5 ∷ 0xe6 ∷ 0x94 ∷ 0xf0 ∷ []) ++ blank 116
+bare = (0x01 ∷ 0x00 ∷ 0x00 ∷ 0x00 ∷ []) ++ (0xaf ∷ 0xf0 ∷ 0x03 ∷ 0xff ∷ []) ++ (0xc5 ∷ 0xe6 ∷ 0x94 ∷ 0xf0 ∷ [])
+    ++ blank 116
 
-pub overlapping : (log bare ≡ chk 0x500f_fc00 0xf094_e6c5 ∷ []) × (walk bare ≡ chk 0x500f_fc00 0xf094_e6c5 ∷ inv ∷ []) × (logEnd (log bare) ≡ 8)
-unfolding log committed span eventLength walk walkFrom walkIn classOf readBehind bodyLength tagFlipped be32 le32 xor tagLength crc crcByte crcBits crcBit
+pub overlapping : (log bare ≡ chk 0x500f_fc00 0xf094_e6c5 ∷ []) × (walk bare ≡ chk 0x500f_fc00 0xf094_e6c5 ∷ inv ∷ [])
+    × (logEnd (log bare) ≡ 8)
+unfolding log committed span eventLength walk walkFrom walkIn classOf readBehind bodyLength tagFlipped be32 le32 xor
+    tagLength crc crcByte crcBits crcBit
 overlapping = (refl, refl, refl)
 
 -- "chunk's low bit flips bit 31 of the previous tag"

@@ -1,5 +1,6 @@
-// Replays a fixed list of the Rust's answers, with no Rust at hand: each record of standard input is a fetch or a lookup with what the Rust gave
-// (README.md beside this crate says how the list was made; oracle/RECORDED.md has its layout). Prints how many of each kind were equal.
+// Replays a fixed list of the Rust's answers, with no Rust at hand: each record of standard input is a fetch or a
+// lookup with what the Rust gave (README.md beside this crate says how the list was made; oracle/RECORDED.md has its
+// layout). Prints how many of each kind were equal.
 use format::Altered;
 use format::Fetched;
 use format::Geometry;

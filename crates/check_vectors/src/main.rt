@@ -1,5 +1,5 @@
-// Outside vectors, printed and compared with `stdout`: the published check of CRC-32 ("123456789": 0xcbf43926; our register before the
-// inversion), the same in two parts, and numbers that document 01 gives.
+// Outside vectors, printed and compared with `stdout`: the published check of CRC-32 ("123456789": 0xcbf43926; our
+// register before the inversion), the same in two parts, and numbers that document 01 gives.
 fn line(label: &[u8], n: u32) {
     io::write_all(1, label);
     io::write_all(1, b" ");

@@ -1,7 +1,11 @@
--- A `&κ mut [T]` that is lent again for a lifetime κ′ of a call, and comes back: `Denote/Lend.antt`'s `lends-again` and `comes-back`, of a slice. It says nothing of the crate, and can be copied as it stands.
---     LentAgain        what the holder keeps while the slice is lent again under the name γ₁: the lender's part at κ′, and its own borrow at κ, open, with both halves of its ghost variable
---     lends-again      own (the `&κ mut [T]` ((b, o), γ, ys)) ∗ [κ]_q  ⊢ ⇛ ∃ γ₁. own (the `&κ′ mut [T]` ((b, o), γ₁, ys)) ∗ LentAgain γ₁
---     comes-back       given `Room` and that zs is as long as ys:  [†κ′] ∗ LentAgain γ₁ ∗ finally γ₁ zs  ⊢ ⇛ (own (the `&κ mut [T]` ((b, o), γ, zs)) ∗ [κ]_q)
+-- A `&κ mut [T]` that is lent again for a lifetime κ′ of a call, and comes back: `Denote/Lend.antt`'s `lends-again` and
+-- `comes-back`, of a slice. It says nothing of the crate, and can be copied as it stands.
+--     LentAgain        what the holder keeps while the slice is lent again under the name γ₁: the lender's part at κ′,
+--     and its own borrow at κ, open, with both halves of its ghost variable
+--     lends-again      own (the `&κ mut [T]` ((b, o), γ, ys)) ∗ [κ]_q  ⊢ ⇛ ∃ γ₁. own (the `&κ′ mut [T]` ((b, o), γ₁,
+--     ys)) ∗ LentAgain γ₁
+--     comes-back       given `Room` and that zs is as long as ys:  [†κ′] ∗ LentAgain γ₁ ∗ finally γ₁ zs  ⊢ ⇛ (own (the
+--     `&κ mut [T]` ((b, o), γ, zs)) ∗ [κ]_q)
 -- Assumes `Given`.
 use mathlib.Core.Path.{_≡_, refl, sym, ap, subst}
 use Prim.Native.Nat.{ℕ}
@@ -15,7 +19,8 @@ use base.Logic.{ent, sep, ex}
 use base.Fml.{Lft, GName, Share, Fml, fsep, flft, fdead, fobs, fauth, flent, fobor}
 use prog.Wp.{Heap}
 use ghost.Atoms.{Atoms, sem}
-use types.Kit.{Given, ‵, _⊛_, some, later, _$_, _∵_, !, qed, move, use1, use3, drop, split, pick, fsplit, fjoin, feqI, frame, await, updating, now as at-once, show, done}
+use types.Kit.{Given, ‵, _⊛_, some, later, _$_, _∵_, !, qed, move, use1, use3, drop, split, pick, fsplit, fjoin, feqI}
+use types.Kit.{frame, await, updating, now as at-once, show, done}
 use types.SemTy.{cells, Arr}
 use denote.RattleType.{RattleType}
 use denote.Shadow.{pureL, pureI}
@@ -32,65 +37,103 @@ module _ (R : RattleType) (κ κ′ : Lft) (q : Share) (γ : GName) (b o : ℕ) 
   at-list δ ys = record { ptr = (b, o); name = δ; now = ys }
 
   abbrev pub LentAgain : GName → List (R .Denot) → Fml
-  LentAgain γ₁ ys = fsep (flent κ′ (Held R (length ys) b o γ₁)) (fsep (fobor κ q (Held R (length ys) b o γ)) (fsep (fobs γ (codedHoleys R .code (heres R ys))) (fauth γ (codedHoleys R .code (heres R ys)))))
+  LentAgain γ₁ ys = fsep (flent κ′ (Held R (length ys) b o γ₁))
+      (fsep (fobor κ q (Held R (length ys) b o γ)) (fsep (fobs γ (codedHoleys R .code (heres R ys)))
+      (fauth γ (codedHoleys R .code (heres R ys)))))
 
   -- what the holder keeps while the slice is lent as a `&` for κ′
   abbrev pub LentShared : List (R .Denot) → Fml
-  LentShared ys = fsep (flent κ′ (arr-parts (shares R) (length ys) .part fullShare ys b o)) (fsep (fobor κ q (Held R (length ys) b o γ)) (fsep (fobs γ (codedHoleys R .code (heres R ys))) (fauth γ (codedHoleys R .code (heres R ys)))))
+  LentShared ys = fsep (flent κ′ (arr-parts (shares R) (length ys) .part fullShare ys b o))
+      (fsep (fobor κ q (Held R (length ys) b o γ)) (fsep (fobs γ (codedHoleys R .code (heres R ys)))
+      (fauth γ (codedHoleys R .code (heres R ys)))))
 
-  module _ {M : Type 1} (𝓤 : URA M) (H : Heap 𝓤) (A : Atoms 𝓤) (W : Given 𝓤 H A) (ℓ ℓ′ : Lifetime) (ys : List (R .Denot)) where
+  module _ {M : Type 1} (𝓤 : URA M) (H : Heap 𝓤) (A : Atoms 𝓤) (W : Given 𝓤 H A) (ℓ ℓ′ : Lifetime)
+      (ys : List (R .Denot)) where
     abbrev vals : List Val
     vals = sliceVal (b, o) (length ys) ∷ []
 
     pub lends-again : ent 𝓤 (sep 𝓤 (sem 𝓤 H A (MutSlice ℓ κ R .own (at-list γ ys) vals)) (A .lft κ q))
-        (H .⇛ (ex 𝓤 (λ (γ₁ : GName). sep 𝓤 (sem 𝓤 H A (MutSlice ℓ′ κ′ R .own (at-list γ₁ ys) vals)) (sem 𝓤 H A (LentAgain γ₁ ys)))))
+        (H .⇛ (ex 𝓤 (λ (γ₁ : GName). sep 𝓤 (sem 𝓤 H A (MutSlice ℓ′ κ′ R .own (at-list γ₁ ys) vals))
+        (sem 𝓤 H A (LentAgain γ₁ ys)))))
     lends-again =
-        qed W (‵ (MutSlice ℓ κ R .own (at-list γ ys) vals) ∷ ‵ (flft κ q) ∷ []) ∵ updating ! $ fsplit ! $ pureL ! (at-slice R (at-list γ ys) vals) (λ p. fsplit ! $ opens-slice ! tt R ys b o $
+        qed W (‵ (MutSlice ℓ κ R .own (at-list γ ys) vals) ∷ ‵ (flft κ q) ∷ []) ∵ updating ! $ fsplit ! $ pureL !
+        (at-slice R (at-list γ ys) vals) (λ p. fsplit ! $ opens-slice ! tt R ys b o $
         use1 W (‵ (cells (mem R) ys b o)) (whole-in 𝓤 H A W R ys b o) $
-        use1 W (later (some (λ (γ₁ : GName). ‵ (MutSlice ℓ′ κ′ R .own (at-list γ₁ ys) vals) ⊛ ‵ (flent κ′ (Held R (length ys) b o γ₁))))) (lends-slice 𝓤 H A W R ℓ′ κ′ ys b o (p .1)) $ await ! tt $ pick ! (λ γ₁. split ! $
+        use1 W (later (some (λ (γ₁ : GName). ‵ (MutSlice ℓ′ κ′ R .own (at-list γ₁ ys) vals) ⊛ ‵
+        (flent κ′ (Held R (length ys) b o γ₁))))) (lends-slice 𝓤 H A W R ℓ′ κ′ ys b o (p .1)) $ await ! tt $ pick !
+        (λ γ₁. split ! $
         -- [the new slice; the lender's part at κ′; the open borrow at κ; obs γ; auth γ]
-        at-once ! $ show ! (λ (γ′ : GName). sep 𝓤 (sem 𝓤 H A (MutSlice ℓ′ κ′ R .own (at-list γ′ ys) vals)) (sem 𝓤 H A (LentAgain γ′ ys))) γ₁ $ frame ! $
+        at-once ! $ show ! (λ (γ′ : GName). sep 𝓤 (sem 𝓤 H A (MutSlice ℓ′ κ′ R .own (at-list γ′ ys) vals))
+        (sem 𝓤 H A (LentAgain γ′ ys))) γ₁ $ frame ! $
         move ! (2 ∷ 3 ∷ []) $ fjoin ! $ move ! (2 ∷ 0 ∷ []) $ fjoin ! $ move ! (1 ∷ 0 ∷ []) $ fjoin ! $ done !))
 
     pub comes-back : (γ₁ : GName) (zs : List (R .Denot)) → Room R (length ys) → length zs ≡ length ys
-        → ent 𝓤 (sep 𝓤 (A .dead κ′) (sep 𝓤 (sem 𝓤 H A (LentAgain γ₁ ys)) (sem 𝓤 H A (finally R γ₁ zs)))) (H .⇛ (sep 𝓤 (sem 𝓤 H A (MutSlice ℓ κ R .own (at-list γ zs) vals)) (A .lft κ q)))
+        → ent 𝓤 (sep 𝓤 (A .dead κ′) (sep 𝓤 (sem 𝓤 H A (LentAgain γ₁ ys)) (sem 𝓤 H A (finally R γ₁ zs))))
+        (H .⇛ (sep 𝓤 (sem 𝓤 H A (MutSlice ℓ κ R .own (at-list γ zs) vals)) (A .lft κ q)))
     comes-back γ₁ zs room e =
-        qed W (‵ (fdead κ′) ∷ ‵ (LentAgain γ₁ ys) ∷ ‵ (finally R γ₁ zs) ∷ []) ∵ updating ! $ move ! (1 ∷ []) $ fsplit ! $ move ! (2 ∷ 0 ∷ 3 ∷ []) $
-        use3 W (later (‵ (Arr (mem R) (length ys) .lies zs b o))) (slice-back 𝓤 H A W R κ′ γ₁ zs (length ys) b o) $ await ! tt $ fsplit ! $ drop ! $ use1 W (‵ (row R fullShare zs b o)) (whole-out 𝓤 H A W R zs b o) $
-        move ! (1 ∷ []) $ fsplit ! $ move ! (1 ∷ []) $ fsplit ! $ move ! (3 ∷ 2 ∷ 0 ∷ 1 ∷ []) $ closes-slice ! tt R ys zs e b o $ at-once ! $
-        fjoin ! $ pureI ! (at-slice R (at-list γ zs) vals) (tt, (tt, tt)) (ap (λ (m : ℕ). sliceVal (b, o) m ∷ []) (sym e), subst (Room R) (sym e) room) $ fjoin ! $ done !
+        qed W (‵ (fdead κ′) ∷ ‵ (LentAgain γ₁ ys) ∷ ‵ (finally R γ₁ zs) ∷ []) ∵ updating ! $ move ! (1 ∷ []) $ fsplit !
+        $ move ! (2 ∷ 0 ∷ 3 ∷ []) $
+        use3 W (later (‵ (Arr (mem R) (length ys) .lies zs b o))) (slice-back 𝓤 H A W R κ′ γ₁ zs (length ys) b o) $
+        await ! tt $ fsplit ! $ drop ! $ use1 W (‵ (row R fullShare zs b o)) (whole-out 𝓤 H A W R zs b o) $
+        move ! (1 ∷ []) $ fsplit ! $ move ! (1 ∷ []) $ fsplit ! $ move ! (3 ∷ 2 ∷ 0 ∷ 1 ∷ []) $ closes-slice ! tt R ys
+        zs e b o $ at-once ! $
+        fjoin ! $ pureI ! (at-slice R (at-list γ zs) vals) (tt, (tt, tt))
+        (ap (λ (m : ℕ). sliceVal (b, o) m ∷ []) (sym e), subst (Room R) (sym e) room) $ fjoin ! $ done !
 
     -- the same at the machine value of a length m that is known to be the list's
-    pub lends-at : (m : ℕ) → length ys ≡ m → ent 𝓤 (sep 𝓤 (sem 𝓤 H A (MutSlice ℓ κ R .own (at-list γ ys) (sliceVal (b, o) m ∷ []))) (A .lft κ q))
-        (H .⇛ (ex 𝓤 (λ (γ₁ : GName). sep 𝓤 (sem 𝓤 H A (MutSlice ℓ′ κ′ R .own (at-list γ₁ ys) (sliceVal (b, o) m ∷ []))) (sem 𝓤 H A (LentAgain γ₁ ys)))))
-    lends-at m e = subst (λ (k : ℕ). ent 𝓤 (sep 𝓤 (sem 𝓤 H A (MutSlice ℓ κ R .own (at-list γ ys) (sliceVal (b, o) k ∷ []))) (A .lft κ q))
-        (H .⇛ (ex 𝓤 (λ (γ₁ : GName). sep 𝓤 (sem 𝓤 H A (MutSlice ℓ′ κ′ R .own (at-list γ₁ ys) (sliceVal (b, o) k ∷ []))) (sem 𝓤 H A (LentAgain γ₁ ys)))))) e lends-again
+    pub lends-at : (m : ℕ) → length ys ≡ m
+        → ent 𝓤 (sep 𝓤 (sem 𝓤 H A (MutSlice ℓ κ R .own (at-list γ ys) (sliceVal (b, o) m ∷ []))) (A .lft κ q))
+        (H .⇛ (ex 𝓤 (λ (γ₁ : GName). sep 𝓤 (sem 𝓤 H A (MutSlice ℓ′ κ′ R .own (at-list γ₁ ys) (sliceVal (b, o) m ∷ [])))
+        (sem 𝓤 H A (LentAgain γ₁ ys)))))
+    lends-at m e = subst (λ (k : ℕ). ent 𝓤
+        (sep 𝓤 (sem 𝓤 H A (MutSlice ℓ κ R .own (at-list γ ys) (sliceVal (b, o) k ∷ []))) (A .lft κ q))
+        (H .⇛ (ex 𝓤 (λ (γ₁ : GName). sep 𝓤 (sem 𝓤 H A (MutSlice ℓ′ κ′ R .own (at-list γ₁ ys) (sliceVal (b, o) k ∷ [])))
+        (sem 𝓤 H A (LentAgain γ₁ ys)))))) e lends-again
 
     pub comes-at : (m : ℕ) → length ys ≡ m → (γ₁ : GName) (zs : List (R .Denot)) → Room R m → length zs ≡ length ys
-        → ent 𝓤 (sep 𝓤 (A .dead κ′) (sep 𝓤 (sem 𝓤 H A (LentAgain γ₁ ys)) (sem 𝓤 H A (finally R γ₁ zs)))) (H .⇛ (sep 𝓤 (sem 𝓤 H A (MutSlice ℓ κ R .own (at-list γ zs) (sliceVal (b, o) m ∷ []))) (A .lft κ q)))
-    comes-at m e γ₁ zs room l = subst (λ (k : ℕ). ent 𝓤 (sep 𝓤 (A .dead κ′) (sep 𝓤 (sem 𝓤 H A (LentAgain γ₁ ys)) (sem 𝓤 H A (finally R γ₁ zs)))) (H .⇛ (sep 𝓤 (sem 𝓤 H A (MutSlice ℓ κ R .own (at-list γ zs) (sliceVal (b, o) k ∷ []))) (A .lft κ q)))) e
+        → ent 𝓤 (sep 𝓤 (A .dead κ′) (sep 𝓤 (sem 𝓤 H A (LentAgain γ₁ ys)) (sem 𝓤 H A (finally R γ₁ zs))))
+        (H .⇛ (sep 𝓤 (sem 𝓤 H A (MutSlice ℓ κ R .own (at-list γ zs) (sliceVal (b, o) m ∷ []))) (A .lft κ q)))
+    comes-at m e γ₁ zs room l =
+        subst (λ (k : ℕ). ent 𝓤 (sep 𝓤 (A .dead κ′) (sep 𝓤 (sem 𝓤 H A (LentAgain γ₁ ys)) (sem 𝓤 H A (finally R γ₁ zs))))
+        (H .⇛ (sep 𝓤 (sem 𝓤 H A (MutSlice ℓ κ R .own (at-list γ zs) (sliceVal (b, o) k ∷ []))) (A .lft κ q)))) e
         (comes-back γ₁ zs (subst (Room R) (sym e) room) l)
 
     -- the slice is lent as a `&κ′ [T]`, and comes back as it was
     pub shares-again : ent 𝓤 (sep 𝓤 (sem 𝓤 H A (MutSlice ℓ κ R .own (at-list γ ys) vals)) (A .lft κ q))
-        (H .⇛ (ex 𝓤 (λ (γ₁ : GName). sep 𝓤 (sem 𝓤 H A (ShrSlice ℓ′ κ′ R .own (at-list γ₁ ys) vals)) (sem 𝓤 H A (LentShared ys)))))
+        (H .⇛ (ex 𝓤 (λ (γ₁ : GName). sep 𝓤 (sem 𝓤 H A (ShrSlice ℓ′ κ′ R .own (at-list γ₁ ys) vals))
+        (sem 𝓤 H A (LentShared ys)))))
     shares-again =
-        qed W (‵ (MutSlice ℓ κ R .own (at-list γ ys) vals) ∷ ‵ (flft κ q) ∷ []) ∵ updating ! $ fsplit ! $ pureL ! (at-slice R (at-list γ ys) vals) (λ p. fsplit ! $ opens-slice ! tt R ys b o $
+        qed W (‵ (MutSlice ℓ κ R .own (at-list γ ys) vals) ∷ ‵ (flft κ q) ∷ []) ∵ updating ! $ fsplit ! $ pureL !
+        (at-slice R (at-list γ ys) vals) (λ p. fsplit ! $ opens-slice ! tt R ys b o $
         feqI ! ℕ (length ys) (length ys) refl $ fjoin ! $
-        use1 W (later (some (λ (γ₁ : GName). ‵ (ShrSlice ℓ′ κ′ R .own (at-list γ₁ ys) vals) ⊛ ‵ (flent κ′ (arr-parts (shares R) (length ys) .part fullShare ys b o))))) (lends-shr-slice 𝓤 H A W R ℓ′ κ′ fullShare ys b o (p .1)) $ await ! tt $ pick ! (λ γ₁. split ! $
-        at-once ! $ show ! (λ (γ′ : GName). sep 𝓤 (sem 𝓤 H A (ShrSlice ℓ′ κ′ R .own (at-list γ′ ys) vals)) (sem 𝓤 H A (LentShared ys))) γ₁ $ frame ! $
+        use1 W (later (some (λ (γ₁ : GName). ‵ (ShrSlice ℓ′ κ′ R .own (at-list γ₁ ys) vals) ⊛ ‵
+        (flent κ′ (arr-parts (shares R) (length ys) .part fullShare ys b o)))))
+        (lends-shr-slice 𝓤 H A W R ℓ′ κ′ fullShare ys b o (p .1)) $ await ! tt $ pick ! (λ γ₁. split ! $
+        at-once ! $ show ! (λ (γ′ : GName). sep 𝓤 (sem 𝓤 H A (ShrSlice ℓ′ κ′ R .own (at-list γ′ ys) vals))
+        (sem 𝓤 H A (LentShared ys))) γ₁ $ frame ! $
         move ! (2 ∷ 3 ∷ []) $ fjoin ! $ move ! (2 ∷ 0 ∷ []) $ fjoin ! $ move ! (1 ∷ 0 ∷ []) $ fjoin ! $ done !))
 
-    pub unshared : Room R (length ys) → ent 𝓤 (sep 𝓤 (A .dead κ′) (sem 𝓤 H A (LentShared ys))) (H .⇛ (sep 𝓤 (sem 𝓤 H A (MutSlice ℓ κ R .own (at-list γ ys) vals)) (A .lft κ q)))
+    pub unshared : Room R (length ys) → ent 𝓤 (sep 𝓤 (A .dead κ′) (sem 𝓤 H A (LentShared ys)))
+        (H .⇛ (sep 𝓤 (sem 𝓤 H A (MutSlice ℓ κ R .own (at-list γ ys) vals)) (A .lft κ q)))
     unshared room =
-        qed W (‵ (fdead κ′) ∷ ‵ (LentShared ys) ∷ []) ∵ updating ! $ move ! (1 ∷ []) $ fsplit ! $ move ! (2 ∷ 0 ∷ []) $ lent-back ! tt $ fsplit ! $ drop ! $
-        move ! (1 ∷ []) $ fsplit ! $ move ! (1 ∷ []) $ fsplit ! $ move ! (3 ∷ 2 ∷ 0 ∷ 1 ∷ []) $ closes-slice ! tt R ys ys refl b o $ at-once ! $
+        qed W (‵ (fdead κ′) ∷ ‵ (LentShared ys) ∷ []) ∵ updating ! $ move ! (1 ∷ []) $ fsplit ! $ move ! (2 ∷ 0 ∷ []) $
+        lent-back ! tt $ fsplit ! $ drop ! $
+        move ! (1 ∷ []) $ fsplit ! $ move ! (1 ∷ []) $ fsplit ! $ move ! (3 ∷ 2 ∷ 0 ∷ 1 ∷ []) $ closes-slice ! tt R ys
+        ys refl b o $ at-once ! $
         fjoin ! $ pureI ! (at-slice R (at-list γ ys) vals) (tt, (tt, tt)) (refl, room) $ fjoin ! $ done !
 
-    pub shares-at : (m : ℕ) → length ys ≡ m → ent 𝓤 (sep 𝓤 (sem 𝓤 H A (MutSlice ℓ κ R .own (at-list γ ys) (sliceVal (b, o) m ∷ []))) (A .lft κ q))
-        (H .⇛ (ex 𝓤 (λ (γ₁ : GName). sep 𝓤 (sem 𝓤 H A (ShrSlice ℓ′ κ′ R .own (at-list γ₁ ys) (sliceVal (b, o) m ∷ []))) (sem 𝓤 H A (LentShared ys)))))
-    shares-at m e = subst (λ (k : ℕ). ent 𝓤 (sep 𝓤 (sem 𝓤 H A (MutSlice ℓ κ R .own (at-list γ ys) (sliceVal (b, o) k ∷ []))) (A .lft κ q))
-        (H .⇛ (ex 𝓤 (λ (γ₁ : GName). sep 𝓤 (sem 𝓤 H A (ShrSlice ℓ′ κ′ R .own (at-list γ₁ ys) (sliceVal (b, o) k ∷ []))) (sem 𝓤 H A (LentShared ys)))))) e shares-again
+    pub shares-at : (m : ℕ) → length ys ≡ m
+        → ent 𝓤 (sep 𝓤 (sem 𝓤 H A (MutSlice ℓ κ R .own (at-list γ ys) (sliceVal (b, o) m ∷ []))) (A .lft κ q))
+        (H .⇛ (ex 𝓤 (λ (γ₁ : GName). sep 𝓤 (sem 𝓤 H A (ShrSlice ℓ′ κ′ R .own (at-list γ₁ ys) (sliceVal (b, o) m ∷ [])))
+        (sem 𝓤 H A (LentShared ys)))))
+    shares-at m e = subst (λ (k : ℕ). ent 𝓤
+        (sep 𝓤 (sem 𝓤 H A (MutSlice ℓ κ R .own (at-list γ ys) (sliceVal (b, o) k ∷ []))) (A .lft κ q))
+        (H .⇛ (ex 𝓤 (λ (γ₁ : GName). sep 𝓤 (sem 𝓤 H A (ShrSlice ℓ′ κ′ R .own (at-list γ₁ ys) (sliceVal (b, o) k ∷ [])))
+        (sem 𝓤 H A (LentShared ys)))))) e shares-again
 
-    pub unshared-at : (m : ℕ) → length ys ≡ m → Room R m → ent 𝓤 (sep 𝓤 (A .dead κ′) (sem 𝓤 H A (LentShared ys))) (H .⇛ (sep 𝓤 (sem 𝓤 H A (MutSlice ℓ κ R .own (at-list γ ys) (sliceVal (b, o) m ∷ []))) (A .lft κ q)))
-    unshared-at m e room = subst (λ (k : ℕ). ent 𝓤 (sep 𝓤 (A .dead κ′) (sem 𝓤 H A (LentShared ys))) (H .⇛ (sep 𝓤 (sem 𝓤 H A (MutSlice ℓ κ R .own (at-list γ ys) (sliceVal (b, o) k ∷ []))) (A .lft κ q)))) e (unshared (subst (Room R) (sym e) room))
+    pub unshared-at : (m : ℕ) → length ys ≡ m → Room R m
+        → ent 𝓤 (sep 𝓤 (A .dead κ′) (sem 𝓤 H A (LentShared ys)))
+        (H .⇛ (sep 𝓤 (sem 𝓤 H A (MutSlice ℓ κ R .own (at-list γ ys) (sliceVal (b, o) m ∷ []))) (A .lft κ q)))
+    unshared-at m e room = subst (λ (k : ℕ). ent 𝓤 (sep 𝓤 (A .dead κ′) (sem 𝓤 H A (LentShared ys)))
+        (H .⇛ (sep 𝓤 (sem 𝓤 H A (MutSlice ℓ κ R .own (at-list γ ys) (sliceVal (b, o) k ∷ []))) (A .lft κ q)))) e
+        (unshared (subst (Room R) (sym e) room))

@@ -29,7 +29,8 @@ entriesBytes p (i ∷ is) = (toBe32 (xor (i .tag) p) ++ i .body) ++ entriesBytes
 abbrev pub checkBytes : ℕ → ℕ → List ℕ
 checkBytes s word = toBe32 word ++ toLe32 (crc s (toBe32 word))
 
-pub bytes-cut : (is : List Item) (s p ct : ℕ) → entriesBytes p is ++ checkBytes (lastSum s p is) (xor ct (lastTag p is)) ≡ commitBytes s p is ct
+pub bytes-cut : (is : List Item) (s p ct : ℕ) → entriesBytes p is ++ checkBytes (lastSum s p is) (xor ct (lastTag p is))
+    ≡ commitBytes s p is ct
 unfolding entriesBytes lastSum lastTag commitBytes
 bytes-cut [] s p ct = refl
 bytes-cut (i ∷ is) s p ct =
@@ -46,8 +47,19 @@ meets-last (i ∷ is) s p ct = meets-last is (crc s (toBe32 (xor (i .tag) p) ++ 
 
 pub bytes-length : (is : List Item) (s p ct : ℕ) → AllMade is → length (commitBytes s p is ct) ≡ allStores is
 unfolding commitBytes entriesLength
-bytes-length [] s p ct m = rw (length-append (toBe32 (xor ct p)) (toLe32 (crc s (toBe32 (xor ct p)))), length-toBe32 (xor ct p), length-toLe32 (crc s (toBe32 (xor ct p)))) refl
+bytes-length [] s p ct m =
+    rw (
+      length-append (toBe32 (xor ct p)) (toLe32 (crc s (toBe32 (xor ct p)))),
+      length-toBe32 (xor ct p),
+      length-toLe32 (crc s (toBe32 (xor ct p))),
+    ) refl
 bytes-length (i ∷ is) s p ct m =
     let N : List ℕ = commitBytes (crc s (toBe32 (xor (i .tag) p) ++ i .body)) (i .tag) is ct in
-    let ih : length N ≡ allStores is = bytes-length is (crc s (toBe32 (xor (i .tag) p) ++ i .body)) (i .tag) ct (m .1) in
-    rw (length-append (toBe32 (xor (i .tag) p)) (i .body ++ N), length-append (i .body) N, length-toBe32 (xor (i .tag) p), ih) (omega (arith, m .0 .1))
+    let ih : length N ≡ allStores is = bytes-length is (crc s (toBe32 (xor (i .tag) p) ++ i .body)) (i .tag) ct
+    (m .1) in
+    rw (
+      length-append (toBe32 (xor (i .tag) p)) (i .body ++ N),
+      length-append (i .body) N,
+      length-toBe32 (xor (i .tag) p),
+      ih,
+    ) (omega (arith, m .0 .1))

@@ -16,7 +16,8 @@ foldE dat t [] = t
 foldE dat t (e ∷ es) = foldE dat (stepE t dat e) es
 
 each-cons : (n : ℕ) (e : Entry) (es : List Entry) (dat : List ℕ) (t : Trio)
-    → eachOf (suc n) (e ∷ es) dat (t .b0) (t .b1) (t .st) ≡ eachOf n es dat (stepE t dat e .b0) (stepE t dat e .b1) (stepE t dat e .st)
+    → eachOf (suc n) (e ∷ es) dat (t .b0) (t .b1) (t .st) ≡ eachOf n es dat (stepE t dat e .b0) (stepE t dat e .b1)
+    (stepE t dat e .st)
 unfolding eachOf
 each-cons zero e es dat t = refl
 each-cons (suc n) e es dat t = ap (λ (u : Trio). stepE u dat (entryAt es n)) (each-cons n e es dat t)
@@ -28,21 +29,26 @@ pass-fold (e ∷ es) dat t = each-cons (length es) e es dat t ∙ pass-fold es d
 
 -- ---- a refused state stays
 module _ (second : Bool) (r : Refusal) (b0 b1 : List ℕ) where
-  pub fold-refused : (dat : List ℕ) (es : List Entry) → foldE dat (trio (state second (Refused r)) b0 b1) es ≡ trio (state second (Refused r)) b0 b1
+  pub fold-refused : (dat : List ℕ) (es : List Entry) → foldE dat (trio (state second (Refused r)) b0 b1) es
+      ≡ trio (state second (Refused r)) b0 b1
   unfolding stepOf
   fold-refused dat [] = refl
   fold-refused dat (e ∷ es) = fold-refused dat es
 
-  pub laid-refused : (es : List Entry) (dat : List ℕ) → sealT (passOf es dat (trio (state second (Refused r)) b0 b1)) ≡ trio (state second (Refused r)) b0 b1
+  pub laid-refused : (es : List Entry) (dat : List ℕ) → sealT (passOf es dat (trio (state second (Refused r)) b0 b1))
+      ≡ trio (state second (Refused r)) b0 b1
   unfolding sealedOf
   laid-refused es dat = ap sealT (pass-fold es dat (trio (state second (Refused r)) b0 b1) ∙ fold-refused dat es)
 
   pub decided-refused : (g : Geometry) (n : ℕ) (es : List Entry) (dat : List ℕ)
-      → sealT (passOf es dat (decideT g n (trio (state second (Refused r)) b0 b1))) ≡ trio (state second (Refused r)) b0 b1
+      → sealT (passOf es dat (decideT g n (trio (state second (Refused r)) b0 b1)))
+      ≡ trio (state second (Refused r)) b0 b1
   unfolding decidedOf
   decided-refused g n es dat = laid-refused es dat
 
   pub all-refused : (g : Geometry) (n : ℕ) (es : List Entry) (dat : List ℕ)
-      → sealT (passOf es dat (decideT g n (passOf es dat (trio (state second (Refused r)) b0 b1)))) ≡ trio (state second (Refused r)) b0 b1
+      → sealT (passOf es dat (decideT g n (passOf es dat (trio (state second (Refused r)) b0 b1))))
+      ≡ trio (state second (Refused r)) b0 b1
   all-refused g n es dat =
-      ap (λ (t : Trio). sealT (passOf es dat (decideT g n t))) (pass-fold es dat (trio (state second (Refused r)) b0 b1) ∙ fold-refused dat es) ∙ decided-refused g n es dat
+      ap (λ (t : Trio). sealT (passOf es dat (decideT g n t))) (pass-fold es dat (trio (state second (Refused r)) b0 b1)
+      ∙ fold-refused dat es) ∙ decided-refused g n es dat

@@ -1,5 +1,5 @@
--- The second pass lays the entries' bytes into the block that answers, and the check behind them makes the commit's bytes of them.
--- Assumes nothing.
+-- The second pass lays the entries' bytes into the block that answers, and the check behind them makes the commit's
+-- bytes of them. Assumes nothing.
 use mathlib.Core.Path.{_≡_, refl, ap, _∙_}
 use mathlib.Core.Bool.{Bool, true, false, cond}
 use mathlib.Core.List.{List, [], _∷_, _++_}
@@ -29,48 +29,64 @@ abbrev pub Tagged : List Entry → Type 0
 Tagged [] = Unit {0}
 Tagged (e ∷ es) = (mkTag (e .kind) (e .id) (e .len) ≡ tagOf (e .kind) (e .id) (e .len)) × Tagged es
 
-pub judged-tagged : (dat : List ℕ) (es : List Entry) (i c c′ : ℕ) → c ≤ mostSlots → judge dat i c es ≡ good c′ → Tagged es
+pub judged-tagged : (dat : List ℕ) (es : List Entry) (i c c′ : ℕ) → c ≤ mostSlots → judge dat i c es ≡ good c′
+    → Tagged es
 unfolding judge
 judged-tagged dat [] i c c′ low h = tt
-judged-tagged dat (e ∷ es) i c c′ low h = go (entryHolds dat c e) refl h (judged-tagged dat es (suc i) (countAfter (entryRule e) c) c′)
+judged-tagged dat (e ∷ es) i c c′ low h = go (entryHolds dat c e) refl h
+    (judged-tagged dat es (suc i) (countAfter (entryRule e) c) c′)
   where
-    go : (b : Bool) → entryHolds dat c e ≡ b → cond b (judge dat (suc i) (countAfter (entryRule e) c) es) (bad i) ≡ good c′
-        → (countAfter (entryRule e) c ≤ mostSlots → judge dat (suc i) (countAfter (entryRule e) c) es ≡ good c′ → Tagged es) → Tagged (e ∷ es)
+    go : (b : Bool) → entryHolds dat c e ≡ b → cond b (judge dat (suc i) (countAfter (entryRule e) c) es) (bad i)
+        ≡ good c′
+        → (countAfter (entryRule e) c ≤ mostSlots → judge dat (suc i) (countAfter (entryRule e) c) es ≡ good c′
+        → Tagged es) → Tagged (e ∷ es)
     go false k h on = absurd (good-bad i c′ h)
     go true k h on = let g = good-entry dat c e low k in (tag-is (e .kind) (e .id) (e .len) (g .fields), on (g .few) h)
 
 -- one entry, laid
-laid-item : (dat : List ℕ) (l : Laying) (b : List ℕ) (e : Entry) → mkTag (e .kind) (e .id) (e .len) ≡ tagOf (e .kind) (e .id) (e .len)
+laid-item : (dat : List ℕ) (l : Laying) (b : List ℕ) (e : Entry)
+    → mkTag (e .kind) (e .id) (e .len) ≡ tagOf (e .kind) (e .id) (e .len)
     → laidOf l b dat (e .kind) (e .id) (e .off) (e .len)
-    ≡ laidTo l (entryItem dat e .tag) (putsOf (laid (l .run) b) (toBe32 (xor (entryItem dat e .tag) (l .prev)) ++ entryItem dat e .body))
+    ≡ laidTo l (entryItem dat e .tag)
+    (putsOf (laid (l .run) b) (toBe32 (xor (entryItem dat e .tag) (l .prev)) ++ entryItem dat e .body))
 unfolding laidOf
 laid-item dat l b e h = rw (h, body-is dat e)
 
 module _ (dat : List ℕ) where
   -- what the pass leaves of the state and the block
   abbrev pub allLaid : Laying → List ℕ → List Entry → Onto
-  allLaid l b es = laidTo l (lastTag (l .prev) (itemsOf dat es)) (putsOf (laid (l .run) b) (entriesBytes (l .prev) (itemsOf dat es)))
+  allLaid l b es = laidTo l (lastTag (l .prev) (itemsOf dat es))
+      (putsOf (laid (l .run) b) (entriesBytes (l .prev) (itemsOf dat es)))
 
-  pub lay-first : (es : List Entry) (l : Laying) (b0 b1 : List ℕ) → Tagged es → foldE dat (trio (state false (Lay l)) b0 b1) es ≡ into false b0 b1 (allLaid l b0 es)
+  pub lay-first : (es : List Entry) (l : Laying) (b0 b1 : List ℕ) → Tagged es
+      → foldE dat (trio (state false (Lay l)) b0 b1) es ≡ into false b0 b1 (allLaid l b0 es)
   unfolding stepOf lastTag entriesBytes putsOf
   lay-first [] l b0 b1 h = refl
   lay-first (e ∷ es) l b0 b1 h =
       let i : Item = entryItem dat e in
-      let s : Laid = putsOf (laid (l .run) b0) (toBe32 (xor (entryItem dat e .tag) (l .prev)) ++ entryItem dat e .body) in
+      let s : Laid = putsOf (laid (l .run) b0) (toBe32 (xor (entryItem dat e .tag) (l .prev))
+      ++ entryItem dat e .body) in
       rw (laid-item dat l b0 e (h .0)) (lay-first es (laidTo l (i .tag) s .to) (s .block) b1 (h .1))
-      ∙ ap (λ (u : Laid). into false b0 b1 (laidTo l (lastTag (i .tag) (itemsOf dat es)) u)) (puts-app (toBe32 (xor (i .tag) (l .prev)) ++ i .body) (entriesBytes (i .tag) (itemsOf dat es)) (laid (l .run) b0))
+      ∙ ap (λ (u : Laid). into false b0 b1 (laidTo l (lastTag (i .tag) (itemsOf dat es)) u))
+      (puts-app (toBe32 (xor (i .tag) (l .prev)) ++ i .body) (entriesBytes (i .tag) (itemsOf dat es))
+      (laid (l .run) b0))
 
-  pub lay-second : (es : List Entry) (l : Laying) (b0 b1 : List ℕ) → Tagged es → foldE dat (trio (state true (Lay l)) b0 b1) es ≡ into true b0 b1 (allLaid l b1 es)
+  pub lay-second : (es : List Entry) (l : Laying) (b0 b1 : List ℕ) → Tagged es
+      → foldE dat (trio (state true (Lay l)) b0 b1) es ≡ into true b0 b1 (allLaid l b1 es)
   unfolding stepOf lastTag entriesBytes putsOf
   lay-second [] l b0 b1 h = refl
   lay-second (e ∷ es) l b0 b1 h =
       let i : Item = entryItem dat e in
-      let s : Laid = putsOf (laid (l .run) b1) (toBe32 (xor (entryItem dat e .tag) (l .prev)) ++ entryItem dat e .body) in
+      let s : Laid = putsOf (laid (l .run) b1) (toBe32 (xor (entryItem dat e .tag) (l .prev))
+      ++ entryItem dat e .body) in
       rw (laid-item dat l b1 e (h .0)) (lay-second es (laidTo l (i .tag) s .to) b0 (s .block) (h .1))
-      ∙ ap (λ (u : Laid). into true b0 b1 (laidTo l (lastTag (i .tag) (itemsOf dat es)) u)) (puts-app (toBe32 (xor (i .tag) (l .prev)) ++ i .body) (entriesBytes (i .tag) (itemsOf dat es)) (laid (l .run) b1))
+      ∙ ap (λ (u : Laid). into true b0 b1 (laidTo l (lastTag (i .tag) (itemsOf dat es)) u))
+      (puts-app (toBe32 (xor (i .tag) (l .prev)) ++ i .body) (entriesBytes (i .tag) (itemsOf dat es))
+      (laid (l .run) b1))
 
   -- ---- and the check: s and p are the checksum and the tag before the commit, ct its check tag
-  module _ (es : List Entry) (l : Laying) (s p ct : ℕ) (ep : l .prev ≡ p) (ew : l .word ≡ xor ct (lastTag p (itemsOf dat es)))
+  module _ (es : List Entry) (l : Laying) (s p ct : ℕ) (ep : l .prev ≡ p)
+      (ew : l .word ≡ xor ct (lastTag p (itemsOf dat es)))
       (ec : l .sum ≡ crc (lastSum s p (itemsOf dat es)) (toBe32 (xor ct (lastTag p (itemsOf dat es))))) where
     -- what all of it leaves
     abbrev pub done : List ℕ → Onto
@@ -82,11 +98,14 @@ module _ (dat : List ℕ) where
         let I : List Item = itemsOf dat es in
         let C : List ℕ = checkBytes (lastSum s p (itemsOf dat es)) (xor ct (lastTag p (itemsOf dat es))) in
         let ek : toBe32 (l .word) ++ toLe32 (l .sum) ≡ C = λ k. toBe32 (ew k) ++ toLe32 (ec k) in
-        ap (λ (u : List ℕ). laidTo l (lastTag (l .prev) I) (putsOf (putsOf (laid (l .run) b) (entriesBytes (l .prev) I)) u)) ek
+        ap (λ (u : List ℕ). laidTo l (lastTag (l .prev) I)
+        (putsOf (putsOf (laid (l .run) b) (entriesBytes (l .prev) I)) u)) ek
         ∙ ap (λ (q : ℕ). laidTo l (lastTag q I) (putsOf (putsOf (laid (l .run) b) (entriesBytes q I)) C)) ep
-        ∙ ap (laidTo l (lastTag p I)) (puts-app (entriesBytes p I) C (laid (l .run) b) ∙ ap (putsOf (laid (l .run) b)) (bytes-cut I s p ct))
+        ∙ ap (laidTo l (lastTag p I)) (puts-app (entriesBytes p I) C (laid (l .run) b)
+        ∙ ap (putsOf (laid (l .run) b)) (bytes-cut I s p ct))
 
-    pub sealed-done : (w : Bool) (b0 b1 : List ℕ) → sealT (into w b0 b1 (allLaid l (blockAt w b0 b1) es)) ≡ into w b0 b1 (done (blockAt w b0 b1))
+    pub sealed-done : (w : Bool) (b0 b1 : List ℕ) → sealT (into w b0 b1 (allLaid l (blockAt w b0 b1) es))
+        ≡ into w b0 b1 (done (blockAt w b0 b1))
     unfolding sealedOf
     sealed-done false b0 b1 = ap (into false b0 b1) (checked-done b0)
     sealed-done true b0 b1 = ap (into true b0 b1) (checked-done b1)

@@ -22,20 +22,23 @@ module _ (es : List Entry) (dat b0 b1 : List ℕ) (st : State) where
   unfolding eachOf
   each-start = refl
 
-  pub each-step : (i : ℕ) (s : State) (z0 z1 : List ℕ) (r : State) (y0 y1 : List ℕ) → trio s z0 z1 ≡ eachOf i es dat b0 b1 st
+  pub each-step : (i : ℕ) (s : State) (z0 z1 : List ℕ) (r : State) (y0 y1 : List ℕ)
+      → trio s z0 z1 ≡ eachOf i es dat b0 b1 st
       → trio r y0 y1 ≡ stepE (trio s z0 z1) dat (entryAt es i) → trio r y0 y1 ≡ eachOf (suc i) es dat b0 b1 st
   unfolding eachOf
   each-step i s z0 z1 r y0 y1 e said = said ∙ ap (λ (t : Trio). stepE t dat (entryAt es i)) e
 
 -- ---- demand 3, of what a call left
-stopped : (g : Geometry) (b0 b1 : List ℕ) (n0 n1 count seed : ℕ) (es : List Entry) (dat : List ℕ) (n : ℕ) (x0 y0 : List ℕ)
+stopped : (g : Geometry) (b0 b1 : List ℕ) (n0 n1 count seed : ℕ) (es : List Entry) (dat : List ℕ) (n : ℕ)
+    (x0 y0 : List ℕ)
     → x0 ≡ commitImages g b0 b1 n0 n1 count seed es dat n .b0 → y0 ≡ commitImages g b0 b1 n0 n1 count seed es dat n .b1
     → CommitStopped g b0 b1 n0 n1 count seed es dat x0 y0
 stopped g b0 b1 n0 n1 count seed es dat n x0 y0 ex ey = rw (ex, ey) (stopped-commit g b0 b1 n0 n1 count seed es dat n)
 
 -- ---- the steps, one after the other
 module _ (b0 b1 : List ℕ) (es : List Entry) (dat : List ℕ) (g : Geometry) (n0 n1 count seed : ℕ) where
-  pub run-glue : (stores : ℕ) (r0 r1 : State) (x1 y1 : List ℕ) (r2 r3 : State) (x3 y3 : List ℕ) (r4 : State) (x4 y4 : List ℕ)
+  pub run-glue : (stores : ℕ) (r0 r1 : State) (x1 y1 : List ℕ) (r2 r3 : State) (x3 y3 : List ℕ) (r4 : State)
+      (x4 y4 : List ℕ)
       → r0 ≡ begunOf g b0 b1 n0 n1 count seed (length es) dat
       → trio r1 x1 y1 ≡ eachOf (length es) es dat b0 b1 r0
       → r2 ≡ decidedOf r1 g x1 y1 stores
@@ -44,7 +47,8 @@ module _ (b0 b1 : List ℕ) (es : List Entry) (dat : List ℕ) (g : Geometry) (n
       → trio r4 x4 y4 ≡ ranOf g b0 b1 n0 n1 count seed es dat stores
   unfolding ranOf
   run-glue stores r0 r1 x1 y1 r2 r3 x3 y3 r4 x4 y4 e0 e1 e2 e3 e4 =
-      let f1 : trio r1 x1 y1 ≡ passOf es dat (trio (begunOf g b0 b1 n0 n1 count seed (length es) dat) b0 b1) = e1 ∙ ap (λ (s : State). eachOf (length es) es dat b0 b1 s) e0 in
+      let f1 : trio r1 x1 y1 ≡ passOf es dat (trio (begunOf g b0 b1 n0 n1 count seed (length es) dat) b0 b1) =
+      e1 ∙ ap (λ (s : State). eachOf (length es) es dat b0 b1 s) e0 in
       let f2 : trio r2 x1 y1 ≡ decideT g stores (trio r1 x1 y1) = ap (λ (s : State). trio s x1 y1) e2 in
       let f3 : trio r3 x3 y3 ≡ passOf es dat (decideT g stores (trio r1 x1 y1)) = e3 ∙ ap (passOf es dat) f2 in
       e4 ∙ ap sealT (f3 ∙ ap (λ (t : Trio). passOf es dat (decideT g stores t)) f1)
@@ -56,10 +60,13 @@ module _ (b0 b1 : List ℕ) (es : List Entry) (dat : List ℕ) (g : Geometry) (n
       × CommitLeaves g b0 b1 n0 n1 count seed es dat x0 y0
   unfolding commitOf commitImages
   commit-glue n r0 x0 y0 r1 en e0 e1 =
-      let e : trio r0 x0 y0 ≡ ranOf g b0 b1 n0 n1 count seed es dat unlimited = e0 ∙ ap (λ (k : ℕ). ranOf g b0 b1 n0 n1 count seed es dat k) en in
+      let e : trio r0 x0 y0 ≡ ranOf g b0 b1 n0 n1 count seed es dat unlimited =
+      e0 ∙ ap (λ (k : ℕ). ranOf g b0 b1 n0 n1 count seed es dat k) en in
       let t = ran g b0 b1 n0 n1 count seed es dat unlimited in
-      let ex : x0 ≡ commitImages g b0 b1 n0 n1 count seed es dat unlimited .b0 = ap (λ (u : Trio). u .b0) e ∙ t .first in
-      let ey : y0 ≡ commitImages g b0 b1 n0 n1 count seed es dat unlimited .b1 = ap (λ (u : Trio). u .b1) e ∙ t .second in
+      let ex : x0 ≡ commitImages g b0 b1 n0 n1 count seed es dat unlimited .b0 =
+      ap (λ (u : Trio). u .b0) e ∙ t .first in
+      let ey : y0 ≡ commitImages g b0 b1 n0 n1 count seed es dat unlimited .b1 =
+      ap (λ (u : Trio). u .b1) e ∙ t .second in
       let answers : r1 ≡ commitOf g b0 b1 n0 n1 count seed es dat =
       e1 ∙ ap (λ (u : Trio). answeredOf (u .st) (fetchOf g x0 y0 n0 n1 count seed)) e
       ∙ t .answers (fetchOf g x0 y0 n0 n1 count seed)
@@ -75,7 +82,8 @@ module _ (b0 b1 : List ℕ) (es : List Entry) (dat : List ℕ) (g : Geometry) (n
   stores-glue stores r0 x0 y0 r1 e0 e1 =
       let t = ran g b0 b1 n0 n1 count seed es dat stores in
       let ex : x0 ≡ commitImages g b0 b1 n0 n1 count seed es dat stores .b0 = ap (λ (u : Trio). u .b0) e0 ∙ t .first in
-      let ey : y0 ≡ commitImages g b0 b1 n0 n1 count seed es dat stores .b1 = ap (λ (u : Trio). u .b1) e0 ∙ t .second in (
+      let ey : y0 ≡ commitImages g b0 b1 n0 n1 count seed es dat stores .b1 = ap (λ (u : Trio). u .b1) e0
+      ∙ t .second in (
         e1 ∙ ap (λ (u : Trio). madeOf (u .st) stores) e0 ∙ t .made,
         (ex, ey, stopped g b0 b1 n0 n1 count seed es dat stores x0 y0 ex ey),
       )

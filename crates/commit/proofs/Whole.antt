@@ -1,4 +1,5 @@
--- The steps of a commit, all of them, leave what format's verdict says: the images, the answer, and the number of stores. Assumes nothing.
+-- The steps of a commit, all of them, leave what format's verdict says: the images, the answer, and the number of
+-- stores. Assumes nothing.
 use mathlib.Core.Path.{_≡_, refl, sym, ap, _∙_, subst}
 use mathlib.Core.Bool.{Bool, true, false, not, cond, _&&_}
 use mathlib.Core.List.{List}
@@ -17,7 +18,9 @@ use Rattle.format.specs.Regular.{Regular}
 use Rattle.format.specs.Commit.{Item, checkTag, commitBytes}
 use Rattle.format.specs.Stores.{entriesLength, appending, coincides}
 use Rattle.format.specs.Entries.{itemsOf, Judged, judge, bad, good}
-use Rattle.format.specs.Writer.{roundedEnd, checkSize, checkAt, allStores, mostData, mostEntries, commitFits, roomClean, Verdict, refused, accepted, blockAt, placed, judgedBy, appended, isSecond, fetchedThen, verdictOf, imagesAfter, storedTo, answerOf, storesMade}
+use Rattle.format.specs.Writer.{roundedEnd, checkSize, checkAt, allStores, mostData, mostEntries, commitFits, roomClean}
+use Rattle.format.specs.Writer.{Verdict, refused, accepted, blockAt, placed, judgedBy, appended, isSecond, fetchedThen}
+use Rattle.format.specs.Writer.{verdictOf, imagesAfter, storedTo, answerOf, storesMade}
 use Rattle.format.specs.declared.Geometry.{Geometry}
 use Rattle.format.specs.declared.LfsMdir.{LfsMdir}
 use Rattle.format.specs.declared.Entry.{Entry}
@@ -36,7 +39,8 @@ use Rattle.theory.specs.Rules.JudgedEntries.{judged-good}
 use Rattle.theory.specs.Commit.AcceptedVerdict.{fits-prog, fits-geometry, rounded}
 use Rattle.commit_lay.specs.Laid.{Laid, laid, putsOf}
 use Rattle.commit_lay.proofs.Pasted.{runAt, puts-paste}
-use Rattle.commit_steps.specs.State.{Trio, trio, state, refusedState, judgingFrom, startedOf, fetchedBy, begunOf, laidTo, into, placedOf, decidedOf, answeredOf, madeOf}
+use Rattle.commit_steps.specs.State.{Trio, trio, state, refusedState, judgingFrom, startedOf, fetchedBy, begunOf}
+use Rattle.commit_steps.specs.State.{laidTo, into, placedOf, decidedOf, answeredOf, madeOf}
 use Rattle.commit_steps.specs.declared.State.{State}
 use Rattle.commit_steps.specs.declared.Judging.{Judging}
 use Rattle.commit_steps.specs.declared.Laying.{Laying}
@@ -55,7 +59,8 @@ pub record Ran (b0 b1 : List ℕ) (n : ℕ) (v : Verdict) (t : Trio) : Type 0 wh
   pub answers : (f : Fetched) → answeredOf (t .st) f ≡ answerOf f v
   pub made : madeOf (t .st) n ≡ storesMade n v
 
-ran-refused : (b0 b1 : List ℕ) (n : ℕ) (w : Bool) (r : Refusal) (t : Trio) → t ≡ trio (state w (Refused r)) b0 b1 → Ran b0 b1 n (refused r) t
+ran-refused : (b0 b1 : List ℕ) (n : ℕ) (w : Bool) (r : Refusal) (t : Trio) → t ≡ trio (state w (Refused r)) b0 b1
+    → Ran b0 b1 n (refused r) t
 unfolding answeredOf madeOf
 ran-refused b0 b1 n w r t e =
     record {
@@ -70,17 +75,20 @@ ran-refused b0 b1 n w r t e =
 made-count : (n k : ℕ) → n - (n - k) ≡ min n k
 made-count n k = omega arith
 
-module _ (b : List ℕ) (is : List Item) (size n : ℕ) (made : AllMade is) (room : logEnd (log b) + allStores is ≤ length b) where
+module _ (b : List ℕ) (is : List Item) (size n : ℕ) (made : AllMade is)
+    (room : logEnd (log b) + allStores is ≤ length b) where
   stores-are : putsOf (laid (runAt (logEnd (log b)) n) b) (commitBytes allOnes (logEndTag (log b)) is (checkTag size))
       ≡ laid (runAt (logEnd (log b) + min n (allStores is)) (n - allStores is)) (storedTo b is size n)
   unfolding appending
   stores-are =
-      let l : length (commitBytes allOnes (logEndTag (log b)) is (checkTag size)) ≡ allStores is = bytes-length is allOnes (logEndTag (log b)) (checkTag size) made in
+      let l : length (commitBytes allOnes (logEndTag (log b)) is (checkTag size)) ≡ allStores is =
+      bytes-length is allOnes (logEndTag (log b)) (checkTag size) made in
       puts-paste (commitBytes allOnes (logEndTag (log b)) is (checkTag size)) (logEnd (log b)) n b (omega arith) ∙ rw l
 
 -- the block at place w holds them
 ran-accepted : (b0 b1 : List ℕ) (n : ℕ) (w : Bool) (is : List Item) (size a : ℕ) (l : Laying) (p : ℕ) (t : Trio)
-    → t ≡ into w b0 b1 (laidTo l p (laid (runAt a (n - allStores is)) (storedTo (blockAt w b0 b1) is size n))) → Ran b0 b1 n (accepted w is size) t
+    → t ≡ into w b0 b1 (laidTo l p (laid (runAt a (n - allStores is)) (storedTo (blockAt w b0 b1) is size n)))
+    → Ran b0 b1 n (accepted w is size) t
 unfolding answeredOf madeOf
 ran-accepted b0 b1 n false is size a l p t e =
     record {
@@ -127,44 +135,62 @@ module _ (dat : List ℕ) (entries : List Entry) (w : Bool) (b0 b1 : List ℕ) (
 
   -- what the first pass starts from
   abbrev J0 : Judging
-  J0 = record { off = logEnd (log B); etag = logEndTag (log B); index = 0; count = countOf 0 (log B); size = 0; prev = logEndTag (log B); sum = allOnes }
+  J0 = record {
+    off = logEnd (log B);
+    etag = logEndTag (log B);
+    index = 0;
+    count = countOf 0 (log B);
+    size = 0;
+    prev = logEndTag (log B);
+    sum = allOnes;
+  }
 
   abbrev tests : Bool → Bool → Bool → Phase
   tests x y z = cond x (Refused NoSpace) (cond (not y) (Refused Unclean) (cond z (Refused Coincidence) (Lay laying)))
 
   abbrev verdict : Bool → Bool → Bool → Verdict
-  verdict x y z = cond x (refused NoSpace) (cond (not y) (refused Unclean) (cond z (refused Coincidence) (accepted w I (checkSize prog (checkAt (log B) I)))))
+  verdict x y z = cond x (refused NoSpace)
+      (cond (not y) (refused Unclean)
+      (cond z (refused Coincidence) (accepted w I (checkSize prog (checkAt (log B) I)))))
 
   abbrev laidBy : Phase → Trio
   laidBy p = sealT (passOf entries dat (trio (state w p) b0 b1))
 
   laid-all : Tagged entries → AllMade I → logEnd (log B) + allStores I ≤ length B
-      → laidBy (Lay laying) ≡ into w b0 b1 (laidTo laying (lastTag (logEndTag (log B)) I) (laid (runAt (logEnd (log B) + min n (allStores I)) (n - allStores I)) (storedTo B I (checkSize prog (checkAt (log B) I)) n)))
+      → laidBy (Lay laying) ≡ into w b0 b1 (laidTo laying (lastTag (logEndTag (log B)) I)
+      (laid (runAt (logEnd (log B) + min n (allStores I)) (n - allStores I))
+      (storedTo B I (checkSize prog (checkAt (log B) I)) n)))
   laid-all h m room =
       ap sealT (pass-fold entries dat (trio (state w (Lay laying)) b0 b1) ∙ lay-both dat entries laying w b0 b1 h)
       ∙ sealed-done dat entries laying allOnes (logEndTag (log B)) ct refl refl refl w b0 b1
-      ∙ ap (λ (u : Laid). into w b0 b1 (laidTo laying (lastTag (logEndTag (log B)) I) u)) (stores-are B I (checkSize prog (checkAt (log B) I)) n m room)
+      ∙ ap (λ (u : Laid). into w b0 b1 (laidTo laying (lastTag (logEndTag (log B)) I) u))
+      (stores-are B I (checkSize prog (checkAt (log B) I)) n m room)
 
   placed-phase : (len c : ℕ) → placedOf (after J0 I len c) prog B n
-      ≡ tests (ltb (length B) (roundedEnd prog (checkAt (log B) I))) (roomClean prog B (logEnd (log B)) (logEndTag (log B))) (coincides allOnes (logEndTag (log B)) I ct)
+      ≡ tests (ltb (length B) (roundedEnd prog (checkAt (log B) I)))
+      (roomClean prog B (logEnd (log B)) (logEndTag (log B))) (coincides allOnes (logEndTag (log B)) I ct)
   unfolding placedOf
   placed-phase len c = rw (zero-add (entriesLength I), meets-last I allOnes (logEndTag (log B)) ct)
 
   module _ (some : 4 ≤ prog) (h : Tagged entries) (m : AllMade I) where
-    ran-tests : (x y z : Bool) → ltb (length B) (roundedEnd prog (checkAt (log B) I)) ≡ x → Ran b0 b1 n (verdict x y z) (laidBy (tests x y z))
+    ran-tests : (x y z : Bool) → ltb (length B) (roundedEnd prog (checkAt (log B) I)) ≡ x
+        → Ran b0 b1 n (verdict x y z) (laidBy (tests x y z))
     ran-tests true y z e = ran-refused b0 b1 n w NoSpace _ (laid-refused w NoSpace b0 b1 entries dat)
     ran-tests false false z e = ran-refused b0 b1 n w Unclean _ (laid-refused w Unclean b0 b1 entries dat)
     ran-tests false true true e = ran-refused b0 b1 n w Coincidence _ (laid-refused w Coincidence b0 b1 entries dat)
     ran-tests false true false e =
-        let fit : roundedEnd prog (checkAt (log B) I) ≤ length B = ltb-false (length B) (roundedEnd prog (checkAt (log B) I)) e in
-        ran-accepted b0 b1 n w I (checkSize prog (checkAt (log B) I)) (logEnd (log B) + min n (allStores I)) laying (lastTag (logEndTag (log B)) I) _
+        let fit : roundedEnd prog (checkAt (log B) I) ≤ length B =
+        ltb-false (length B) (roundedEnd prog (checkAt (log B) I)) e in
+        ran-accepted b0 b1 n w I (checkSize prog (checkAt (log B) I)) (logEnd (log B) + min n (allStores I)) laying
+        (lastTag (logEndTag (log B)) I) _
         (laid-all h m (omega (arith, rounded prog (checkAt (log B) I) some .0)))
 
     ran-placed : (len c : ℕ) → Ran b0 b1 n (placed prog w B (log B) I) (laidBy (placedOf (after J0 I len c) prog B n))
     unfolding placed
     ran-placed len c =
         subst (λ (p : Phase). Ran b0 b1 n (placed prog w B (log B) I) (laidBy p)) (sym (placed-phase len c))
-        (ran-tests (ltb (length B) (roundedEnd prog (checkAt (log B) I))) (roomClean prog B (logEnd (log B)) (logEndTag (log B))) (coincides allOnes (logEndTag (log B)) I ct) refl)
+        (ran-tests (ltb (length B) (roundedEnd prog (checkAt (log B) I)))
+        (roomClean prog B (logEnd (log B)) (logEndTag (log B))) (coincides allOnes (logEndTag (log B)) I ct) refl)
 
 -- ---- all of it
 module _ (g : Geometry) (b0 b1 : List ℕ) (n0 n1 count seed : ℕ) (entries : List Entry) (dat : List ℕ) (n : ℕ) where
@@ -177,7 +203,9 @@ module _ (g : Geometry) (b0 b1 : List ℕ) (n0 n1 count seed : ℕ) (entries : L
   module _ (fits : commitFits g (length b0) (length b1) n0 n1 (length entries) (length dat) ≡ true) where
     few : length entries ≤ 8_192
     unfolding commitFits
-    few = leb-true (length entries) mostEntries (both-true (pairFits g (length b0) (length b1) n0 n1 && leb (length dat) mostData) (leb (length entries) mostEntries) fits .1)
+    few = leb-true (length entries) mostEntries
+        (both-true (pairFits g (length b0) (length b1) n0 n1 && leb (length dat) mostData)
+        (leb (length entries) mostEntries) fits .1)
 
     geometry : geometryFits g ≡ true
     geometry = fits-geometry g (length b0) (length b1) n0 n1 (length entries) (length dat) fits
@@ -185,57 +213,85 @@ module _ (g : Geometry) (b0 b1 : List ℕ) (n0 n1 count seed : ℕ) (entries : L
     -- the block at place w answers, its log is regular
     module _ (w : Bool) (regular : Regular (log (blockAt w b0 b1)) ≡ true) where
       low : countOf 0 (log (blockAt w b0 b1)) ≤ mostSlots
-      low = subst (λ (k : ℕ). k ≤ mostSlots) (sym (regular-slots (log (blockAt w b0 b1)) regular)) (regular-count (blockAt w b0 b1) (log (blockAt w b0 b1)) refl regular)
+      low = subst (λ (k : ℕ). k ≤ mostSlots) (sym (regular-slots (log (blockAt w b0 b1)) regular))
+          (regular-count (blockAt w b0 b1) (log (blockAt w b0 b1)) refl regular)
 
       abbrev start : Judging
       start = J0 dat entries w b0 b1 n (g .«prog_size»)
 
-      decided-good : (c : ℕ) → decideT g n (trio (state w (Judge (after start (itemsOf dat entries) (length entries) c))) b0 b1)
-          ≡ trio (state w (placedOf (after start (itemsOf dat entries) (length entries) c) (g .«prog_size») (blockAt w b0 b1) n)) b0 b1
+      decided-good : (c : ℕ) → decideT g n
+          (trio (state w (Judge (after start (itemsOf dat entries) (length entries) c))) b0 b1)
+          ≡ trio (state w (placedOf (after start (itemsOf dat entries) (length entries) c) (g .«prog_size»)
+          (blockAt w b0 b1) n)) b0 b1
       unfolding decidedOf
       decided-good c = rw geometry
 
       ran-judged : (j : Judged) → judge dat 0 (countOf 0 (log (blockAt w b0 b1))) entries ≡ j
-          → Ran b0 b1 n (judgedBy j (placed (g .«prog_size») w (blockAt w b0 b1) (log (blockAt w b0 b1)) (itemsOf dat entries)))
+          → Ran b0 b1 n (judgedBy j (placed (g .«prog_size») w (blockAt w b0 b1) (log (blockAt w b0 b1))
+          (itemsOf dat entries)))
           (decidedT (trio (state w (phaseOf j start (itemsOf dat entries) (length entries))) b0 b1))
       ran-judged (bad k) e = ran-refused b0 b1 n w (BadEntry k) _ (decided-refused w (BadEntry k) b0 b1 g n entries dat)
       ran-judged (good c) e =
           let good-all = judged-good dat entries 0 (countOf 0 (log (blockAt w b0 b1))) c low e in
-          subst (λ (t : Trio). Ran b0 b1 n (placed (g .«prog_size») w (blockAt w b0 b1) (log (blockAt w b0 b1)) (itemsOf dat entries)) (sealT (passOf entries dat t))) (sym (decided-good c))
-          (ran-placed dat entries w b0 b1 n (g .«prog_size») (fits-prog g geometry .0) (judged-tagged dat entries 0 (countOf 0 (log (blockAt w b0 b1))) c low e) (good-all .made) (length entries) c)
+          subst (λ (t : Trio). Ran b0 b1 n (placed (g .«prog_size») w (blockAt w b0 b1) (log (blockAt w b0 b1))
+          (itemsOf dat entries)) (sealT (passOf entries dat t))) (sym (decided-good c))
+          (ran-placed dat entries w b0 b1 n (g .«prog_size») (fits-prog g geometry .0)
+          (judged-tagged dat entries 0 (countOf 0 (log (blockAt w b0 b1))) c low e) (good-all .made) (length entries) c)
 
-      ran-regular : Ran b0 b1 n (judgedBy (judge dat 0 (countOf 0 (log (blockAt w b0 b1))) entries) (placed (g .«prog_size») w (blockAt w b0 b1) (log (blockAt w b0 b1)) (itemsOf dat entries)))
+      ran-regular : Ran b0 b1 n (judgedBy (judge dat 0 (countOf 0 (log (blockAt w b0 b1))) entries)
+          (placed (g .«prog_size») w (blockAt w b0 b1) (log (blockAt w b0 b1)) (itemsOf dat entries)))
           (T (state w (Judge start)))
       ran-regular =
-          let p : passOf entries dat (trio (state w (Judge start)) b0 b1) ≡ trio (state w (phaseOf (judge dat 0 (countOf 0 (log (blockAt w b0 b1))) entries) start (itemsOf dat entries) (length entries))) b0 b1 =
-          pass-fold entries dat (trio (state w (Judge start)) b0 b1) ∙ judge-pass dat w b0 b1 entries start low (omega (arith, few)) (omega (arith, few)) in
-          subst (λ (t : Trio). Ran b0 b1 n (judgedBy (judge dat 0 (countOf 0 (log (blockAt w b0 b1))) entries) (placed (g .«prog_size») w (blockAt w b0 b1) (log (blockAt w b0 b1)) (itemsOf dat entries))) (decidedT t)) (sym p)
+          let p : passOf entries dat (trio (state w (Judge start)) b0 b1)
+          ≡ trio (state w (phaseOf (judge dat 0 (countOf 0 (log (blockAt w b0 b1))) entries) start
+          (itemsOf dat entries) (length entries))) b0 b1 =
+          pass-fold entries dat (trio (state w (Judge start)) b0 b1)
+          ∙ judge-pass dat w b0 b1 entries start low (omega (arith, few)) (omega (arith, few)) in
+          subst (λ (t : Trio). Ran b0 b1 n (judgedBy (judge dat 0 (countOf 0 (log (blockAt w b0 b1))) entries)
+          (placed (g .«prog_size») w (blockAt w b0 b1) (log (blockAt w b0 b1)) (itemsOf dat entries))) (decidedT t))
+          (sym p)
           (ran-judged (judge dat 0 (countOf 0 (log (blockAt w b0 b1))) entries) refl)
 
-    ran-started : (w : Bool) (m : LfsMdir) → m .off ≡ logEnd (log (blockAt w b0 b1)) → m .etag ≡ logEndTag (log (blockAt w b0 b1)) → m .count ≡ countOf 0 (log (blockAt w b0 b1))
-        → Ran b0 b1 n (appended (g .«prog_size») w (blockAt w b0 b1) (log (blockAt w b0 b1)) entries dat) (T (startedOf w (blockAt w b0 b1) m))
+    ran-started : (w : Bool) (m : LfsMdir) → m .off ≡ logEnd (log (blockAt w b0 b1))
+        → m .etag ≡ logEndTag (log (blockAt w b0 b1)) → m .count ≡ countOf 0 (log (blockAt w b0 b1))
+        → Ran b0 b1 n (appended (g .«prog_size») w (blockAt w b0 b1) (log (blockAt w b0 b1)) entries dat)
+        (T (startedOf w (blockAt w b0 b1) m))
     unfolding appended startedOf
     ran-started w m eo et ec = go (Regular (log (blockAt w b0 b1))) refl
       where
         later : Verdict
-        later = judgedBy (judge dat 0 (countOf 0 (log (blockAt w b0 b1))) entries) (placed (g .«prog_size») w (blockAt w b0 b1) (log (blockAt w b0 b1)) (itemsOf dat entries))
+        later = judgedBy (judge dat 0 (countOf 0 (log (blockAt w b0 b1))) entries)
+            (placed (g .«prog_size») w (blockAt w b0 b1) (log (blockAt w b0 b1)) (itemsOf dat entries))
 
         from-record : judgingFrom m ≡ J0 dat entries w b0 b1 n (g .«prog_size»)
-        from-record = λ k. record { off = eo k; etag = et k; index = 0; count = ec k; size = 0; prev = et k; sum = allOnes }
+        from-record = λ k. record {
+          off = eo k;
+          etag = et k;
+          index = 0;
+          count = ec k;
+          size = 0;
+          prev = et k;
+          sum = allOnes;
+        }
 
         go : (x : Bool) → Regular (log (blockAt w b0 b1)) ≡ x
-            → Ran b0 b1 n (cond (not x) (refused Irregular) later) (T (cond (not x) (refusedState Irregular) (state w (Judge (judgingFrom m)))))
+            → Ran b0 b1 n (cond (not x) (refused Irregular) later)
+            (T (cond (not x) (refusedState Irregular) (state w (Judge (judgingFrom m)))))
         go false e = ran-refused b0 b1 n false Irregular _ (all-refused false Irregular b0 b1 g n entries dat)
-        go true e = subst (λ (j : Judging). Ran b0 b1 n later (T (state w (Judge j)))) (sym from-record) (ran-regular w e)
+        go true e = subst (λ (j : Judging). Ran b0 b1 n later (T (state w (Judge j)))) (sym from-record)
+            (ran-regular w e)
 
     abbrev on : LfsMdir → Verdict
-    on m = appended (g .«prog_size») (isSecond n0 m) (blockAt (isSecond n0 m) b0 b1) (log (blockAt (isSecond n0 m) b0 b1)) entries dat
+    on m = appended (g .«prog_size») (isSecond n0 m) (blockAt (isSecond n0 m) b0 b1)
+        (log (blockAt (isSecond n0 m) b0 b1)) entries dat
 
-    ran-fetched : (f : Fetched) → fetchOf g b0 b1 n0 n1 count seed ≡ f → Ran b0 b1 n (fetchedThen f on) (T (fetchedBy f n0 b0 b1))
+    ran-fetched : (f : Fetched) → fetchOf g b0 b1 n0 n1 count seed ≡ f
+        → Ran b0 b1 n (fetchedThen f on) (T (fetchedBy f n0 b0 b1))
     ran-fetched (fetched.Refused r) e = ran-refused b0 b1 n false r _ (all-refused false r b0 b1 g n entries dat)
     ran-fetched (fetched.Found m s) e =
         let a = found-answers g b0 b1 n0 n1 count seed m s e in
-        subst (λ (v : Bool). Ran b0 b1 n (appended (g .«prog_size») v (blockAt v b0 b1) (log (blockAt v b0 b1)) entries dat) (T (startedOf v (blockAt v b0 b1) m))) (sym (a .place))
+        subst (λ (v : Bool). Ran b0 b1 n (appended (g .«prog_size») v (blockAt v b0 b1) (log (blockAt v b0 b1)) entries
+        dat) (T (startedOf v (blockAt v b0 b1) m))) (sym (a .place))
         (ran-started (a .w) m (a .end) (a .endTag) (a .count))
 
   pub ran : Ran b0 b1 n (verdictOf g b0 b1 n0 n1 count seed entries dat) (ranOf g b0 b1 n0 n1 count seed entries dat n)
@@ -246,7 +302,9 @@ module _ (g : Geometry) (b0 b1 : List ℕ) (n0 n1 count seed : ℕ) (entries : L
       F = fetchOf g b0 b1 n0 n1 count seed
 
       go : (x : Bool) → commitFits g (length b0) (length b1) n0 n1 (length entries) (length dat) ≡ x
-          → Ran b0 b1 n (cond (not x) (refused Invalid) (fetchedThen F (λ m. appended (g .«prog_size») (isSecond n0 m) (blockAt (isSecond n0 m) b0 b1) (log (blockAt (isSecond n0 m) b0 b1)) entries dat)))
+          → Ran b0 b1 n (cond (not x) (refused Invalid)
+          (fetchedThen F (λ m. appended (g .«prog_size») (isSecond n0 m) (blockAt (isSecond n0 m) b0 b1)
+          (log (blockAt (isSecond n0 m) b0 b1)) entries dat)))
           (T (cond (not x) (refusedState Invalid) (fetchedBy F n0 b0 b1)))
       go false e = ran-refused b0 b1 n false Invalid _ (all-refused false Invalid b0 b1 g n entries dat)
       go true e = ran-fetched e F refl

@@ -1,6 +1,7 @@
-// A commit: "a lent list of entry records (type, id, data offset, length) over a data buffer", appended to the block of a pair that answers. Any
-// blocks, numbers, entries and bytes; a refused call changes nothing. The functions here hold the list of entries and do no more than pass it on:
-// `each` is the one loop over it, run twice, and hands an entry's numbers to `commit_steps::step`. Their proofs are walks that tools/genwalk.py writes.
+// A commit: "a lent list of entry records (type, id, data offset, length) over a data buffer", appended to the block of
+// a pair that answers. Any blocks, numbers, entries and bytes; a refused call changes nothing. The functions here hold
+// the list of entries and do no more than pass it on: `each` is the one loop over it, run twice, and hands an entry's
+// numbers to `commit_steps::step`. Their proofs are walks that tools/genwalk.py writes.
 ghost use mathlib.Core.Path.{_≡_};
 ghost use lib.ListN.{length};
 ghost use Rattle.format.specs.Writer.{commitOf, commitStoresOf};
@@ -15,7 +16,8 @@ use format::Stored;
 
 // One pass over the entries.
 fn each(es: &[Entry], dat: &[u8], b0: &mut [u8], b1: &mut [u8], st: State) -> State
-    ensures { λ r. ⌜ trio r (now (b0 .exit)) (now (b1 .exit)) ≡ eachOf (length (now (es .entry))) (now (es .entry)) (now (dat .entry)) (now (b0 .entry)) (now (b1 .entry)) st ⌝ }
+    ensures { λ r. ⌜ trio r (now (b0 .exit)) (now (b1 .exit)) ≡ eachOf (length (now (es .entry))) (now (es .entry))
+        (now (dat .entry)) (now (b0 .entry)) (now (b1 .entry)) st ⌝ }
 {
     let mut s = st;
     let mut i = 0;
@@ -40,7 +42,8 @@ fn run(
     dat: &[u8],
     stores: u32,
 ) -> State
-    ensures { λ r. ⌜ trio r (now (b0 .exit)) (now (b1 .exit)) ≡ ranOf g (now (b0 .entry)) (now (b1 .entry)) n0 n1 «block_count» seed (now (entries .entry)) (now (dat .entry)) stores ⌝ }
+    ensures { λ r. ⌜ trio r (now (b0 .exit)) (now (b1 .exit)) ≡ ranOf g (now (b0 .entry)) (now (b1 .entry)) n0 n1
+        «block_count» seed (now (entries .entry)) (now (dat .entry)) stores ⌝ }
 {
     let s0 = commit_steps::begin(g, b0, b1, n0, n1, block_count, seed, entries.len(), dat);
     let s1 = each(entries, dat, b0, b1, s0);
@@ -49,8 +52,8 @@ fn run(
     commit_steps::seal(s3, b0, b1)
 }
 
-// "An accepted call answers what fetch gives on the finished pair from the same seed." `CommitLeaves` says what stands in
-// both images then, and has demand 3: wherever the call is stopped, the pair reads as finished or as never begun.
+// "An accepted call answers what fetch gives on the finished pair from the same seed." `CommitLeaves` says what stands
+// in both images then, and has demand 3: wherever the call is stopped, the pair reads as finished or as never begun.
 pub fn lfs_dir_commit(
     g: Geometry,
     b0: &mut [u8],
@@ -72,8 +75,8 @@ pub fn lfs_dir_commit(
     commit_steps::answer(s, g, b0, b1, n0, n1, block_count, seed)
 }
 
-// The same "with a limit of n stores: exactly the first n of demand 3's list are made (all, if n is larger) and the number
-// made is the answer". `CommitStoresLeaves` has demand 3 of what stands in the images now.
+// The same "with a limit of n stores: exactly the first n of demand 3's list are made (all, if n is larger) and the
+// number made is the answer". `CommitStoresLeaves` has demand 3 of what stands in the images now.
 pub fn lfs_dir_commit_stores(
     g: Geometry,
     b0: &mut [u8],

@@ -38,7 +38,8 @@ module _ (dat : List ℕ) (off len : ℕ) where
             rw (e, n) (take-min len (drop off dat))
         go false h =
             let k : length dat < off = leb-false off (length dat) h in
-            rw (drop-of-length-le dat {i = f} (omega arith), drop-of-length-le dat {i = off} (omega arith)) (take-nil s ∙ sym (take-nil len))
+            rw (drop-of-length-le dat {i = f} (omega arith), drop-of-length-le dat {i = off} (omega arith))
+            (take-nil s ∙ sym (take-nil len))
 
     pub data-part : (len ≡ removalSize → ⊥) → Part dat off len (record { from = f; to = f + s })
     unfolding bodyOf

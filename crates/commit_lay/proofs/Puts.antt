@@ -1,4 +1,5 @@
--- Stores join: a store by the tests that the code makes, bytes by bytes, and a whole run as the library's `paste`. Assumes nothing.
+-- Stores join: a store by the tests that the code makes, bytes by bytes, and a whole run as the library's `paste`.
+-- Assumes nothing.
 use mathlib.Core.Path.{_≡_, refl, sym, ap, _∙_}
 use mathlib.Core.Bool.{Bool, true, false, cond}
 use mathlib.Core.List.{List, [], _∷_, _++_}
@@ -55,7 +56,8 @@ unfolding putsOf
 puts-none s = refl
 
 -- one byte more of the bytes; t is what `put` leaves
-pub puts-more : (bs : List ℕ) (i : ℕ) (s r t : Laid) → i < length bs → r ≡ putsOf s (take i bs) → t ≡ putOf r (getD bs i 0) → t ≡ putsOf s (take (i + 1) bs)
+pub puts-more : (bs : List ℕ) (i : ℕ) (s r t : Laid) → i < length bs → r ≡ putsOf s (take i bs)
+    → t ≡ putOf r (getD bs i 0) → t ≡ putsOf s (take (i + 1) bs)
 unfolding putsOf
 puts-more bs i s r t h e f =
     f ∙ ap (λ (u : Laid). putOf u (getD bs i 0)) e ∙ puts-app (take i bs) (getD bs i 0 ∷ []) s
@@ -68,9 +70,11 @@ puts-all bs i s r h e = e ∙ ap (putsOf s) (take-all i bs h)
 -- ---- an entry: s is the part that `body` answers
 module _ (dat : List ℕ) (off len word : ℕ) (s : Span) (p : Part dat off len s) where
   -- x and y are what `sum_be32` and `lfs_crc` answer
-  pub entry-summed : (sum x y : ℕ) → x ≡ crc sum (toBe32 word) → y ≡ crc x (take (s .to - s .from) (drop (s .from) dat)) → y ≡ crc sum (toBe32 word ++ bodyOf dat off len)
+  pub entry-summed : (sum x y : ℕ) → x ≡ crc sum (toBe32 word) → y ≡ crc x (take (s .to - s .from) (drop (s .from) dat))
+      → y ≡ crc sum (toBe32 word ++ bodyOf dat off len)
   entry-summed sum x y ex ey = ey ∙ rw (ex, p .is) (sym (crc-append sum (toBe32 word) (bodyOf dat off len)))
 
   -- t and u are what `put_be32` and `put_all` leave
-  pub entry-put : (r t u : Laid) → t ≡ putsOf r (toBe32 word) → u ≡ putsOf t (take (s .to - s .from) (drop (s .from) dat)) → u ≡ putsOf r (toBe32 word ++ bodyOf dat off len)
+  pub entry-put : (r t u : Laid) → t ≡ putsOf r (toBe32 word)
+      → u ≡ putsOf t (take (s .to - s .from) (drop (s .from) dat)) → u ≡ putsOf r (toBe32 word ++ bodyOf dat off len)
   entry-put r t u et eu = eu ∙ rw (et, p .is) (puts-app (toBe32 word) (bodyOf dat off len) r)

@@ -1,5 +1,6 @@
-// A commit's bytes: laid into a block by single stores, in rising order, as many as may still be made; and summed without a store. Any numbers:
-// what would pass the block is not stored, and a part that would pass the buffer is cut there.
+// A commit's bytes: laid into a block by single stores, in rising order, as many as may still be made; and summed
+// without a store. Any numbers: what would pass the block is not stored, and a part that would pass the buffer is cut
+// there.
 ghost use mathlib.Core.Path.{_≡_};
 ghost use mathlib.Core.List.{_++_};
 ghost use Prim.Native.Nat.{min};
@@ -108,7 +109,8 @@ fn body(dat: &[u8], off: u32, len: u32) -> Span
 
 // An entry: its tag as it is stored, and its data.
 pub fn put_entry(b: &mut [u8], run: Run, word: u32, dat: &[u8], off: u32, len: u32) -> Run
-    ensures { λ r. ⌜ laid r (now (b .exit)) ≡ putsOf (laid run (now (b .entry))) (toBe32 word ++ bodyOf (now (dat .entry)) off len) ⌝ }
+    ensures { λ r. ⌜ laid r (now (b .exit)) ≡ putsOf (laid run (now (b .entry)))
+        (toBe32 word ++ bodyOf (now (dat .entry)) off len) ⌝ }
 {
     let s = body(dat, off, len);
     let from = s.from;

@@ -31,11 +31,13 @@ and-assoc : (a b c : Bool) → (a && b) && c ≡ a && (b && c)
 and-assoc true b c = refl
 and-assoc false b c = refl
 
-after-entry : (p : Passing) (t : ℕ) (d : List ℕ) (es : List Event) → after (entering t p) es ≡ after p (keptBefore (ent t d) es)
+after-entry : (p : Passing) (t : ℕ) (d : List ℕ) (es : List Event)
+    → after (entering t p) es ≡ after p (keptBefore (ent t d) es)
 unfolding after entering countedBy regularFrom
 after-entry p t d [] = go (p .good) (ruleHolds (ruleOf true (tagType3 t)) (p .count) (tagId t) (tagSize t))
   where
-    go : (g h : Bool) → whileGood g p (ruledTo (countedAs h (countAfter (ruleOf true (tagType3 t)) (p .count))) p) .taken ≡ p .taken
+    go : (g h : Bool) → whileGood g p (ruledTo (countedAs h (countAfter (ruleOf true (tagType3 t)) (p .count))) p)
+        .taken ≡ p .taken
     go false h = refl
     go true true = refl
     go true false = refl
@@ -47,7 +49,8 @@ after-entry p t d (e ∷ es) = go (p .good) refl (ruleHolds (ruleOf true (tagTyp
     q : Bool → Bool → Passing
     q g h = whileGood g p (ruledTo (countedAs h n) p)
 
-    go : (g : Bool) → p .good ≡ g → (h : Bool) → q g h .good && regularFrom (q g h .count) (e ∷ es) ≡ g && (h && regularFrom n (e ∷ es))
+    go : (g : Bool) → p .good ≡ g → (h : Bool) → q g h .good && regularFrom (q g h .count) (e ∷ es) ≡ g
+        && (h && regularFrom n (e ∷ es))
     go false w h = rw w
     go true w true = refl
     go true w false = refl
@@ -75,7 +78,8 @@ from-start [] = refl
 from-start (e ∷ es) = refl
 
 -- c and p are what `start` answers, r is what `regular_on` does
-pub settles-regular : (b : List ℕ) (c : Cursor) (p : Passing) (r : Bool) → c ≡ startOf b → p ≡ starts → r ≡ settles p (from b c) → r ≡ Regular (log b)
+pub settles-regular : (b : List ℕ) (c : Cursor) (p : Passing) (r : Bool) → c ≡ startOf b → p ≡ starts
+    → r ≡ settles p (from b c) → r ≡ Regular (log b)
 unfolding startOf from log walk
 settles-regular b c p r ec ep er = er ∙ rw (ec, ep) (settles-after starts (walk b) ∙ from-start (committed (walk b)))
 
@@ -85,11 +89,13 @@ module _ (p : Passing) (t : ℕ) where
   unfolding entering
   stays-bad h = rw h
 
-  pub goes-bad : p .good ≡ true → countedBy true (tagType3 t) (p .count) (tagId t) (tagSize t) ≡ Bad → passing (p .count) false (p .taken) ≡ entering t p
+  pub goes-bad : p .good ≡ true → countedBy true (tagType3 t) (p .count) (tagId t) (tagSize t) ≡ Bad
+      → passing (p .count) false (p .taken) ≡ entering t p
   unfolding entering
   goes-bad h e = rw (h, e)
 
-  pub goes-on : (n : ℕ) → p .good ≡ true → countedBy true (tagType3 t) (p .count) (tagId t) (tagSize t) ≡ To n → passing n true (p .taken) ≡ entering t p
+  pub goes-on : (n : ℕ) → p .good ≡ true → countedBy true (tagType3 t) (p .count) (tagId t) (tagSize t) ≡ To n
+      → passing n true (p .taken) ≡ entering t p
   unfolding entering
   goes-on n h e = rw (h, e)
 
@@ -100,12 +106,14 @@ flipped-size t = omega arith
 
 module _ (b : List ℕ) (c : Cursor) (p : Passing) (u : Bool) (so-far : u ≡ settles p (from b c)) where
   -- q is what `entry` answers
-  pub turn-entry : {t : ℕ} {d : Cursor} (q : Passing) → nextOf b c ≡ Entry t d → q ≡ entering t p → u ≡ settles q (from b d)
+  pub turn-entry : {t : ℕ} {d : Cursor} (q : Passing) → nextOf b c ≡ Entry t d → q ≡ entering t p
+      → u ≡ settles q (from b d)
   unfolding settles
   turn-entry {t} {d} q e eq = so-far ∙ rw (from-next b c ∙ ap (follow b c) e, eq)
 
   -- q is what `check` answers, from the size n of the tag behind
-  pub turn-check : {x : ℕ} {d : Cursor} (n : ℕ) (q : Passing) → nextOf b c ≡ Check x d → n ≡ tagSize (d .prev) → q ≡ checking n p → u ≡ settles q (from b d)
+  pub turn-check : {x : ℕ} {d : Cursor} (n : ℕ) (q : Passing) → nextOf b c ≡ Check x d → n ≡ tagSize (d .prev)
+      → q ≡ checking n p → u ≡ settles q (from b d)
   unfolding settles
   turn-check {x} {d} n q e en eq =
       let s = check-seen b c e in

@@ -1,4 +1,5 @@
--- The rules over the events of a walk, as the code runs them: what holds so far, and what held at the last check. Assumes nothing.
+-- The rules over the events of a walk, as the code runs them: what holds so far, and what held at the last check.
+-- Assumes nothing.
 use mathlib.Core.Bool.{Bool, true, false, _&&_}
 use mathlib.Core.List.{List, [], _∷_}
 use Prim.Native.Nat.{ℕ}

@@ -81,7 +81,8 @@ pub fn log_regular(b: &[u8]) -> bool
     regular_on(b, Cursor::start(b), Passing::start())
 }
 
-// The walk from a cursor and what passed before it. A check's tag is the previous tag behind it, whose size no flip of bit 31 alters.
+// The walk from a cursor and what passed before it. A check's tag is the previous tag behind it, whose size no flip of
+// bit 31 alters.
 fn regular_on(b: &[u8], at: Cursor, before: Passing) -> bool
     ensures { λ r. ⌜ r ≡ settles before (from (now (b .entry)) at) ⌝ }
 {

@@ -17,7 +17,13 @@ module _ (prog at : ℕ) (p : Prog prog at) where
   pub end-behind : (at + 8 ≤ roundedEnd prog at) × (roundedEnd prog at ≤ at + 8 + 512)
   unfolding roundedEnd
   end-behind = (
-    omega (arith, p .low, div-add-mod' (at + checkLength + (prog - 1)) prog, mod-lt (at + checkLength + (prog - 1)) {m = prog} (omega (arith, p .low))),
+    omega (
+      arith,
+      p .low,
+      div-add-mod' (at + checkLength + (prog - 1)) prog,
+      mod-lt (at + checkLength + (prog - 1)) {m =
+          prog} (omega (arith, p .low)),
+    ),
     omega (arith, p .high, div-add-mod' (at + checkLength + (prog - 1)) prog),
   )
 

@@ -15,4 +15,5 @@ pub record Prog (prog at : ℕ) : Type 0 where
 -- the coincidence: `word` is the check tag as it is stored
 unfoldable pub meets : ℕ → ℕ → Bool
 meets sum word =
-    eqb (crc sum (fill 1 (toBe32 word))) allOnes || eqb (crc sum (fill 2 (toBe32 word))) allOnes || eqb (crc sum (fill 3 (toBe32 word))) allOnes
+    eqb (crc sum (fill 1 (toBe32 word))) allOnes || eqb (crc sum (fill 2 (toBe32 word))) allOnes
+    || eqb (crc sum (fill 3 (toBe32 word))) allOnes

@@ -1,4 +1,5 @@
-// The room that a commit is written to: where it ends, whether the room is clean, and whether the check tag's checksums coincide.
+// The room that a commit is written to: where it ends, whether the room is clean, and whether the check tag's checksums
+// coincide.
 ghost use mathlib.Core.Path.{_≡_};
 ghost use Prim.Native.Nat.{_≤_, _<_};
 ghost use lib.ListN.{drop};
@@ -47,8 +48,8 @@ fn all_erased(b: &[u8], end: usize) -> bool
     true
 }
 
-// "Append needs bytes 0xff from the old end to the block's end, an old end that is a multiple of the program size, and an end tag with bit 31
-// clear."
+// "Append needs bytes 0xff from the old end to the block's end, an old end that is a multiple of the program size, and
+// an end tag with bit 31 clear."
 pub fn clean(prog: u32, b: &[u8], end: usize, etag: u32) -> bool
     requires { ⌜ 4 ≤ prog ⌝ }
     ensures { λ r. ⌜ r ≡ roomClean prog (now (b .entry)) end etag ⌝ }
@@ -57,8 +58,8 @@ pub fn clean(prog: u32, b: &[u8], end: usize, etag: u32) -> bool
     all_erased(b, end) & (end % unit == 0) & tag::lfs_tag_isvalid(etag)
 }
 
-// "put 1, 2 or 3 bytes of the check tag and fill its four with 0xff; if any of the three checksums is 0xffffffff, refuse." `word` is the tag as
-// it is stored, `sum` the checksum before it.
+// "put 1, 2 or 3 bytes of the check tag and fill its four with 0xff; if any of the three checksums is 0xffffffff,
+// refuse." `word` is the tag as it is stored, `sum` the checksum before it.
 pub fn coincides(sum: u32, word: u32) -> bool
     ensures { λ r. ⌜ r ≡ meets sum word ⌝ }
 {

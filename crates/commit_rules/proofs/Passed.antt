@@ -9,7 +9,8 @@ use lib.Dec.{leb, eqb}
 use types.Run.{OneOf, miss}
 use denote.Enum.Declared.{tagOf}
 use borrow.Author.Tests.{leb-true}
-use Rattle.format.specs.Regular.{Rule, ruleOf, ruleHolds, countAfter, create, delete, name, inlined, eight, attribute, tail, move, forward, bad}
+use Rattle.format.specs.Regular.{Rule, ruleOf, ruleHolds, countAfter, create, delete, name, inlined, eight, attribute}
+use Rattle.format.specs.Regular.{tail, move, forward, bad}
 use Rattle.commit_rules.specs.Rules.{ruleAs, countedBy}
 use Rattle.commit_rules.specs.declared.Rule as declared
 use Rattle.commit_rules.specs.declared.Rule.the-variants as told
@@ -36,10 +37,12 @@ count-fits move c id size h k = h
 count-fits forward c id size h k = h
 count-fits bad c id size h k = h
 
-module _ (logged : Bool) (kind c id size : ℕ) (R : Rule) (is : R ≡ ruleOf logged kind) (x : Bool) (tested : x ≡ ruleHolds R c id size) where
+module _ (logged : Bool) (kind c id size : ℕ) (R : Rule) (is : R ≡ ruleOf logged kind) (x : Bool)
+    (tested : x ≡ ruleHolds R c id size) where
   pub passes : (n : ℕ) → x ≡ true → n ≡ countAfter R c → ruled.To n ≡ countedBy logged kind c id size
   unfolding countedBy
-  passes n h e = let t : ruleHolds (ruleOf logged kind) c id size ≡ true = rw (← is, ← tested) h in rw (t, ← is) (ap ruled.To e)
+  passes n h e = let t : ruleHolds (ruleOf logged kind) c id size ≡ true =
+      rw (← is, ← tested) h in rw (t, ← is) (ap ruled.To e)
 
   pub fails : x ≡ false → ruled.Bad ≡ countedBy logged kind c id size
   unfolding countedBy

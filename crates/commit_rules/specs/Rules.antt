@@ -4,7 +4,8 @@ use Prim.Native.Nat.{ℕ}
 use Rattle.format.specs.Regular as rule
 use Rattle.format.specs.Regular.{ruleOf, ruleHolds, countAfter}
 use Rattle.commit_rules.specs.declared.Rule.{Rule}
-use Rattle.commit_rules.specs.declared.Rule.the-variants.{Create, Delete, Name, Inlined, Eight, Attribute, Tail, Move, Forward, Bad}
+use Rattle.commit_rules.specs.declared.Rule.the-variants.{Create, Delete, Name, Inlined, Eight, Attribute, Tail}
+use Rattle.commit_rules.specs.declared.Rule.the-variants.{Move, Forward, Bad}
 use Rattle.commit_rules.specs.declared.Ruled.{Ruled}
 use Rattle.commit_rules.specs.declared.Ruled.the-variants as ruled
 
@@ -25,4 +26,5 @@ countedAs holds c = cond holds (ruled.To c) ruled.Bad
 
 -- the count behind an entry of a type, or that it is bad there
 unfoldable pub countedBy : Bool → ℕ → ℕ → ℕ → ℕ → Ruled
-countedBy logged kind c id size = countedAs (ruleHolds (ruleOf logged kind) c id size) (countAfter (ruleOf logged kind) c)
+countedBy logged kind c id size = countedAs (ruleHolds (ruleOf logged kind) c id size)
+    (countAfter (ruleOf logged kind) c)

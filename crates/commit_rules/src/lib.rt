@@ -1,4 +1,5 @@
-// The writer's rules for entries, as a count runs past them: the same functions for the entries of a commit and for those of a log. Any numbers.
+// The writer's rules for entries, as a count runs past them: the same functions for the entries of a commit and for
+// those of a log. Any numbers.
 ghost use mathlib.Core.Path.{_≡_};
 ghost use Prim.Native.Nat.{_^_, _<_};
 ghost use Rattle.format.specs.Regular.{ruleOf, ruleHolds, countAfter};

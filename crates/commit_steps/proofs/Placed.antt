@@ -33,7 +33,8 @@ module _ (j : Judging) (prog : ℕ) (b : List ℕ) (stores e : ℕ) (ee : e ≡ 
     unfolding placedOf
     placed-unclean k = rw (← ee, le-ltb (length b) e h, ← ex, k)
 
-    module _ (k : not x ≡ false) (t : ℕ) (et : t ≡ checkTag (checkSize prog (j .off + j .size))) (y : Bool) (ey : y ≡ meets (j .sum) (bitXor t (j .prev))) where
+    module _ (k : not x ≡ false) (t : ℕ) (et : t ≡ checkTag (checkSize prog (j .off + j .size))) (y : Bool)
+        (ey : y ≡ meets (j .sum) (bitXor t (j .prev))) where
       word-is : bitXor t (j .prev) ≡ xor (checkTag (checkSize prog (j .off + j .size))) (j .prev)
       unfolding xor
       word-is = ap (λ (u : ℕ). bitXor u (j .prev)) et
@@ -44,17 +45,25 @@ module _ (j : Judging) (prog : ℕ) (b : List ℕ) (stores e : ℕ) (ee : e ≡ 
 
       -- s is what `sum_be32` answers
       pub placed-lays : (s : ℕ) → y ≡ false → s ≡ crc (j .sum) (toBe32 (bitXor t (j .prev)))
-          → Lay (record { run = record { at = j .off; left = stores }; prev = j .etag; word = bitXor t (j .prev); sum = s }) ≡ placedOf j prog b stores
+          → Lay (record {
+            run = record { at = j .off; left = stores };
+            prev = j .etag;
+            word = bitXor t (j .prev);
+            sum = s;
+          }) ≡ placedOf j prog b stores
       unfolding placedOf
       placed-lays s q es =
-          ap (λ (u : ℕ). Lay (record { run = record { at = j .off; left = stores }; prev = j .etag; word = bitXor t (j .prev); sum = u })) es
+          ap (λ (u : ℕ). Lay (record
+          { run = record { at = j .off; left = stores }; prev = j .etag; word = bitXor t (j .prev); sum = u })) es
           ∙ rw (← ee, le-ltb (length b) e h, ← ex, k, ← word-is, ← ey, q)
 
 -- ---- `decide`
 module _ (st : State) (g : Geometry) (b0 b1 : List ℕ) (stores : ℕ) where
-  decided : (p : Phase) (w : Bool) → st .phase ≡ p → st .second ≡ w → decidedBy p w g b0 b1 stores ≡ decidedOf st g b0 b1 stores
+  decided : (p : Phase) (w : Bool) → st .phase ≡ p → st .second ≡ w
+      → decidedBy p w g b0 b1 stores ≡ decidedOf st g b0 b1 stores
   unfolding decidedOf
-  decided p w e f = sym (ap (λ (q : Phase). decidedBy q (st .second) g b0 b1 stores) e ∙ ap (λ (v : Bool). decidedBy p v g b0 b1 stores) f)
+  decided p w e f = sym (ap (λ (q : Phase). decidedBy q (st .second) g b0 b1 stores) e
+      ∙ ap (λ (v : Bool). decidedBy p v g b0 b1 stores) f)
 
   pub decide-refused : (r : Refusal) → st .phase ≡ Refused r → st ≡ decidedOf st g b0 b1 stores
   decide-refused r e = ap (λ (q : Phase). state (st .second) q) e ∙ decided (Refused r) (st .second) e refl
@@ -67,10 +76,14 @@ module _ (st : State) (g : Geometry) (b0 b1 : List ℕ) (stores : ℕ) where
     pub decide-broken : (s : State) → not x ≡ true → s ≡ refusedState Invalid → s ≡ decidedOf st g b0 b1 stores
     decide-broken s h f = f ∙ rw (← is, h) at (decided (Judge j) (st .second) e refl)
 
-    pub decide-first : (p : Phase) → not x ≡ false → st .second ≡ false → p ≡ placedOf j (g .«prog_size») b0 stores → state (st .second) p ≡ decidedOf st g b0 b1 stores
+    pub decide-first : (p : Phase) → not x ≡ false → st .second ≡ false → p ≡ placedOf j (g .«prog_size») b0 stores
+        → state (st .second) p ≡ decidedOf st g b0 b1 stores
     decide-first p h w f =
-        ap (λ (v : Bool). state v p) w ∙ ap (λ (q : Phase). state false q) f ∙ rw (← is, h) at (decided (Judge j) false e w)
+        ap (λ (v : Bool). state v p) w ∙ ap (λ (q : Phase). state false q) f
+        ∙ rw (← is, h) at (decided (Judge j) false e w)
 
-    pub decide-second : (p : Phase) → not x ≡ false → st .second ≡ true → p ≡ placedOf j (g .«prog_size») b1 stores → state (st .second) p ≡ decidedOf st g b0 b1 stores
+    pub decide-second : (p : Phase) → not x ≡ false → st .second ≡ true → p ≡ placedOf j (g .«prog_size») b1 stores
+        → state (st .second) p ≡ decidedOf st g b0 b1 stores
     decide-second p h w f =
-        ap (λ (v : Bool). state v p) w ∙ ap (λ (q : Phase). state true q) f ∙ rw (← is, h) at (decided (Judge j) true e w)
+        ap (λ (v : Bool). state v p) w ∙ ap (λ (q : Phase). state true q) f
+        ∙ rw (← is, h) at (decided (Judge j) true e w)

@@ -58,7 +58,15 @@ refusedState r = state false (Refused r)
 
 -- ---- before the entries
 abbrev pub judgingFrom : LfsMdir → Judging
-judgingFrom m = record { off = m .off; etag = m .etag; index = 0; count = m .count; size = 0; prev = m .etag; sum = allOnes }
+judgingFrom m = record {
+  off = m .off;
+  etag = m .etag;
+  index = 0;
+  count = m .count;
+  size = 0;
+  prev = m .etag;
+  sum = allOnes;
+}
 
 unfoldable pub startedOf : Bool → List ℕ → LfsMdir → State
 startedOf second b m = cond (not (Regular (log b))) (refusedState Irregular) (state second (Judge (judgingFrom m)))
@@ -100,7 +108,8 @@ laidTo l prev s = onto (record { run = s .run; prev = prev; word = l .word; sum 
 
 unfoldable pub laidOf : Laying → List ℕ → List ℕ → ℕ → ℕ → ℕ → ℕ → Onto
 laidOf l b dat kind id off len =
-    laidTo l (mkTag kind id len) (putsOf (laid (l .run) b) (toBe32 (xor (mkTag kind id len) (l .prev)) ++ bodyOf dat off len))
+    laidTo l (mkTag kind id len)
+    (putsOf (laid (l .run) b) (toBe32 (xor (mkTag kind id len) (l .prev)) ++ bodyOf dat off len))
 
 -- the block at a place, as it is laid onto
 abbrev pub into : Bool → List ℕ → List ℕ → Onto → Trio
@@ -110,14 +119,21 @@ into true b0 b1 o = trio (state true (Lay (o .to))) b0 (o .block)
 abbrev pub steppedBy : Phase → Bool → List ℕ → List ℕ → List ℕ → ℕ → ℕ → ℕ → ℕ → Trio
 steppedBy (Refused r) second dat b0 b1 kind id off len = trio (state second (Refused r)) b0 b1
 steppedBy (Judge j) second dat b0 b1 kind id off len = trio (state second (judgedOf j dat kind id off len)) b0 b1
-steppedBy (Lay l) second dat b0 b1 kind id off len = into second b0 b1 (laidOf l (blockAt second b0 b1) dat kind id off len)
+steppedBy (Lay l) second dat b0 b1 kind id off len =
+    into second b0 b1 (laidOf l (blockAt second b0 b1) dat kind id off len)
 
 unfoldable pub stepOf : State → List ℕ → List ℕ → List ℕ → ℕ → ℕ → ℕ → ℕ → Trio
 stepOf st dat b0 b1 kind id off len = steppedBy (st .phase) (st .second) dat b0 b1 kind id off len
 
 -- ---- between the passes
 abbrev pub layingFrom : Judging → ℕ → ℕ → Laying
-layingFrom j word stores = record { run = record { at = j .off; left = stores }; prev = j .etag; word = word; sum = crc (j .sum) (toBe32 word) }
+layingFrom j word stores =
+    record {
+      run = record { at = j .off; left = stores };
+      prev = j .etag;
+      word = word;
+      sum = crc (j .sum) (toBe32 word);
+    }
 
 unfoldable pub placedOf : Judging → ℕ → List ℕ → ℕ → Phase
 placedOf j prog b stores =
@@ -130,7 +146,8 @@ abbrev pub decidedBy : Phase → Bool → Geometry → List ℕ → List ℕ →
 decidedBy (Refused r) second g b0 b1 stores = state second (Refused r)
 decidedBy (Lay l) second g b0 b1 stores = state second (Lay l)
 decidedBy (Judge j) second g b0 b1 stores =
-    cond (not (geometryFits g)) (refusedState Invalid) (state second (placedOf j (g .«prog_size») (blockAt second b0 b1) stores))
+    cond (not (geometryFits g)) (refusedState Invalid)
+    (state second (placedOf j (g .«prog_size») (blockAt second b0 b1) stores))
 
 unfoldable pub decidedOf : State → Geometry → List ℕ → List ℕ → ℕ → State
 decidedOf st g b0 b1 stores = decidedBy (st .phase) (st .second) g b0 b1 stores

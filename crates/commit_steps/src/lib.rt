@@ -1,10 +1,12 @@
-// A commit, step by step: what is done before its entries, with each entry, between the two passes over them, and behind them. The entries come
-// one by one as plain numbers, twice: in the first pass each is judged, summed and counted, in the second it is laid. The state goes in and comes
-// back by value, so no scratch memory is needed. Every function takes any state and numbers.
+// A commit, step by step: what is done before its entries, with each entry, between the two passes over them, and
+// behind them. The entries come one by one as plain numbers, twice: in the first pass each is judged, summed and
+// counted, in the second it is laid. The state goes in and comes back by value, so no scratch memory is needed. Every
+// function takes any state and numbers.
 ghost use mathlib.Core.Path.{_≡_};
 ghost use Prim.Native.Nat.{_≤_, _<_};
 ghost use lib.ListN.{length};
-ghost use Rattle.commit_steps.specs.State.{trio, onto, refusedState, begunOf, startedOf, judgedOf, laidOf, stepOf, placedOf, decidedOf, checkedOf, sealedOf, answeredOf, madeOf};
+ghost use Rattle.commit_steps.specs.State.{trio, onto, refusedState, begunOf, startedOf, judgedOf, laidOf};
+ghost use Rattle.commit_steps.specs.State.{stepOf, placedOf, decidedOf, checkedOf, sealedOf, answeredOf, madeOf};
 ghost use Rattle.format.specs.Fetch.{fetchOf};
 ghost use Rattle.format.specs.Writer.{unlimited};
 use commit_lay::Run;
@@ -24,8 +26,8 @@ const MOST_DATA: usize = 65_536;
 
 const MOST_ENTRIES: usize = 8_192;
 
-// The first pass: where the log ends and the tag there, the index of the next entry, the count there, the bytes so far, and the tag and the
-// checksum behind them.
+// The first pass: where the log ends and the tag there, the index of the next entry, the count there, the bytes so far,
+// and the tag and the checksum behind them.
 pub struct Judging {
     pub off: u32,
     pub etag: u32,
@@ -36,7 +38,8 @@ pub struct Judging {
     pub sum: u32,
 }
 
-// The second pass: the next store, the tag before it, and the check that comes last: its tag as it is stored, and the checksum.
+// The second pass: the next store, the tag before it, and the check that comes last: its tag as it is stored, and the
+// checksum.
 pub struct Laying {
     pub run: Run,
     pub prev: u32,
@@ -68,7 +71,8 @@ pub fn begin(
     entries: usize,
     dat: &[u8],
 ) -> State
-    ensures { λ r. ⌜ r ≡ begunOf g (now (b0 .entry)) (now (b1 .entry)) n0 n1 «block_count» seed entries (now (dat .entry)) ⌝ }
+    ensures { λ r. ⌜ r ≡ begunOf g (now (b0 .entry)) (now (b1 .entry)) n0 n1 «block_count» seed entries
+        (now (dat .entry)) ⌝ }
 {
     let fits = sizes::pair_fits(g, b0.len(), b1.len(), n0, n1)
         & (dat.len() <= MOST_DATA)
@@ -131,7 +135,8 @@ pub fn step(
     off: u32,
     len: u32,
 ) -> State
-    ensures { λ r. ⌜ trio r (now (b0 .exit)) (now (b1 .exit)) ≡ stepOf st (now (dat .entry)) (now (b0 .entry)) (now (b1 .entry)) kind id off len ⌝ }
+    ensures { λ r. ⌜ trio r (now (b0 .exit)) (now (b1 .exit)) ≡ stepOf st (now (dat .entry)) (now (b0 .entry))
+        (now (b1 .entry)) kind id off len ⌝ }
 {
     let second = st.second;
     let phase = st.phase;

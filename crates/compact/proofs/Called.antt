@@ -1,4 +1,5 @@
--- Both calls, by what fetch answered and which block answers: the verdict is one block's, with the place of the block. Assumes nothing.
+-- Both calls, by what fetch answered and which block answers: the verdict is one block's, with the place of the block.
+-- Assumes nothing.
 use mathlib.Core.Path.{_≡_, refl, sym, ap, _∙_}
 use mathlib.Core.Bool.{Bool, true, false, not, cond}
 use mathlib.Core.List.{List}
@@ -15,7 +16,9 @@ use Rattle.format.specs.Regular.{Regular}
 use Rattle.format.specs.Commit.{checkTag}
 use Rattle.format.specs.Stores.{coincides}
 use Rattle.format.specs.Writer.{roundedEnd, checkSize, blockAt, isSecond, unlimited, committedAs}
-use Rattle.format.specs.Compaction.{compactionItems, compactCheckAt, CompactVerdict, compactRefused, compactAccepted, placedAnew, compactable, compactVerdict, compactImagesAfter, compactAnswer, compactMade, compactImages, compactOf, compactStoresOf}
+use Rattle.format.specs.Compaction.{compactionItems, compactCheckAt, CompactVerdict, compactRefused, compactAccepted}
+use Rattle.format.specs.Compaction.{placedAnew, compactable, compactVerdict, compactImagesAfter, compactAnswer}
+use Rattle.format.specs.Compaction.{compactMade, compactImages, compactOf, compactStoresOf}
 use Rattle.format.specs.Stopped.{Bytes, CompactLeaves, CompactStoresLeaves}
 use Rattle.format.specs.declared.Geometry.{Geometry}
 use Rattle.format.specs.declared.LfsMdir.{LfsMdir}
@@ -36,10 +39,13 @@ abbrev placedAt : Bool → CompactVerdict → CompactVerdict
 placedAt w (compactRefused r) = compactRefused r
 placedAt w (compactAccepted second rev is size) = compactAccepted w rev is size
 
-placed-at : (prog : ℕ) (w : Bool) (x : List ℕ) → compactable prog w x (log x) ≡ placedAt w (compactable prog false x (log x))
+placed-at : (prog : ℕ) (w : Bool) (x : List ℕ)
+    → compactable prog w x (log x) ≡ placedAt w (compactable prog false x (log x))
 unfolding compactable placedAnew
 placed-at prog w x =
-    go (not (Regular (log x))) (ltb (length x) (roundedEnd prog at)) (coincides (crc allOnes (toLe32 (plus32 (le32 x) 1))) allOnes (compactionItems (log x)) (checkTag (checkSize prog at)))
+    go (not (Regular (log x))) (ltb (length x) (roundedEnd prog at))
+    (coincides (crc allOnes (toLe32 (plus32 (le32 x) 1))) allOnes (compactionItems (log x))
+    (checkTag (checkSize prog at)))
   where
     at : ℕ
     at = compactCheckAt (compactionItems (log x))
@@ -48,8 +54,10 @@ placed-at prog w x =
     v second = compactAccepted second (plus32 (le32 x) 1) (compactionItems (log x)) (checkSize prog at)
 
     go : (a b c : Bool)
-        → cond a (compactRefused Irregular) (cond b (compactRefused NoSpace) (cond c (compactRefused Coincidence) (v w)))
-        ≡ placedAt w (cond a (compactRefused Irregular) (cond b (compactRefused NoSpace) (cond c (compactRefused Coincidence) (v false))))
+        → cond a (compactRefused Irregular)
+        (cond b (compactRefused NoSpace) (cond c (compactRefused Coincidence) (v w)))
+        ≡ placedAt w (cond a (compactRefused Irregular)
+        (cond b (compactRefused NoSpace) (cond c (compactRefused Coincidence) (v false))))
     go true b c = refl
     go false true c = refl
     go false false true = refl
@@ -57,13 +65,16 @@ placed-at prog w x =
 
 -- ---- what the call with a limit answers and leaves
 abbrev pub Leaves : ℕ → List ℕ → List ℕ → CompactVerdict → Stored → List ℕ → List ℕ → Type 0
-Leaves n b0 b1 v r c0 c1 = (r ≡ compactMade n v) × ((c0 ≡ compactImagesAfter n b0 b1 v .b0) × (c1 ≡ compactImagesAfter n b0 b1 v .b1))
+Leaves n b0 b1 v r c0 c1 = (r ≡ compactMade n v) × ((c0 ≡ compactImagesAfter n b0 b1 v .b0)
+    × (c1 ≡ compactImagesAfter n b0 b1 v .b1))
 
-first-leaves : (n : ℕ) (b0 b1 : List ℕ) (v : CompactVerdict) (r : Stored) (c : List ℕ) → r ≡ compactMade n v → c ≡ renewedTo n b1 v → Leaves n b0 b1 (placedAt false v) r b0 c
+first-leaves : (n : ℕ) (b0 b1 : List ℕ) (v : CompactVerdict) (r : Stored) (c : List ℕ) → r ≡ compactMade n v
+    → c ≡ renewedTo n b1 v → Leaves n b0 b1 (placedAt false v) r b0 c
 first-leaves n b0 b1 (compactRefused x) r c er ec = (er, (refl, ec))
 first-leaves n b0 b1 (compactAccepted w rev is size) r c er ec = (er, (refl, ec))
 
-second-leaves : (n : ℕ) (b0 b1 : List ℕ) (v : CompactVerdict) (r : Stored) (c : List ℕ) → r ≡ compactMade n v → c ≡ renewedTo n b0 v → Leaves n b0 b1 (placedAt true v) r c b1
+second-leaves : (n : ℕ) (b0 b1 : List ℕ) (v : CompactVerdict) (r : Stored) (c : List ℕ) → r ≡ compactMade n v
+    → c ≡ renewedTo n b0 v → Leaves n b0 b1 (placedAt true v) r c b1
 second-leaves n b0 b1 (compactRefused x) r c er ec = (er, (ec, refl))
 second-leaves n b0 b1 (compactAccepted w rev is size) r c er ec = (er, (ec, refl))
 
@@ -80,16 +91,19 @@ module _ (g : Geometry) (b0 b1 : List ℕ) (n0 n1 count seed : ℕ) where
   kept n r c0 c1 y0 y1 h =
       (h .0, (h .1 .0, h .1 .1, rw (h .1 .0, h .1 .1) (stopped-compaction g b0 b1 n0 n1 count seed n y0 y1)))
 
-  leaves : (n : ℕ) (v : CompactVerdict) → compactVerdict g b0 b1 n0 n1 count seed ≡ v → (r : Stored) (c0 c1 : List ℕ) → Leaves n b0 b1 v r c0 c1 → Called n r c0 c1
+  leaves : (n : ℕ) (v : CompactVerdict) → compactVerdict g b0 b1 n0 n1 count seed ≡ v → (r : Stored) (c0 c1 : List ℕ)
+      → Leaves n b0 b1 v r c0 c1 → Called n r c0 c1
   unfolding compactStoresOf compactImages
   leaves n v e r c0 c1 h = rw e h
 
-  pub called-refused : (n : ℕ) (r : Refusal) → fetched.Refused r ≡ fetchOf g b0 b1 n0 n1 count seed → Called n (stored.Refused r) b0 b1
+  pub called-refused : (n : ℕ) (r : Refusal) → fetched.Refused r ≡ fetchOf g b0 b1 n0 n1 count seed
+      → Called n (stored.Refused r) b0 b1
   unfolding compactVerdict
   called-refused n r f = leaves n (compactRefused r) (rw (← f)) (stored.Refused r) b0 b1 (refl, (refl, refl))
 
   module _ (m : LfsMdir) (s : ℕ) (f : fetched.Found m s ≡ fetchOf g b0 b1 n0 n1 count seed) where
-    verdict-of : (w : Bool) → isSecond n0 m ≡ w → compactVerdict g b0 b1 n0 n1 count seed ≡ placedAt w (compactable (g .«prog_size») false (blockAt w b0 b1) (log (blockAt w b0 b1)))
+    verdict-of : (w : Bool) → isSecond n0 m ≡ w → compactVerdict g b0 b1 n0 n1 count seed
+        ≡ placedAt w (compactable (g .«prog_size») false (blockAt w b0 b1) (log (blockAt w b0 b1)))
     unfolding compactVerdict
     verdict-of w e = rw (← f, e) (placed-at (g .«prog_size») w (blockAt w b0 b1))
 
@@ -116,7 +130,8 @@ module _ (g : Geometry) (b0 b1 : List ℕ) (n0 n1 count seed : ℕ) where
           };
         })
       where
-        lengths : (v : Bool) → Sized g b0 b1 → (length (blockAt v b0 b1) ≡ g .«block_size») × (length (blockAt (not v) b0 b1) ≡ g .«block_size»)
+        lengths : (v : Bool) → Sized g b0 b1 → (length (blockAt v b0 b1) ≡ g .«block_size»)
+            × (length (blockAt (not v) b0 b1) ≡ g .«block_size»)
         lengths false z = (z .first, z .second)
         lengths true z = (z .second, z .first)
 
@@ -128,9 +143,11 @@ module _ (g : Geometry) (b0 b1 : List ℕ) (n0 n1 count seed : ℕ) where
       pub renews-first : Renewable (g .«prog_size») b0 b1 m
       renews-first = renewable false place-first
 
-      pub called-first : (n : ℕ) (r : Stored) (c : List ℕ) → r ≡ compactMade n (compactable (g .«prog_size») false b0 (log b0))
+      pub called-first : (n : ℕ) (r : Stored) (c : List ℕ)
+          → r ≡ compactMade n (compactable (g .«prog_size») false b0 (log b0))
           → c ≡ renewedTo n b1 (compactable (g .«prog_size») false b0 (log b0)) → Called n r b0 c
-      called-first n r c er ec = leaves n _ (verdict-of false place-first) r b0 c (first-leaves n b0 b1 (compactable (g .«prog_size») false b0 (log b0)) r c er ec)
+      called-first n r c er ec = leaves n _ (verdict-of false place-first) r b0 c
+          (first-leaves n b0 b1 (compactable (g .«prog_size») false b0 (log b0)) r c er ec)
 
     -- the second block answers
     module _ (h : m .pair .n0 ≡ n0 → ⊥) where
@@ -140,9 +157,11 @@ module _ (g : Geometry) (b0 b1 : List ℕ) (n0 n1 count seed : ℕ) where
       pub renews-second : Renewable (g .«prog_size») b1 b0 m
       renews-second = renewable true place-second
 
-      pub called-second : (n : ℕ) (r : Stored) (c : List ℕ) → r ≡ compactMade n (compactable (g .«prog_size») false b1 (log b1))
+      pub called-second : (n : ℕ) (r : Stored) (c : List ℕ)
+          → r ≡ compactMade n (compactable (g .«prog_size») false b1 (log b1))
           → c ≡ renewedTo n b0 (compactable (g .«prog_size») false b1 (log b1)) → Called n r c b1
-      called-second n r c er ec = leaves n _ (verdict-of true place-second) r c b1 (second-leaves n b0 b1 (compactable (g .«prog_size») false b1 (log b1)) r c er ec)
+      called-second n r c er ec = leaves n _ (verdict-of true place-second) r c b1
+          (second-leaves n b0 b1 (compactable (g .«prog_size») false b1 (log b1)) r c er ec)
 
   -- ---- the call with no limit: c0 and c1 are what the other leaves
   abbrev pub Answered : Committed → List ℕ → List ℕ → Type 0
@@ -159,21 +178,25 @@ module _ (g : Geometry) (b0 b1 : List ℕ) (n0 n1 count seed : ℕ) where
     left : CompactLeaves g b0 b1 n0 n1 count seed c0 c1
     left = (l .0, l .1, λ n. stopped-compaction g b0 b1 n0 n1 count seed n y0 y1)
 
-    pub answered-refused : (r : Refusal) → stored.Refused r ≡ compactStoresOf g b0 b1 n0 n1 count seed unlimited → Answered (committed.Refused r) c0 c1
+    pub answered-refused : (r : Refusal) → stored.Refused r ≡ compactStoresOf g b0 b1 n0 n1 count seed unlimited
+        → Answered (committed.Refused r) c0 c1
     unfolding compactOf compactStoresOf
     answered-refused r h = (go (compactVerdict g b0 b1 n0 n1 count seed) h, left)
       where
         go : (v : CompactVerdict) → stored.Refused r ≡ compactMade unlimited v
-            → committed.Refused r ≡ compactAnswer (fetchOf g (compactImages g b0 b1 n0 n1 count seed unlimited .b0) (compactImages g b0 b1 n0 n1 count seed unlimited .b1) n0 n1 count seed) v
+            → committed.Refused r ≡ compactAnswer (fetchOf g (compactImages g b0 b1 n0 n1 count seed unlimited .b0)
+            (compactImages g b0 b1 n0 n1 count seed unlimited .b1) n0 n1 count seed) v
         go (compactRefused x) k = let q : r ≡ x = cc in ap committed.Refused q
         go (compactAccepted w rev is size) k = cc
 
-    pub answered-made : (k : ℕ) → stored.Made k ≡ compactStoresOf g b0 b1 n0 n1 count seed unlimited → (f : Fetched) → f ≡ fetchOf g c0 c1 n0 n1 count seed
+    pub answered-made : (k : ℕ) → stored.Made k ≡ compactStoresOf g b0 b1 n0 n1 count seed unlimited → (f : Fetched)
+        → f ≡ fetchOf g c0 c1 n0 n1 count seed
         → Answered (committedAs f) c0 c1
     unfolding compactOf compactStoresOf
     answered-made k h f ef = (go (compactVerdict g b0 b1 n0 n1 count seed) h, left)
       where
         go : (v : CompactVerdict) → stored.Made k ≡ compactMade unlimited v
-            → committedAs f ≡ compactAnswer (fetchOf g (compactImages g b0 b1 n0 n1 count seed unlimited .b0) (compactImages g b0 b1 n0 n1 count seed unlimited .b1) n0 n1 count seed) v
+            → committedAs f ≡ compactAnswer (fetchOf g (compactImages g b0 b1 n0 n1 count seed unlimited .b0)
+            (compactImages g b0 b1 n0 n1 count seed unlimited .b1) n0 n1 count seed) v
         go (compactRefused x) k = cc
         go (compactAccepted w rev is size) k = ap committedAs ef ∙ rw (e0, e1)

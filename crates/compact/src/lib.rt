@@ -1,5 +1,6 @@
-// Compaction of a metadata pair: document 01's `lfs_dir_compact`, and the same with a limit of stores. The block that fetch did not answer from is
-// erased and gets the next revision and one commit of all that the pair holds. Any geometry, images, numbers, block count and seed.
+// Compaction of a metadata pair: document 01's `lfs_dir_compact`, and the same with a limit of stores. The block that
+// fetch did not answer from is erased and gets the next revision and one commit of all that the pair holds. Any
+// geometry, images, numbers, block count and seed.
 ghost use mathlib.Core.Path.{_≡_};
 ghost use Rattle.format.specs.Compaction.{compactOf, compactStoresOf};
 ghost use Rattle.format.specs.Stopped.{CompactLeaves, CompactStoresLeaves};
@@ -9,8 +10,9 @@ use format::Geometry;
 use format::Stored;
 use format::types::UNLIMITED;
 
-// "exactly the first n of demand 3's list are made (all, if n is larger) and the number made is the answer": the erase is the first, then single
-// bytes rise. `CompactStoresLeaves` has demand 3 of what stands in the images now: the finished pair or the old one.
+// "exactly the first n of demand 3's list are made (all, if n is larger) and the number made is the answer": the erase
+// is the first, then single bytes rise. `CompactStoresLeaves` has demand 3 of what stands in the images now: the
+// finished pair or the old one.
 pub fn lfs_dir_compact_stores(
     g: Geometry,
     b0: &mut [u8],
@@ -38,8 +40,8 @@ pub fn lfs_dir_compact_stores(
     }
 }
 
-// "An accepted call answers what fetch gives on the finished pair from the same seed." No compaction has as many stores as the limit here.
-// `CompactLeaves` has demand 3 wherever the call is stopped.
+// "An accepted call answers what fetch gives on the finished pair from the same seed." No compaction has as many stores
+// as the limit here. `CompactLeaves` has demand 3 wherever the call is stopped.
 pub fn lfs_dir_compact(
     g: Geometry,
     b0: &mut [u8],

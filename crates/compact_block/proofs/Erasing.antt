@@ -24,7 +24,8 @@ erase-one i b c h e =
     ∙ erased-more i (drop (suc i) b) ∙ ap (λ (n : ℕ). erasedTo n b) (sym (add-one i))
 
 pub erase-length : (i : ℕ) (b c : List ℕ) → i ≤ length b → c ≡ erasedTo i b → length c ≡ length b
-erase-length i b c h e = ap length e ∙ rw (length-append (erased i) (drop i b), length-replicate {A = ℕ} i erasedByte, length-drop i b) (omega arith)
+erase-length i b c h e = ap length e
+    ∙ rw (length-append (erased i) (drop i b), length-replicate {A = ℕ} i erasedByte, length-drop i b) (omega arith)
 
 pub erase-all : (i : ℕ) (b c : List ℕ) → i ≤ length b → length c ≤ i → c ≡ erasedTo i b → c ≡ erased (length b)
 erase-all i b c h k e =

@@ -14,7 +14,8 @@ use Rattle.format.specs.Regular.{Regular}
 use Rattle.format.specs.Commit.{Item, checkTag}
 use Rattle.format.specs.Stores.{coincides}
 use Rattle.format.specs.Writer.{checkLength, roundedEnd, checkSize}
-use Rattle.format.specs.Compaction.{compactionItems, compactCheckAt, compactStores, CompactVerdict, compactRefused, compactAccepted, placedAnew, compactable, compactMade}
+use Rattle.format.specs.Compaction.{compactionItems, compactCheckAt, compactStores, CompactVerdict, compactRefused}
+use Rattle.format.specs.Compaction.{compactAccepted, placedAnew, compactable, compactMade}
 use Rattle.format.specs.declared.LfsMdir.{LfsMdir}
 use Rattle.format.specs.declared.Refusal.{Refusal}
 use Rattle.format.specs.declared.Stored.{Stored}
@@ -44,22 +45,27 @@ emits-spent (i ∷ is) s h =
     emits-spent is (emitted s i) (ap (λ (l : Laid). l .run .left) e ∙ h) ∙ e
 
 -- ---- what the pass knows: e stands behind the entries, b is the block then
-module _ (rev : ℕ) (is : List Item) (s e : Emit) (es : s ≡ begins rev (record { at = 0; left = 0 })) (b new : List ℕ) (ee : standing e b ≡ emits (standing s new) is) where
+module _ (rev : ℕ) (is : List Item) (s e : Emit) (es : s ≡ begins rev (record { at = 0; left = 0 })) (b new : List ℕ)
+    (ee : standing e b ≡ emits (standing s new) is) where
   begun : standing e b ≡ emits (standing (begins rev (record { at = 0; left = 0 })) new) is
   begun = ee ∙ ap (λ (z : Emit). emits (standing z new) is) es
 
   pub measured-block : b ≡ new
   unfolding begins
-  measured-block = ap (λ (z : Standing). z .stores .block) begun ∙ ap (λ (l : Laid). l .block) (emits-spent is (standing (begins rev (record { at = 0; left = 0 })) new) refl)
+  measured-block = ap (λ (z : Standing). z .stores .block) begun
+      ∙ ap (λ (l : Laid). l .block) (emits-spent is (standing (begins rev (record { at = 0; left = 0 })) new) refl)
 
   pub measured-end : e .end ≡ compactCheckAt is
   unfolding begins
-  measured-end = ap (λ (z : Standing). z .end) begun ∙ emits-end is (standing (begins rev (record { at = 0; left = 0 })) new)
+  measured-end = ap (λ (z : Standing). z .end) begun
+      ∙ emits-end is (standing (begins rev (record { at = 0; left = 0 })) new)
 
-  pub measured-meets : (ct : ℕ) → meets (e .sum) (bitXor ct (e .prev)) ≡ coincides (crc allOnes (toLe32 rev)) allOnes is ct
+  pub measured-meets : (ct : ℕ) → meets (e .sum) (bitXor ct (e .prev)) ≡ coincides (crc allOnes (toLe32 rev)) allOnes is
+      ct
   unfolding begins xor
   measured-meets ct =
-      ap (λ (z : Standing). meets (z .sum) (xor ct (z .prev))) begun ∙ emits-coincides is (standing (begins rev (record { at = 0; left = 0 })) new) ct
+      ap (λ (z : Standing). meets (z .sum) (xor ct (z .prev))) begun
+      ∙ emits-coincides is (standing (begins rev (record { at = 0; left = 0 })) new) ct
 
 -- ---- the verdict
 module _ (prog : ℕ) (w : Bool) (x : List ℕ) where
@@ -82,7 +88,8 @@ module _ (prog : ℕ) (w : Bool) (x : List ℕ) where
     verdict-full h = rw (regular, lt-ltb (length x) (roundedEnd prog at) h)
 
     module _ (fits : roundedEnd prog at ≤ length x) where
-      pub verdict-coincides : coincides (crc allOnes (toLe32 next)) allOnes I (checkTag (checkSize prog at)) ≡ true → compactable prog w x (log x) ≡ compactRefused Coincidence
+      pub verdict-coincides : coincides (crc allOnes (toLe32 next)) allOnes I (checkTag (checkSize prog at)) ≡ true
+          → compactable prog w x (log x) ≡ compactRefused Coincidence
       unfolding compactable placedAnew
       verdict-coincides h = rw (regular, le-ltb (length x) (roundedEnd prog at) fits, h)
 
@@ -94,22 +101,25 @@ module _ (prog : ℕ) (w : Bool) (x : List ℕ) where
       pub verdict-room : 4 ≤ prog → at + checkLength ≤ length x
       verdict-room h = omega (arith, rounded prog at h .0, fits)
 
--- ---- what the function answers and leaves, by its tests: x is whether the log is regular, e stands behind the entries with the block b, z is the
--- rounded end, ct the check tag, y whether it coincides
+-- ---- what the function answers and leaves, by its tests: x is whether the log is regular, e stands behind the entries
+-- with the block b, z is the rounded end, ct the check tag, y whether it coincides
 abbrev pub Answered : ℕ → List ℕ → CompactVerdict → Stored → List ℕ → Type 0
 Answered n new v r b = (r ≡ compactMade n v) × (b ≡ renewedTo n new v)
 
-refuses : (n : ℕ) (new b : List ℕ) (v : CompactVerdict) (r : Refusal) → v ≡ compactRefused r → b ≡ new → Answered n new v (stored.Refused r) b
+refuses : (n : ℕ) (new b : List ℕ) (v : CompactVerdict) (r : Refusal) → v ≡ compactRefused r → b ≡ new
+    → Answered n new v (stored.Refused r) b
 refuses n new b v r h e = rw h (refl, e)
 
-module _ (prog : ℕ) (old new : List ℕ) (dir : LfsMdir) (n : ℕ) (w : Renewable prog old new dir) (x : Bool) (ex : x ≡ Regular (log old)) where
+module _ (prog : ℕ) (old new : List ℕ) (dir : LfsMdir) (n : ℕ) (w : Renewable prog old new dir) (x : Bool)
+    (ex : x ≡ Regular (log old)) where
   abbrev v : CompactVerdict
   v = compactable prog false old (log old)
 
   pub renew-irregular : not x ≡ true → Answered n new v (stored.Refused Irregular) new
   renew-irregular h = refuses n new new v Irregular (verdict-irregular prog false old (sym ex ∙ not-true x h)) refl
 
-  module _ (hx : not x ≡ false) (rev : ℕ) (er : rev ≡ plus32 (dir .rev) 1) (s e : Emit) (es : s ≡ begins rev (record { at = 0; left = 0 })) (b : List ℕ)
+  module _ (hx : not x ≡ false) (rev : ℕ) (er : rev ≡ plus32 (dir .rev) 1) (s e : Emit)
+      (es : s ≡ begins rev (record { at = 0; left = 0 })) (b : List ℕ)
       (ee : standing e b ≡ emits (standing s new) (compactionItems (log old))) where
     regular : Regular (log old) ≡ true
     regular = sym ex ∙ not-false x hx
@@ -124,7 +134,11 @@ module _ (prog : ℕ) (old new : List ℕ) (dir : LfsMdir) (n : ℕ) (w : Renewa
     end-is = measured-end rev (compactionItems (log old)) s e es b new ee
 
     pub renew-prog : Prog prog (e .end)
-    renew-prog = record { low = w .low; high = w .high; near = omega (arith, end-is, items-most (log old) (slots-few old regular)) }
+    renew-prog = record {
+      low = w .low;
+      high = w .high;
+      near = omega (arith, end-is, items-most (log old) (slots-few old regular));
+    }
 
     module _ (z : ℕ) (ez : z ≡ roundedEnd prog (e .end)) where
       rounded-is : z ≡ roundedEnd prog (at prog false old)
@@ -133,24 +147,33 @@ module _ (prog : ℕ) (old new : List ℕ) (dir : LfsMdir) (n : ℕ) (w : Renewa
       pub renew-full : length old < z → Answered n new v (stored.Refused NoSpace) b
       renew-full h = refuses n new b v NoSpace (verdict-full prog false old regular (rw (← rounded-is) h)) same
 
-      module _ (hz : z ≤ length old) (ct : ℕ) (ect : ct ≡ checkTag (checkSize prog (e .end))) (y : Bool) (ey : y ≡ meets (e .sum) (bitXor ct (e .prev))) where
+      module _ (hz : z ≤ length old) (ct : ℕ) (ect : ct ≡ checkTag (checkSize prog (e .end))) (y : Bool)
+          (ey : y ≡ meets (e .sum) (bitXor ct (e .prev))) where
         fits : roundedEnd prog (at prog false old) ≤ length old
         fits = rw (← rounded-is) hz
 
         tag-is : ct ≡ checkTag (checkSize prog (at prog false old))
         tag-is = ect ∙ ap (λ (k : ℕ). checkTag (checkSize prog k)) end-is
 
-        coincides-is : coincides (crc allOnes (toLe32 (next prog false old))) allOnes (compactionItems (log old)) (checkTag (checkSize prog (at prog false old))) ≡ y
+        coincides-is : coincides (crc allOnes (toLe32 (next prog false old))) allOnes (compactionItems (log old))
+            (checkTag (checkSize prog (at prog false old))) ≡ y
         coincides-is =
             sym (ey ∙ measured-meets rev (compactionItems (log old)) s e es b new ee ct ∙ rw (next-is, tag-is))
 
         pub renew-coincides : y ≡ true → Answered n new v (stored.Refused Coincidence) b
-        renew-coincides h = refuses n new b v Coincidence (verdict-coincides prog false old regular fits (coincides-is ∙ h)) same
+        renew-coincides h = refuses n new b v Coincidence
+            (verdict-coincides prog false old regular fits (coincides-is ∙ h)) same
 
         pub renew-writes : Writable old b dir
         renew-writes =
-            record { recorded = w .recorded; regular = regular; room = rw (same, w .long) (verdict-room prog false old regular fits (w .low)) }
+            record {
+              recorded = w .recorded;
+              regular = regular;
+              room = rw (same, w .long) (verdict-room prog false old regular fits (w .low));
+            }
 
-        pub renew-made : y ≡ false → (k : ℕ) → k ≡ min n (compactStores (compactionItems (log old))) → (c : List ℕ) → c ≡ writtenTo old b rev ct n → Answered n new v (stored.Made k) c
+        pub renew-made : y ≡ false → (k : ℕ) → k ≡ min n (compactStores (compactionItems (log old))) → (c : List ℕ)
+            → c ≡ writtenTo old b rev ct n → Answered n new v (stored.Made k) c
         renew-made h k ek c ec =
-            rw (verdict-accepted prog false old regular fits (coincides-is ∙ h)) (ap stored.Made ek, ec ∙ rw (same, next-is, tag-is))
+            rw (verdict-accepted prog false old regular fits (coincides-is ∙ h))
+            (ap stored.Made ek, ec ∙ rw (same, next-is, tag-is))

@@ -41,18 +41,26 @@ rest-is : (o B L : ℕ) → o ≡ B → B - (4 + (L + 8)) ≡ o - (4 + L + 8)
 rest-is o B L e = omega arith
 
 -- ---- the bytes
-bytes-length : (rev : ℕ) (is : List Item) (ct : ℕ) → AllGood is → length (compactBytes rev is ct) ≡ 4 + (entriesLength is + 8)
+bytes-length : (rev : ℕ) (is : List Item) (ct : ℕ) → AllGood is
+    → length (compactBytes rev is ct) ≡ 4 + (entriesLength is + 8)
 unfolding compactBytes
 bytes-length rev is ct good =
-    rw (length-append (toLe32 rev) (commitBytes (crc allOnes (toLe32 rev)) allOnes is ct), length-toLe32 rev, length-commit is (crc allOnes (toLe32 rev)) allOnes ct good)
+    rw (
+      length-append (toLe32 rev) (commitBytes (crc allOnes (toLe32 rev)) allOnes is ct),
+      length-toLe32 rev,
+      length-commit is (crc allOnes (toLe32 rev)) allOnes ct good,
+    )
 
 -- what the check leaves, of where the entries end
 abbrev checkLaid : ℕ → Standing → Laid
 checkLaid ct s = putsOf (s .stores) (toBe32 (xor ct (s .prev)) ++ toLe32 (crc (s .sum) (toBe32 (xor ct (s .prev)))))
 
--- p is what the revision's bytes leave, e and b where the entries end, q what the check leaves: all of it is one run of the bytes
-module _ (B left rev ct : ℕ) (is : List Item) (p : Laid) (e : Emit) (b : List ℕ) (q : Laid) (ep : p ≡ putsOf (laid (runAt 0 left) (erased B)) (toLe32 rev))
-    (es : standing e b ≡ emits (standing (begins rev (p .run)) (p .block)) is) (eq : q ≡ checkLaid ct (standing e b)) where
+-- p is what the revision's bytes leave, e and b where the entries end, q what the check leaves: all of it is one run of
+-- the bytes
+module _ (B left rev ct : ℕ) (is : List Item) (p : Laid) (e : Emit) (b : List ℕ) (q : Laid)
+    (ep : p ≡ putsOf (laid (runAt 0 left) (erased B)) (toLe32 rev))
+    (es : standing e b ≡ emits (standing (begins rev (p .run)) (p .block)) is)
+    (eq : q ≡ checkLaid ct (standing e b)) where
   one-run : q ≡ putsOf (laid (runAt 0 left) (erased B)) (compactBytes rev is ct)
   unfolding begins compactBytes
   one-run =
@@ -65,7 +73,8 @@ module _ (B left rev ct : ℕ) (is : List Item) (p : Laid) (e : Emit) (b : List 
     made = min left (length (compactBytes rev is ct))
 
     stored : q ≡ pasted (compactBytes rev is ct) 0 left (erased B)
-    stored = one-run ∙ puts-paste (compactBytes rev is ct) 0 left (erased B) (omega (arith, bytes-length rev is ct good, length-erased B))
+    stored = one-run ∙ puts-paste (compactBytes rev is ct) 0 left (erased B)
+        (omega (arith, bytes-length rev is ct good, length-erased B))
 
     -- o is the block as it was before the erase
     pub stored-made : (n : ℕ) → left ≡ n - 1 → (n ≡ 0 → ⊥) → 1 + q .run .at ≡ min n (compactStores is)
@@ -76,18 +85,28 @@ module _ (B left rev ct : ℕ) (is : List Item) (p : Laid) (e : Emit) (b : List 
     stored-block o n eo el h =
         let k : ℕ = min left (4 + (entriesLength is + 8)) in
         let more : suc k ≡ min n (compactStores is) = one-more n left (entriesLength is) el h in
-        let rest : B - (4 + (entriesLength is + 8)) ≡ length o - (compactCheckAt is + checkLength) = rest-is (length o) B (entriesLength is) eo in
+        let rest : B - (4 + (entriesLength is + 8)) ≡ length o - (compactCheckAt is + checkLength) =
+        rest-is (length o) B (entriesLength is) eo in
         let same : min left (length (compactBytes rev is ct)) ≡ k = ap (min left) (bytes-length rev is ct good) in
         ap (λ (z : Laid). z .block) stored ∙ ap (λ (j : ℕ). paste (erased B) 0 (compactBytes rev is ct) j) same
-        ∙ sym (compact-stores B rev o is ct k good room (least-most left (4 + (entriesLength is + 8)))) ∙ rw (more, rest)
+        ∙ sym (compact-stores B rev o is ct k good room (least-most left (4 + (entriesLength is + 8))))
+        ∙ rw (more, rest)
 
 -- ---- what the pass asks of its calls
-pub reads-all : (b : List ℕ) (dir : LfsMdir) (rev : ℕ) (run : Run) → Recorded b dir → Regular (log b) ≡ true → Read b (begins rev run) dir
+pub reads-all : (b : List ℕ) (dir : LfsMdir) (rev : ℕ) (run : Run) → Recorded b dir → Regular (log b) ≡ true
+    → Read b (begins rev run) dir
 unfolding begins
 reads-all b dir rev run r regular =
     record {
       source = record {
-        slots = record { word = r .word; most = r .most; regular = regular; ends = r .ends; endTag = r .endTag; count′ = r .count′ ∙ slots-counted b regular };
+        slots = record {
+          word = r .word;
+          most = r .most;
+          regular = regular;
+          ends = r .ends;
+          endTag = r .endTag;
+          count′ = r .count′ ∙ slots-counted b regular;
+        };
         some = r .some;
         small = omega arith;
       };
@@ -96,9 +115,12 @@ reads-all b dir rev run r regular =
     }
 
 -- the whole pass, with the arguments as the code has them
-module _ (old new : List ℕ) (dir : LfsMdir) (w : Writable old new dir) (rev ct n : ℕ) (some : n ≡ 0 → ⊥) (erasedNew : List ℕ) (en : erasedNew ≡ erased (length new))
-    (p : Laid) (ep : p ≡ putsOf (laid (runAt 0 (n - 1)) erasedNew) (toLe32 rev)) (s e : Emit) (es : s ≡ begins rev (p .run)) (b : List ℕ)
-    (ee : standing e b ≡ emits (standing s (p .block)) (compactionItems (log old))) (q : Laid) (eq : q ≡ checkLaid ct (standing e b)) where
+module _ (old new : List ℕ) (dir : LfsMdir) (w : Writable old new dir) (rev ct n : ℕ) (some : n ≡ 0
+    → ⊥) (erasedNew : List ℕ) (en : erasedNew ≡ erased (length new))
+    (p : Laid) (ep : p ≡ putsOf (laid (runAt 0 (n - 1)) erasedNew) (toLe32 rev)) (s e : Emit)
+    (es : s ≡ begins rev (p .run)) (b : List ℕ)
+    (ee : standing e b ≡ emits (standing s (p .block)) (compactionItems (log old))) (q : Laid)
+    (eq : q ≡ checkLaid ct (standing e b)) where
   abbrev I : List Item
   I = compactionItems (log old)
 
@@ -109,13 +131,16 @@ module _ (old new : List ℕ) (dir : LfsMdir) (w : Writable old new dir) (rev ct
   entries = ee ∙ ap (λ (z : Emit). emits (standing z (p .block)) I) es
 
   pub pass-made : 1 + q .run .at ≡ min n (compactStores I)
-  pass-made = stored-made (length new) (n - 1) rev ct I p e b q from entries eq (compaction-good old (w .regular)) (omega (arith, w .room)) n refl some
+  pass-made = stored-made (length new) (n - 1) rev ct I p e b q from entries eq (compaction-good old (w .regular))
+      (omega (arith, w .room)) n refl some
 
   pub pass-block : q .block ≡ writtenTo old new rev ct n
-  pass-block = stored-block (length new) (n - 1) rev ct I p e b q from entries eq (compaction-good old (w .regular)) (omega (arith, w .room)) new n refl refl some
+  pass-block = stored-block (length new) (n - 1) rev ct I p e b q from entries eq (compaction-good old (w .regular))
+      (omega (arith, w .room)) new n refl refl some
 
 -- no store: the block as it was
-pub pass-none : (old new : List ℕ) (rev ct n : ℕ) → n ≡ 0 → (0 ≡ min n (compactStores (compactionItems (log old)))) × (new ≡ writtenTo old new rev ct n)
+pub pass-none : (old new : List ℕ) (rev ct n : ℕ) → n ≡ 0 → (0 ≡ min n (compactStores (compactionItems (log old))))
+    × (new ≡ writtenTo old new rev ct n)
 unfolding compacting
 pass-none old new rev ct n h =
     let z : min n (compactStores (compactionItems (log old))) ≡ 0 = omega arith in

@@ -12,7 +12,8 @@ use Rattle.format.specs.Record.{countOf, noTail, tailOf, splitOf}
 use Rattle.format.specs.Regular.{Regular}
 use Rattle.format.specs.Stores.{compacting}
 use Rattle.format.specs.Writer.{checkLength}
-use Rattle.format.specs.Compaction.{compactionItems, compactCheckAt, compactStores, compactedTo, CompactVerdict, compactRefused, compactAccepted}
+use Rattle.format.specs.Compaction.{compactionItems, compactCheckAt, compactStores, compactedTo, CompactVerdict}
+use Rattle.format.specs.Compaction.{compactRefused, compactAccepted}
 use Rattle.format.specs.declared.LfsMdir.{LfsMdir}
 use Rattle.commit_lay.specs.declared.Run.{Run}
 use Rattle.compact_entries.specs.declared.Emit.{Emit}
@@ -47,7 +48,9 @@ pub record Writable (old new : List ℕ) (dir : LfsMdir) : Type 0 where
 -- the other block after the first n stores of the check tag ct
 abbrev pub writtenTo : List ℕ → List ℕ → ℕ → ℕ → ℕ → List ℕ
 writtenTo old new rev ct n =
-    compacting new rev (compactionItems (log old)) ct (length new - (compactCheckAt (compactionItems (log old)) + checkLength)) (min n (compactStores (compactionItems (log old))))
+    compacting new rev (compactionItems (log old)) ct
+    (length new - (compactCheckAt (compactionItems (log old)) + checkLength))
+    (min n (compactStores (compactionItems (log old))))
 
 -- the other block after the first n stores, by the verdict
 abbrev pub renewedTo : ℕ → List ℕ → CompactVerdict → List ℕ

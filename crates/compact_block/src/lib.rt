@@ -1,5 +1,6 @@
-// One block compacted into another. Two passes run over the entries: the first makes no store and finds whether the compaction is refused; the
-// second erases the other block and writes "revision plus one (wrapping) and one commit". A refusal alters nothing.
+// One block compacted into another. Two passes run over the entries: the first makes no store and finds whether the
+// compaction is refused; the second erases the other block and writes "revision plus one (wrapping) and one commit". A
+// refusal alters nothing.
 ghost use mathlib.Core.Path.{_≡_};
 ghost use mathlib.Core.Bool.{false};
 ghost use Prim.Native.Nat.{min};
@@ -70,11 +71,13 @@ fn write(old: &[u8], new: &mut [u8], dir: LfsMdir, rev: u32, tag: u32, stores: u
     1 + last.at as u32
 }
 
-// The compaction of the block `old`, whose record is `dir`, into the block `new`: refused, or the number of stores made.
+// The compaction of the block `old`, whose record is `dir`, into the block `new`: refused, or the number of stores
+// made.
 pub fn renew(prog: u32, old: &[u8], new: &mut [u8], dir: LfsMdir, stores: u32) -> Stored
     requires { ⌜ Renewable prog (now old) (now new) dir ⌝ }
     ensures { λ r. ⌜ r ≡ compactMade stores (compactable prog false (now (old .entry)) (log (now (old .entry)))) ⌝ }
-    ensures { λ _. ⌜ now (new .exit) ≡ renewedTo stores (now (new .entry)) (compactable prog false (now (old .entry)) (log (now (old .entry)))) ⌝ }
+    ensures { λ _. ⌜ now (new .exit) ≡ renewedTo stores (now (new .entry))
+        (compactable prog false (now (old .entry)) (log (now (old .entry)))) ⌝ }
 {
     if !commit_regular::log_regular(old) {
         return Stored::Refused(Refusal::Irregular);

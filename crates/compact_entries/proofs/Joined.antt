@@ -48,7 +48,8 @@ length-most t = go (tagDelete t) refl
 length-app : (is js : List Item) → entriesLength (is ++ js) ≡ entriesLength is + entriesLength js
 unfolding entriesLength
 length-app [] js = omega arith
-length-app (i ∷ is) js = rw (length-app is js) (sym (add-assoc (tagLength (i .tag)) (entriesLength is) (entriesLength js)))
+length-app (i ∷ is) js = rw (length-app is js)
+    (sym (add-assoc (tagLength (i .tag)) (entriesLength is) (entriesLength js)))
 
 pub class-most : (id : ℕ) (v : Option Load) → entriesLength (classItems id v) ≤ 1_026
 unfolding entriesLength
@@ -59,7 +60,8 @@ slot-most : (n c id : ℕ) (s : Slot) → entriesLength (slotItems n c id s) ≤
 unfolding entriesLength slotItems
 slot-most zero c id s = omega arith
 slot-most (suc n) c id s =
-    rw (length-app (classItems id (s c)) (slotItems n (suc c) id s)) (omega (arith, class-most id (s c), slot-most n (suc c) id s))
+    rw (length-app (classItems id (s c)) (slotItems n (suc c) id s))
+    (omega (arith, class-most id (s c), slot-most n (suc c) id s))
 
 -- bounds of the end behind an entry, a class, a slot, the directory
 pub entry-within : (r s : Standing) (i : Item) → r ≡ emitted s i → r .end ≤ s .end + 1_026
@@ -69,16 +71,24 @@ entry-within r s i h = omega (arith, ap (λ (z : Standing). z .end) h, length-mo
 pub class-within : (r s : Standing) (id : ℕ) (v : Option Load) → r ≡ emits s (classItems id v) → r .end ≤ s .end + 1_026
 class-within r s id v h = omega (arith, ap (λ (z : Standing). z .end) h, emits-end (classItems id v) s, class-most id v)
 
-pub slot-within : (r s : Standing) (id : ℕ) (v : Slot) → r ≡ emits s (createItem id ∷ slotItems classes 0 id v) → r .end ≤ s .end + 265_734
+pub slot-within : (r s : Standing) (id : ℕ) (v : Slot) → r ≡ emits s (createItem id ∷ slotItems classes 0 id v)
+    → r .end ≤ s .end + 265_734
 unfolding entriesLength
 slot-within r s id v h =
-    omega (arith, ap (λ (z : Standing). z .end) h, emits-end (createItem id ∷ slotItems classes 0 id v) s, length-most (tagOf typeCreate id 0), slot-most classes 0 id v)
+    omega (
+      arith,
+      ap (λ (z : Standing). z .end) h,
+      emits-end (createItem id ∷ slotItems classes 0 id v) s,
+      length-most (tagOf typeCreate id 0),
+      slot-most classes 0 id v,
+    )
 
 dir-most : (D : List Slot) (id : ℕ) → entriesLength (dirItems id D) ≤ length D * 265_734
 unfolding entriesLength dirItems
 dir-most [] id = omega arith
 dir-most (s ∷ D) id =
-    rw (length-app (slotItems classes 0 id s) (dirItems (suc id) D)) (omega (arith, length-most (tagOf typeCreate id 0), slot-most classes 0 id s, dir-most D (suc id)))
+    rw (length-app (slotItems classes 0 id s) (dirItems (suc id) D))
+    (omega (arith, length-most (tagOf typeCreate id 0), slot-most classes 0 id s, dir-most D (suc id)))
 
 pub dir-within : (r s : Standing) (D : List Slot) → r ≡ emits s (dirItems 0 D) → r .end ≤ s .end + length D * 265_734
 dir-within r s D h = omega (arith, ap (λ (z : Standing). z .end) h, emits-end (dirItems 0 D) s, dir-most D 0)
@@ -87,12 +97,18 @@ tail-most : (split : Bool) (p : LfsPair) → entriesLength (tailItems split p) �
 unfolding entriesLength
 tail-most split p = go (isNoTail split p)
   where
-    go : (b : Bool) → entriesLength (cond b [] (record { tag = tagOf (cond split typeHardTail typeTail) noSlot 8; body = toLe32 (p .n0) ++ toLe32 (p .n1) } ∷ [])) ≤ 1_026
+    go : (b : Bool) → entriesLength
+        (cond b [] (record {
+          tag = tagOf (cond split typeHardTail typeTail) noSlot 8;
+          body = toLe32 (p .n0) ++ toLe32 (p .n1);
+        } ∷ [])) ≤ 1_026
     go true = omega arith
     go false = omega (arith, length-most (tagOf (cond split typeHardTail typeTail) noSlot 8))
 
-pub tail-within : (r s : Standing) (split : Bool) (p : LfsPair) → r ≡ emits s (tailItems split p) → r .end ≤ s .end + 1_026
-tail-within r s split p h = omega (arith, ap (λ (z : Standing). z .end) h, emits-end (tailItems split p) s, tail-most split p)
+pub tail-within : (r s : Standing) (split : Bool) (p : LfsPair) → r ≡ emits s (tailItems split p)
+    → r .end ≤ s .end + 1_026
+tail-within r s split p h =
+    omega (arith, ap (λ (z : Standing). z .end) h, emits-end (tailItems split p) s, tail-most split p)
 
 -- all entries of a log of at most 1,023 slots
 pub items-most : (es : List Event) → length (dirOf es) ≤ 1_023 → entriesLength (compactionItems es) ≤ 271_847_934
@@ -101,7 +117,12 @@ items-most es few =
     let I : List Item = tailItems (splitOf false es) (tailOf noTail es) in
     let M : List Item = moveItems (moveOf none es) in
     rw (length-app (dirItems 0 (dirOf es)) (I ++ M), length-app I M)
-    (omega (arith, dir-most (dirOf es) 0, tail-most (splitOf false es) (tailOf noTail es), class-most noSlot (moveOf none es)))
+    (omega (
+      arith,
+      dir-most (dirOf es) 0,
+      tail-most (splitOf false es) (tailOf noTail es),
+      class-most noSlot (moveOf none es),
+    ))
 
 -- ---- the block keeps its length
 pub emits-block : (is : List Item) (s : Standing) → length (emits s is .stores .block) ≡ length (s .stores .block)
@@ -111,17 +132,20 @@ emits-block (i ∷ is) s = emits-block is (emitted s i) ∙ puts-length (itemByt
 
 -- ---- with the check behind them, the bytes of a commit
 pub emits-commit : (is : List Item) (s : Standing) (ct : ℕ)
-    → putsOf (emits s is .stores) (toBe32 (xor ct (emits s is .prev)) ++ toLe32 (crc (emits s is .sum) (toBe32 (xor ct (emits s is .prev)))))
+    → putsOf (emits s is .stores) (toBe32 (xor ct (emits s is .prev)) ++ toLe32
+    (crc (emits s is .sum) (toBe32 (xor ct (emits s is .prev)))))
     ≡ putsOf (s .stores) (commitBytes (s .sum) (s .prev) is ct)
 unfolding emits emitted commitBytes
 emits-commit [] s ct = refl
 emits-commit (i ∷ is) s ct =
     emits-commit is (emitted s i) ct
     ∙ puts-app (itemBytes (s .prev) i) (commitBytes (crc (s .sum) (itemBytes (s .prev) i)) (i .tag) is ct) (s .stores)
-    ∙ ap (putsOf (s .stores)) (append-assoc (toBe32 (xor (i .tag) (s .prev))) (i .body) (commitBytes (crc (s .sum) (itemBytes (s .prev) i)) (i .tag) is ct))
+    ∙ ap (putsOf (s .stores)) (append-assoc (toBe32 (xor (i .tag) (s .prev))) (i .body)
+    (commitBytes (crc (s .sum) (itemBytes (s .prev) i)) (i .tag) is ct))
 
 -- and the coincidence is a test of where they end
-pub emits-coincides : (is : List Item) (s : Standing) (ct : ℕ) → meets (emits s is .sum) (xor ct (emits s is .prev)) ≡ coincides (s .sum) (s .prev) is ct
+pub emits-coincides : (is : List Item) (s : Standing) (ct : ℕ)
+    → meets (emits s is .sum) (xor ct (emits s is .prev)) ≡ coincides (s .sum) (s .prev) is ct
 unfolding emits emitted coincides meets
 emits-coincides [] s ct = refl
 emits-coincides (i ∷ is) s ct = emits-coincides is (emitted s i) ct

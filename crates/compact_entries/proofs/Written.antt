@@ -35,13 +35,17 @@ unfolding xor
 xor-is a b = refl
 
 -- ---- the check: w is its tag as it is stored, t and u are what the two stores leave, y is the checksum
-pub check-done : (r t u : Laid) (prev sum tag w y : ℕ) → w ≡ xor tag prev → t ≡ putsOf r (toBe32 w) → y ≡ crc sum (toBe32 w) → u ≡ putsOf t (toLe32 y)
+pub check-done : (r t u : Laid) (prev sum tag w y : ℕ) → w ≡ xor tag prev → t ≡ putsOf r (toBe32 w)
+    → y ≡ crc sum (toBe32 w) → u ≡ putsOf t (toLe32 y)
     → u ≡ putsOf r (toBe32 (xor tag prev) ++ toLe32 (crc sum (toBe32 (xor tag prev))))
-check-done r t u prev sum tag w y ew et ey eu = eu ∙ rw (ey, et, ew) (puts-app (toBe32 (xor tag prev)) (toLe32 (crc sum (toBe32 (xor tag prev)))) r)
+check-done r t u prev sum tag w y ew et ey eu =
+    eu ∙ rw (ey, et, ew) (puts-app (toBe32 (xor tag prev)) (toLe32 (crc sum (toBe32 (xor tag prev)))) r)
 
 -- ---- one entry: w is the tag as it is stored, r the stores behind it, n its length and y its checksum
-pub entry-done : (s : Standing) (t w : ℕ) (body : List ℕ) (r : Laid) (n y : ℕ) → w ≡ xor t (s .prev) → r ≡ putsOf (s .stores) (toBe32 w ++ body) → n ≡ tagLength t
-    → y ≡ crc (s .sum) (toBe32 w ++ body) → record { stores = r; end = s .end + n; prev = t; sum = y } ≡ emitted s (record { tag = t; body = body })
+pub entry-done : (s : Standing) (t w : ℕ) (body : List ℕ) (r : Laid) (n y : ℕ) → w ≡ xor t (s .prev)
+    → r ≡ putsOf (s .stores) (toBe32 w ++ body) → n ≡ tagLength t
+    → y ≡ crc (s .sum) (toBe32 w ++ body) → record { stores = r; end = s .end + n; prev = t; sum = y }
+    ≡ emitted s (record { tag = t; body = body })
 unfolding emitted
 entry-done s t w body r n y ew er en ey =
     λ i. record {
@@ -53,7 +57,8 @@ entry-done s t w body r n y ew er en ey =
 
 -- ---- a class
 -- the data behind a tag that is no removal
-body-behind : (b : List ℕ) (t off z : ℕ) → (tagSize t ≡ removalSize → ⊥) → z ≡ tagSize t → bodyOf b (off + 4) z ≡ bytesAt b (record { tag = t; off = off })
+body-behind : (b : List ℕ) (t off z : ℕ) → (tagSize t ≡ removalSize → ⊥) → z ≡ tagSize t
+    → bodyOf b (off + 4) z ≡ bytesAt b (record { tag = t; off = off })
 unfolding bodyOf
 body-behind b t off z n ez =
     let e : tagLength t - 4 ≡ z = omega (arith, length-size t n) in
@@ -84,15 +89,19 @@ module _ (b : List ℕ) (id v : ℕ) (s : Standing) where
       ∙ rw (length-drop 4 (drop (seatPlace v) b), length-drop (seatPlace v) b) (omega (arith, length-size t n))
 
   -- y, z and k are type, size and the tag made of them; r stands behind the entry
-  pub class-made : (v ≡ 0 → ⊥) → (x : Bool) → x ≡ tagDelete t → x ≡ false → Inside b v → id < 2 ^ 10 → (z : ℕ) → z ≡ tagSize t → (y : ℕ) → y ≡ tagType3 t
-      → (k : ℕ) → k ≡ mkTag y id z → (r : Standing) → r ≡ emitted s (record { tag = k; body = bodyOf b (seatPlace v + 4) z }) → r ≡ emits s (classItems id (loadIn b v))
+  pub class-made : (v ≡ 0 → ⊥) → (x : Bool) → x ≡ tagDelete t → x ≡ false → Inside b v → id < 2 ^ 10 → (z : ℕ)
+      → z ≡ tagSize t → (y : ℕ) → y ≡ tagType3 t
+      → (k : ℕ) → k ≡ mkTag y id z → (r : Standing)
+      → r ≡ emitted s (record { tag = k; body = bodyOf b (seatPlace v + 4) z })
+      → r ≡ emits s (classItems id (loadIn b v))
   unfolding emits
   class-made n x ex h inside low z ez y ey k ek r er =
       let gone : tagDelete t ≡ false = sym ex ∙ h in
       let size : (tagSize t ≡ removalSize → ⊥) = eqb-false (tagSize t) removalSize gone in
       let body : bodyOf b (seatPlace v + 4) z ≡ bytes = body-behind b t (seatPlace v) z size ez in
       let tag : k ≡ tagOf (tagType3 t) id (length bytes) =
-      made-tag k y id z ek (omega arith) low (omega arith) ∙ ap₂ (λ (p q : ℕ). tagOf p id q) ey (ez ∙ sym (bytes-length size inside)) in
+      made-tag k y id z ek (omega arith) low (omega arith) ∙ ap₂ (λ (p q : ℕ). tagOf p id q) ey
+      (ez ∙ sym (bytes-length size inside)) in
       er ∙ ap₂ (λ (p : ℕ) (q : List ℕ). emitted s (record { tag = p; body = q })) tag body ∙ rw (load-made b v n gone)
 
 -- ---- a slot
@@ -101,27 +110,33 @@ unfolding bodyOf
 no-body dat = refl
 
 -- r stands behind the create, whose tag is k
-pub slot-created : (s r : Standing) (dat : List ℕ) (id k : ℕ) (is : List Item) → id < 2 ^ 10 → k ≡ mkTag typeCreate id 0 → r ≡ emitted s (record { tag = k; body = bodyOf dat 0 0 })
+pub slot-created : (s r : Standing) (dat : List ℕ) (id k : ℕ) (is : List Item) → id < 2 ^ 10 → k ≡ mkTag typeCreate id 0
+    → r ≡ emitted s (record { tag = k; body = bodyOf dat 0 0 })
     → emits s (createItem id ∷ is) ≡ emits r is
 unfolding emits
 slot-created s r dat id k is low ek er =
     ap (λ (z : Standing). emits z is)
-    (sym (er ∙ ap₂ (λ (p : ℕ) (q : List ℕ). emitted s (record { tag = p; body = q })) (made-tag k typeCreate id 0 ek (omega arith) low (omega arith)) (no-body dat)))
+    (sym (er ∙ ap₂ (λ (p : ℕ) (q : List ℕ). emitted s (record { tag = p; body = q }))
+    (made-tag k typeCreate id 0 ek (omega arith) low (omega arith)) (no-body dat)))
 
-class-next : (c id : ℕ) (s : Slot) → c < classes → slotItems (classes - c) c id s ≡ classItems id (s c) ++ slotItems (classes - (c + 1)) (c + 1) id s
+class-next : (c id : ℕ) (s : Slot) → c < classes → slotItems (classes - c) c id s ≡ classItems id (s c)
+    ++ slotItems (classes - (c + 1)) (c + 1) id s
 unfolding slotItems
 class-next c id s h =
     let e : classes - c ≡ suc (classes - (c + 1)) = omega arith in
     rw (e, add-one c)
 
 -- one class more: a is where all classes end, r stands behind class c
-pub slot-class : (a s r : Standing) (c id : ℕ) (slot : Slot) → c < classes → a ≡ emits s (slotItems (classes - c) c id slot) → r ≡ emits s (classItems id (slot c))
+pub slot-class : (a s r : Standing) (c id : ℕ) (slot : Slot) → c < classes
+    → a ≡ emits s (slotItems (classes - c) c id slot) → r ≡ emits s (classItems id (slot c))
     → a ≡ emits r (slotItems (classes - (c + 1)) (c + 1) id slot)
 slot-class a s r c id slot h ea er =
-    ea ∙ ap (emits s) (class-next c id slot h) ∙ emits-app (classItems id (slot c)) (slotItems (classes - (c + 1)) (c + 1) id slot) s
+    ea ∙ ap (emits s) (class-next c id slot h) ∙ emits-app (classItems id (slot c))
+    (slotItems (classes - (c + 1)) (c + 1) id slot) s
     ∙ ap (λ (z : Standing). emits z (slotItems (classes - (c + 1)) (c + 1) id slot)) (sym er)
 
-pub slot-done : (a s : Standing) (c id : ℕ) (slot : Slot) → classes ≤ c → a ≡ emits s (slotItems (classes - c) c id slot) → s ≡ a
+pub slot-done : (a s : Standing) (c id : ℕ) (slot : Slot) → classes ≤ c
+    → a ≡ emits s (slotItems (classes - c) c id slot) → s ≡ a
 unfolding emits slotItems
 slot-done a s c id slot h ea =
     let e : classes - c ≡ 0 = omega arith in
@@ -132,18 +147,23 @@ slot-same : (n c id : ℕ) (s t : Slot) → ((k : ℕ) → k < c + n → s k ≡
 unfolding slotItems
 slot-same zero c id s t h = refl
 slot-same (suc n) c id s t h =
-    ap₂ (λ (x : Option Load) (y : List Item). classItems id x ++ y) (h c (omega arith)) (slot-same n (suc c) id s t (λ k l. h k (omega arith)))
+    ap₂ (λ (x : Option Load) (y : List Item). classItems id x ++ y) (h c (omega arith))
+    (slot-same n (suc c) id s t (λ k l. h k (omega arith)))
 
 -- one slot more: a is where all slots end, r stands behind the slot id, whose seats hold what the directory has there
-pub dir-slot : (a s r : Standing) (D : List Slot) (id : ℕ) (slot : Slot) → id < length D → ((k : ℕ) → k < classes → slot k ≡ getD D id empty k)
-    → a ≡ emits s (dirItems id (drop id D)) → r ≡ emits s (createItem id ∷ slotItems classes 0 id slot) → a ≡ emits r (dirItems (id + 1) (drop (id + 1) D))
+pub dir-slot : (a s r : Standing) (D : List Slot) (id : ℕ) (slot : Slot) → id < length D
+    → ((k : ℕ) → k < classes → slot k ≡ getD D id empty k)
+    → a ≡ emits s (dirItems id (drop id D)) → r ≡ emits s (createItem id ∷ slotItems classes 0 id slot)
+    → a ≡ emits r (dirItems (id + 1) (drop (id + 1) D))
 unfolding dirItems
 dir-slot a s r D id slot h same ea er =
     let I : List Item = createItem id ∷ slotItems classes 0 id slot in
     let e : dirItems id (drop id D) ≡ I ++ dirItems (id + 1) (drop (id + 1) D) =
     ap (dirItems id) (drop-cons D id empty h)
-    ∙ rw (add-one id) (ap (λ (l : List Item). (createItem id ∷ l) ++ dirItems (suc id) (drop (suc id) D)) (sym (slot-same classes 0 id slot (getD D id empty) (λ k l. same k (omega arith))))) in
-    ea ∙ ap (emits s) e ∙ emits-app I (dirItems (id + 1) (drop (id + 1) D)) s ∙ ap (λ (z : Standing). emits z (dirItems (id + 1) (drop (id + 1) D))) (sym er)
+    ∙ rw (add-one id) (ap (λ (l : List Item). (createItem id ∷ l) ++ dirItems (suc id) (drop (suc id) D))
+    (sym (slot-same classes 0 id slot (getD D id empty) (λ k l. same k (omega arith))))) in
+    ea ∙ ap (emits s) e ∙ emits-app I (dirItems (id + 1) (drop (id + 1) D)) s
+    ∙ ap (λ (z : Standing). emits z (dirItems (id + 1) (drop (id + 1) D))) (sym er)
 
 pub dir-done : (a s : Standing) (D : List Slot) (id : ℕ) → length D ≤ id → a ≡ emits s (dirItems id (drop id D)) → s ≡ a
 unfolding emits dirItems
@@ -175,5 +195,7 @@ module _ (s : Standing) (split : Bool) (p : LfsPair) where
       → r ≡ emits s (tailItems split p)
   unfolding emits
   tail-made h x ex k ek l m el em r er =
-      let tag : k ≡ tagOf (cond split typeHardTail typeTail) noSlot 8 = made-tag k x noSlot 8 ek (rw ex (tail-type split)) (omega arith) (omega arith) ∙ ap (λ (y : ℕ). tagOf y noSlot 8) ex in
+      let tag : k ≡ tagOf (cond split typeHardTail typeTail) noSlot 8 =
+      made-tag k x noSlot 8 ek (rw ex (tail-type split)) (omega arith) (omega arith)
+      ∙ ap (λ (y : ℕ). tagOf y noSlot 8) ex in
       er ∙ ap₂ (λ (y : ℕ) (q : List ℕ). emitted s (record { tag = y; body = q })) tag (eight-body l m el em) ∙ rw h

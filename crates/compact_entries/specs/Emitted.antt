@@ -1,4 +1,5 @@
--- Entries written one after the other: the stores, the end, the previous tag and the checksum run along. Assumes nothing.
+-- Entries written one after the other: the stores, the end, the previous tag and the checksum run along. Assumes
+-- nothing.
 use mathlib.Core.Path.{_≡_}
 use mathlib.Core.Logic.{_≢_}
 use mathlib.Core.Bool.{false}
@@ -35,7 +36,12 @@ itemBytes prev i = toBe32 (xor (i .tag) prev) ++ i .body
 
 unfoldable pub emitted : Standing → Item → Standing
 emitted s i =
-    record { stores = putsOf (s .stores) (itemBytes (s .prev) i); end = s .end + tagLength (i .tag); prev = i .tag; sum = crc (s .sum) (itemBytes (s .prev) i) }
+    record {
+      stores = putsOf (s .stores) (itemBytes (s .prev) i);
+      end = s .end + tagLength (i .tag);
+      prev = i .tag;
+      sum = crc (s .sum) (itemBytes (s .prev) i);
+    }
 
 unfoldable pub emits : Standing → List Item → Standing
 emits s [] = s

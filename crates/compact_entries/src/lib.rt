@@ -1,6 +1,6 @@
-// Compaction's entries, in order: "for each id create, newest name .., struct .., user attributes by rising type; then tail ..; then move state".
-// Each is laid into the new block by as many single stores as may still be made, and summed; with none left to make, this measures what would
-// be written and alters nothing.
+// Compaction's entries, in order: "for each id create, newest name .., struct .., user attributes by rising type; then
+// tail ..; then move state". Each is laid into the new block by as many single stores as may still be made, and summed;
+// with none left to make, this measures what would be written and alters nothing.
 ghost use mathlib.Core.Path.{_≡_};
 ghost use mathlib.Core.Bool.{cond};
 ghost use mathlib.Core.List.{_∷_, _++_};
@@ -14,7 +14,8 @@ ghost use Rattle.format.specs.Compaction.{classItems, slotItems, dirItems, tail
 ghost use Rattle.commit_lay.specs.Laid.{laid, putsOf, bodyOf};
 ghost use Rattle.compact_slot.specs.Seat.{loadIn};
 ghost use Rattle.compact_slot.specs.Slots.{slotIn};
-ghost use Rattle.compact_entries.specs.Emitted.{standing, emitted, emits, createItem, Seated, SlotSeated, Source, Read};
+ghost use Rattle.compact_entries.specs.Emitted.{standing, emitted, emits, createItem, Seated, SlotSeated, Source};
+ghost use Rattle.compact_entries.specs.Emitted.{Read};
 use commit_lay::Run;
 use format::LfsMdir;
 use format::LfsPair;
@@ -31,7 +32,8 @@ pub struct Emit {
 // One entry: its tag, chained to the previous one, and its data, a part of `dat`.
 fn entry(new: &mut [u8], e: Emit, tag: u32, dat: &[u8], off: u32, len: u32) -> Emit
     requires { ⌜ e .end < 2 ^ 32 ⌝ }
-    ensures { λ r. ⌜ standing r (now (new .exit)) ≡ emitted (standing e (now (new .entry))) (record { tag = tag; body = bodyOf (now (dat .entry)) off len }) ⌝ }
+    ensures { λ r. ⌜ standing r (now (new .exit)) ≡ emitted (standing e (now (new .entry)))
+        (record { tag = tag; body = bodyOf (now (dat .entry)) off len }) ⌝ }
 {
     let word = tag ^ e.prev;
     let run = commit_lay::put_entry(new, e.run, word, dat, off, len);
@@ -46,7 +48,8 @@ fn entry(new: &mut [u8], e: Emit, tag: u32, dat: &[u8], off: u32, len: u32) -> E
 // What stands at a seat, as an entry of the id: nothing at a free one, and nothing for a removal.
 fn class_entry(old: &[u8], new: &mut [u8], e: Emit, id: u32, seat: u64) -> Emit
     requires { ⌜ Seated (now old) e id seat ⌝ }
-    ensures { λ r. ⌜ standing r (now (new .exit)) ≡ emits (standing e (now (new .entry))) (classItems id (loadIn (now (old .entry)) seat)) ⌝ }
+    ensures { λ r. ⌜ standing r (now (new .exit)) ≡ emits (standing e (now (new .entry)))
+        (classItems id (loadIn (now (old .entry)) seat)) ⌝ }
 {
     if seat == 0 {
         return e;
@@ -64,7 +67,8 @@ fn class_entry(old: &[u8], new: &mut [u8], e: Emit, id: u32, seat: u64) -> Emit
 // A slot: its create, and what stands at its seats, by rising class.
 fn slot(old: &[u8], new: &mut [u8], e: Emit, id: u32, seats: &[u64; 258]) -> Emit
     requires { ⌜ SlotSeated (now old) e id (now seats) ⌝ }
-    ensures { λ r. ⌜ standing r (now (new .exit)) ≡ emits (standing e (now (new .entry))) (createItem id ∷ slotItems classes 0 id (slotIn (now (old .entry)) (now (seats .entry)))) ⌝ }
+    ensures { λ r. ⌜ standing r (now (new .exit)) ≡ emits (standing e (now (new .entry)))
+        (createItem id ∷ slotItems classes 0 id (slotIn (now (old .entry)) (now (seats .entry)))) ⌝ }
 {
     let mut w = entry(
         new,
@@ -85,7 +89,8 @@ fn slot(old: &[u8], new: &mut [u8], e: Emit, id: u32, seats: &[u64; 258]) -> Emi
 // All slots of the log that ends at `end` with the tag `etag`.
 fn slots(old: &[u8], new: &mut [u8], e: Emit, end: usize, etag: u32, count: u32) -> Emit
     requires { ⌜ Source (now old) e end etag count ⌝ }
-    ensures { λ r. ⌜ standing r (now (new .exit)) ≡ emits (standing e (now (new .entry))) (dirItems 0 (dirOf (log (now (old .entry))))) ⌝ }
+    ensures { λ r. ⌜ standing r (now (new .exit)) ≡ emits (standing e (now (new .entry)))
+        (dirItems 0 (dirOf (log (now (old .entry))))) ⌝ }
 {
     let mut w = e;
     let mut id: u32 = 0;
@@ -134,7 +139,8 @@ fn tail(new: &mut [u8], e: Emit, split: bool, pair: LfsPair) -> Emit
 // All entries of the compaction of the block `old`, whose record is `dir`.
 pub fn entries(old: &[u8], new: &mut [u8], e: Emit, dir: LfsMdir) -> Emit
     requires { ⌜ Read (now old) e dir ⌝ }
-    ensures { λ r. ⌜ standing r (now (new .exit)) ≡ emits (standing e (now (new .entry))) (compactionItems (log (now (old .entry)))) ⌝ }
+    ensures { λ r. ⌜ standing r (now (new .exit)) ≡ emits (standing e (now (new .entry)))
+        (compactionItems (log (now (old .entry)))) ⌝ }
 {
     let end = dir.off as usize;
     let etag = dir.etag;
@@ -152,7 +158,8 @@ pub fn entries(old: &[u8], new: &mut [u8], e: Emit, dir: LfsMdir) -> Emit
 
 // The check behind the entries: its tag, and the checksum with it.
 pub fn check(new: &mut [u8], e: Emit, tag: u32) -> Run
-    ensures { λ r. ⌜ laid r (now (new .exit)) ≡ putsOf (laid (e .run) (now (new .entry))) (toBe32 (xor tag (e .prev)) ++ toLe32 (crc (e .sum) (toBe32 (xor tag (e .prev))))) ⌝ }
+    ensures { λ r. ⌜ laid r (now (new .exit)) ≡ putsOf (laid (e .run) (now (new .entry)))
+        (toBe32 (xor tag (e .prev)) ++ toLe32 (crc (e .sum) (toBe32 (xor tag (e .prev))))) ⌝ }
 {
     let word = tag ^ e.prev;
     let run = commit_lay::put_be32(new, e.run, word);

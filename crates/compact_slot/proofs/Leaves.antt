@@ -1,4 +1,5 @@
--- The small functions of a slot's walk, branch by branch: x, y, j and k are what the code read of the tag. Assumes nothing.
+-- The small functions of a slot's walk, branch by branch: x, y, j and k are what the code read of the tag. Assumes
+-- nothing.
 use mathlib.Core.Path.{_≡_}
 use mathlib.Core.Bool.{_&&_}
 use mathlib.Core.List.{List}
@@ -20,7 +21,8 @@ module _ (t x : ℕ) (ex : x ≡ tagType1 t) where
   unfolding seatClass
   class-struct n h = rw (← ex, h)
 
-  pub class-attr : (x ≡ typeName → ⊥) → (x ≡ typeDirStruct → ⊥) → x ≡ typeUserAttr → (y : ℕ) → y ≡ tagChunk t → 2 + y ≡ seatClass t
+  pub class-attr : (x ≡ typeName → ⊥) → (x ≡ typeDirStruct → ⊥) → x ≡ typeUserAttr → (y : ℕ) → y ≡ tagChunk t
+      → 2 + y ≡ seatClass t
   unfolding seatClass
   class-attr n s h y ey = rw (← ex, h, ey)
 

@@ -1,4 +1,5 @@
--- What stands at a seat, by the tests that the code makes: nothing for a removal, else the entry's type and data. Assumes nothing.
+-- What stands at a seat, by the tests that the code makes: nothing for a removal, else the entry's type and data.
+-- Assumes nothing.
 use mathlib.Core.Path.{_≡_, refl}
 use mathlib.Core.Bool.{Bool, true, false, cond}
 use mathlib.Core.Option.{Option, none, some}
@@ -20,6 +21,8 @@ module _ (b : List ℕ) (v : ℕ) where
       go true = refl
       go false = refl
 
-  pub load-made : (v ≡ 0 → ⊥) → tagDelete (seatTag v) ≡ false → loadIn b v ≡ some (record { type = tagType3 (seatTag v); bytes = bytesAt b (record { tag = seatTag v; off = seatPlace v }) })
+  pub load-made : (v ≡ 0 → ⊥) → tagDelete (seatTag v) ≡ false
+      → loadIn b v ≡ some (record
+      { type = tagType3 (seatTag v); bytes = bytesAt b (record { tag = seatTag v; off = seatPlace v }) })
   unfolding loadIn
   load-made n h = rw (ne-eqb v 0 n, h)

@@ -1,5 +1,5 @@
--- What a block with a regular log gives a loop over its slots: how many there are, that each may be gathered, and that its seats then hold what the
--- directory holds. Assumes nothing.
+-- What a block with a regular log gives a loop over its slots: how many there are, that each may be gathered, and that
+-- its seats then hold what the directory holds. Assumes nothing.
 use mathlib.Core.Path.{_≡_, refl, _∙_}
 use mathlib.Core.List.{List, map}
 use Prim.Native.Nat.{ℕ, _≤_, _<_}
@@ -30,8 +30,10 @@ module _ (b : List ℕ) (end etag count : ℕ) (s : Slots b end etag count) wher
   pub slot-gathers : (id : ℕ) → id ≤ count → Gatherable b end id
   slot-gathers id h = record { word = s .word; most = s .most; inside = end-inside; slot = omega (arith, slots-few) }
 
-  pub slot-holds : (id : ℕ) (seats : List ℕ) → id < count → Gathered b (map (seen b) (back b end etag)) id seats → (c : ℕ) → c < classes → slotIn b seats c ≡ getD (dirOf (log b)) id empty c
-  slot-holds id seats h g c k = g .loads c k ∙ rw (s .ends, s .endTag) (directory-find b (log b) c id refl whole (rw (← s .count′) h))
+  pub slot-holds : (id : ℕ) (seats : List ℕ) → id < count → Gathered b (map (seen b) (back b end etag)) id seats
+      → (c : ℕ) → c < classes → slotIn b seats c ≡ getD (dirOf (log b)) id empty c
+  slot-holds id seats h g c k = g .loads c k ∙ rw (s .ends, s .endTag)
+      (directory-find b (log b) c id refl whole (rw (← s .count′) h))
 
   -- the loop's test is about the directory
   pub slots-more : (id : ℕ) → id < count → id < length (dirOf (log b))

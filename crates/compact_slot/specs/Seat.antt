@@ -1,4 +1,5 @@
--- What one walk back gathers for a slot: for each class a seat, the newest entry's tag and place in one number. Assumes nothing.
+-- What one walk back gathers for a slot: for each class a seat, the newest entry's tag and place in one number. Assumes
+-- nothing.
 use mathlib.Core.Path.{_≡_}
 use mathlib.Core.Bool.{Bool, cond, _&&_}
 use mathlib.Core.Option.{Option, none}
@@ -47,7 +48,8 @@ idBefore t id =
 -- the seats after an entry of the slot: a newer one stays
 unfoldable pub noted : List ℕ → ℕ → ℕ → ℕ → List ℕ
 noted seats t at id =
-    cond (eqb (tagId t) id && ltb (seatClass t) classes && eqb (getD seats (seatClass t) 0) 0) (set seats (seatClass t) (seatOf t at)) seats
+    cond (eqb (tagId t) id && ltb (seatClass t) classes && eqb (getD seats (seatClass t) 0) 0)
+    (set seats (seatClass t) (seatOf t at)) seats
 
 -- what the walk asks: a block of at most 65,536 bytes with a word, the end inside, and an id that a slot can have
 pub record Gatherable (b : List ℕ) (end id : ℕ) : Type 0 where

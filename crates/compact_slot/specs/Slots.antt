@@ -1,4 +1,5 @@
--- A block whose slots are gathered one after the other: its log is regular, and its end, end tag and number of slots are known. Assumes nothing.
+-- A block whose slots are gathered one after the other: its log is regular, and its end, end tag and number of slots
+-- are known. Assumes nothing.
 use mathlib.Core.Path.{_≡_}
 use mathlib.Core.Bool.{true}
 use mathlib.Core.List.{List}

@@ -1,13 +1,14 @@
-// What a slot holds, gathered in one walk back over a block's committed log: where the newest name, the newest struct and the newest of each
-// user attribute stand. A lookup for each of the 258 classes would walk as often. The functions require that the end is inside the block, and
-// are for the crates of this repository.
+// What a slot holds, gathered in one walk back over a block's committed log: where the newest name, the newest struct
+// and the newest of each user attribute stand. A lookup for each of the 258 classes would walk as often. The functions
+// require that the end is inside the block, and are for the crates of this repository.
 ghost use mathlib.Core.Path.{_≡_};
 ghost use mathlib.Core.List.{map};
 ghost use Prim.Native.Nat.{_+_, _^_, _<_};
 ghost use Rattle.format.specs.Back.{back};
 ghost use Rattle.theory.specs.Back.BackActs.{seen};
 ghost use Rattle.theory.specs.Lookup.MoveState.{lastMove};
-ghost use Rattle.compact_slot.specs.Seat.{seatOf, loadIn, Inside, seatClass, createdAt, idBefore, noted, Gatherable, Gathered};
+ghost use Rattle.compact_slot.specs.Seat.{seatOf, loadIn, Inside, seatClass, createdAt, idBefore, noted};
+ghost use Rattle.compact_slot.specs.Seat.{Gatherable, Gathered};
 use format::types::*;
 use lookup_back::Back;
 
@@ -22,7 +23,8 @@ fn seat_of(tag: u32, at: usize) -> u64
     tag as u64 * 0x1_0000 + at as u64
 }
 
-// The class of what an entry sets in its slot: 0 the name, 1 the struct, 2 + u the user attribute u, and 258 none of them.
+// The class of what an entry sets in its slot: 0 the name, 1 the struct, 2 + u the user attribute u, and 258 none of
+// them.
 fn class_of(tag: u32) -> usize
     ensures { λ r. ⌜ r ≡ seatClass tag ⌝ }
 {
@@ -46,7 +48,8 @@ fn created(tag: u32, id: usize) -> bool
     (tag::lfs_tag_type3(tag) == LFS_TYPE_CREATE) & (tag::lfs_tag_id(tag) as usize == id)
 }
 
-// The id that the slot has before the tag: an older create below it counts it up, an older delete at or below it counts it down.
+// The id that the slot has before the tag: an older create below it counts it up, an older delete at or below it counts
+// it down.
 fn id_before(tag: u32, id: usize) -> usize
     requires { ⌜ id < 2 ^ 32 ⌝ }
     ensures { λ r. ⌜ r ≡ idBefore tag id ⌝ }
@@ -106,7 +109,8 @@ pub fn gather(b: &[u8], end: usize, etag: u32, id: usize) -> [u64; 258]
 // The seat of the newest move state, whatever its id.
 pub fn newest_move(b: &[u8], end: usize, etag: u32) -> u64
     requires { ⌜ Gatherable (now b) end 0 ⌝ }
-    ensures { λ r. ⌜ (loadIn (now (b .entry)) r ≡ lastMove (now (b .entry)) (back (now (b .entry)) end etag)) × Inside (now (b .entry)) r ⌝ }
+    ensures { λ r. ⌜ (loadIn (now (b .entry)) r ≡ lastMove (now (b .entry)) (back (now (b .entry)) end etag))
+        × Inside (now (b .entry)) r ⌝ }
 {
     let mut off = end;
     let mut tag = etag;

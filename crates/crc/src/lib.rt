@@ -1,4 +1,5 @@
-// The checksum: crc.rs, lfs_util.c's lfs_crc. CRC-32, polynomial 0x04c11db7 reflected, half a byte at a time, with no inversion.
+// The checksum: crc.rs, lfs_util.c's lfs_crc. CRC-32, polynomial 0x04c11db7 reflected, half a byte at a time, with no
+// inversion.
 ghost use mathlib.Core.Path.{_≡_};
 ghost use Rattle.format.specs.Crc.{crcBits, crcByte, crc};
 ghost use Rattle.crc.specs.Rtable.{Rtable};

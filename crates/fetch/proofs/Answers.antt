@@ -1,4 +1,5 @@
--- Which block answers: a log with no commit ends where it starts; the blocks in rank; and fetch's tests in order. Assumes nothing.
+-- Which block answers: a log with no commit ends where it starts; the blocks in rank; and fetch's tests in order.
+-- Assumes nothing.
 use mathlib.Core.Path.{_≡_, refl, ap, _∙_}
 use mathlib.Core.Bool.{true, false}
 use mathlib.Core.List.{List, [], _∷_}
@@ -81,16 +82,20 @@ rank-none r s = refl
 
 -- w and v are what the two walks leave, r is what `answer` answers
 module _ (prog n : ℕ) (b : List ℕ) (m : ℕ) (c : List ℕ) (seed : ℕ) (w : Walked) (e : w ≡ walkedOf b seed) where
-  pub first-answers : (r : Fetched) → (w .taken .off ≡ 4 → ⊥) → r ≡ answerBy prog n m b w → r ≡ inOrder prog n b m c seed
+  pub first-answers : (r : Fetched) → (w .taken .off ≡ 4 → ⊥) → r ≡ answerBy prog n m b w
+      → r ≡ inOrder prog n b m c seed
   unfolding inOrder
   first-answers r h er =
-      er ∙ ap (answerBy prog n m b) e ∙ answer-is prog n m b seed ∙ rw (rank-first (le32 b) (le32 c) (log b) (log c) (some-log b seed w e h))
+      er ∙ ap (answerBy prog n m b) e ∙ answer-is prog n m b seed
+      ∙ rw (rank-first (le32 b) (le32 c) (log b) (log c) (some-log b seed w e h))
 
   module _ (empty : w .taken .off ≡ 4) (v : Walked) (f : v ≡ walkedOf c seed) where
-    pub second-answers : (r : Fetched) → (v .taken .off ≡ 4 → ⊥) → r ≡ answerBy prog m n c v → r ≡ inOrder prog n b m c seed
+    pub second-answers : (r : Fetched) → (v .taken .off ≡ 4 → ⊥) → r ≡ answerBy prog m n c v
+        → r ≡ inOrder prog n b m c seed
     unfolding inOrder
     second-answers r h er =
-        er ∙ ap (answerBy prog m n c) f ∙ answer-is prog m n c seed ∙ rw (none-log b seed w e empty, rank-second (le32 b) (le32 c) (log c) (some-log c seed v f h))
+        er ∙ ap (answerBy prog m n c) f ∙ answer-is prog m n c seed
+        ∙ rw (none-log b seed w e empty, rank-second (le32 b) (le32 c) (log c) (some-log c seed v f h))
 
     pub none-answers : v .taken .off ≡ 4 → Refused Corrupt ≡ inOrder prog n b m c seed
     unfolding inOrder
@@ -110,22 +115,46 @@ module _ (g : Geometry) (b0 b1 : List ℕ) (n0 n1 : ℕ) (ok : pairFits g (lengt
   pub readables : Readables (g .«prog_size») b0 b1
   readables =
       let s = sized g (length b0) (length b1) n0 n1 ok in
-      record { divides = omega arith; low = omega arith; high = omega arith; other-low = omega arith; other-high = omega arith }
+      record {
+        divides = omega arith;
+        low = omega arith;
+        high = omega arith;
+        other-low = omega arith;
+        other-high = omega arith;
+      }
 
   pub readables-swapped : Readables (g .«prog_size») b1 b0
-  readables-swapped = let r = readables in record { divides = r .divides; low = r .other-low; high = r .other-high; other-low = r .low; other-high = r .high }
+  readables-swapped = let r =
+      readables in record {
+        divides = r .divides;
+        low = r .other-low;
+        high = r .other-high;
+        other-low = r .low;
+        other-high = r .high;
+      }
 
 -- and of a block that was walked
 module _ (prog : ℕ) (b c : List ℕ) (sizes : Readables prog b c) where
   pub walked-first : (seed : ℕ) (w : Walked) → w ≡ walkedOf b seed → Readable prog b w
-  walked-first seed w e = record { divides = sizes .divides; low = sizes .low; high = sizes .high; within = taken-within b seed w e (sizes .low) }
+  walked-first seed w e = record {
+    divides = sizes .divides;
+    low = sizes .low;
+    high = sizes .high;
+    within = taken-within b seed w e (sizes .low);
+  }
 
   pub walked-second : (seed : ℕ) (w : Walked) → w ≡ walkedOf c seed → Readable prog c w
-  walked-second seed w e = record { divides = sizes .divides; low = sizes .other-low; high = sizes .other-high; within = taken-within c seed w e (sizes .other-low) }
+  walked-second seed w e = record {
+    divides = sizes .divides;
+    low = sizes .other-low;
+    high = sizes .other-high;
+    within = taken-within c seed w e (sizes .other-low);
+  }
 
 -- ---- fetch, by its tests in order
 module _ (g : Geometry) (b0 b1 : List ℕ) (n0 n1 count seed : ℕ) where
-  pub fetch-invalid : pairFits g (length b0) (length b1) n0 n1 ≡ false → Refused Invalid ≡ fetchOf g b0 b1 n0 n1 count seed
+  pub fetch-invalid : pairFits g (length b0) (length b1) n0 n1 ≡ false
+      → Refused Invalid ≡ fetchOf g b0 b1 n0 n1 count seed
   unfolding fetchOf
   fetch-invalid h = simp h
 
@@ -141,10 +170,13 @@ module _ (g : Geometry) (b0 b1 : List ℕ) (n0 n1 count seed : ℕ) where
 
       -- v0 and v1 are the revisions that were read
       module _ (low1 : tooHigh count n1 ≡ false) (v0 v1 : ℕ) (e0 : v0 ≡ le32 b0) (e1 : v1 ≡ le32 b1) where
-        pub fetch-second : secondFirst v0 v1 ≡ true → inOrder (g .«prog_size») n1 b1 n0 b0 seed ≡ fetchOf g b0 b1 n0 n1 count seed
+        pub fetch-second : secondFirst v0 v1 ≡ true → inOrder (g .«prog_size») n1 b1 n0 b0 seed
+            ≡ fetchOf g b0 b1 n0 n1 count seed
         unfolding fetchOf inOrder view
-        fetch-second h = simp (ok, low0, low1, ← e0, ← e1, h) (swapped (g .«prog_size») n0 n1 b0 b1 seed v0 v1 (log b0) (log b1))
+        fetch-second h = simp (ok, low0, low1, ← e0, ← e1, h)
+            (swapped (g .«prog_size») n0 n1 b0 b1 seed v0 v1 (log b0) (log b1))
 
-        pub fetch-first : secondFirst v0 v1 ≡ false → inOrder (g .«prog_size») n0 b0 n1 b1 seed ≡ fetchOf g b0 b1 n0 n1 count seed
+        pub fetch-first : secondFirst v0 v1 ≡ false → inOrder (g .«prog_size») n0 b0 n1 b1 seed
+            ≡ fetchOf g b0 b1 n0 n1 count seed
         unfolding fetchOf inOrder view
         fetch-first h = simp (ok, low0, low1, ← e0, ← e1, h)

@@ -1,4 +1,5 @@
--- What the code reads off a walk, from the tests that a branch made; and that of the block's own walk it is format's record. Assumes nothing.
+-- What the code reads off a walk, from the tests that a branch made; and that of the block's own walk it is format's
+-- record. Assumes nothing.
 use mathlib.Core.Path.{_≡_, refl, sym, ap, _∙_}
 use mathlib.Core.Bool.{Bool, true, false, _&&_}
 use mathlib.Core.List.{List}
@@ -42,11 +43,13 @@ module _ (prog : ℕ) (b : List ℕ) (w : Walked) where
 
         -- x is what `lfs_crc` answers
         pub with-room : (x : ℕ) → w .taken .off + w .taken .dir .fcrc .size ≤ length b
-            → x ≡ crc allOnes (take (w .taken .off + w .taken .dir .fcrc .size - w .taken .off) (drop (w .taken .off) b))
+            → x ≡ crc allOnes (take (w .taken .off + w .taken .dir .fcrc .size - w .taken .off)
+            (drop (w .taken .off) b))
             → eqb x (w .taken .dir .fcrc .sum) ≡ erasedBy prog b w
         unfolding erasedBy
         with-room x h e =
-            let q : w .taken .off + w .taken .dir .fcrc .size - w .taken .off ≡ w .taken .dir .fcrc .size = omega arith in
+            let q : w .taken .off + w .taken .dir .fcrc .size - w .taken .off ≡ w .taken .dir .fcrc .size =
+            omega arith in
             simp (s, eq-eqb _ _ m, f, le-leb _ _ h) (cc)
 
 -- ---- the answer: k is what `mdir` answers
@@ -61,7 +64,8 @@ module _ (prog n m : ℕ) (b : List ℕ) (w : Walked) (k : LfsMdir) (e : k ≡ m
 
 -- ---- of the block's own walk
 forward-fits : (b : List ℕ) (end : ℕ) (f : Forward)
-    → fcrcOf f .seen && (leb (end + fcrcOf f .size) (length b) && eqb (crc allOnes (take (fcrcOf f .size) (drop end b))) (fcrcOf f .sum)) ≡ forwardFits b end f
+    → fcrcOf f .seen && (leb (end + fcrcOf f .size) (length b) && eqb (crc allOnes (take (fcrcOf f .size) (drop end b)))
+    (fcrcOf f .sum)) ≡ forwardFits b end f
 forward-fits b end noForward = refl
 forward-fits b end (forward n s) = refl
 
@@ -77,4 +81,13 @@ answer-is prog n m b seed = ap (λ (q : Bool). fewEnough (marked q) (seedOf seed
     marked : Bool → LfsMdir
     marked q =
         let k = walkedOf b seed .taken in
-        record { pair = record { n0 = n; n1 = m }; rev = le32 b; off = k .off; etag = k .etag; count = k .dir .count; erased = q; split = k .dir .split; tail = k .dir .tail }
+        record {
+          pair = record { n0 = n; n1 = m };
+          rev = le32 b;
+          off = k .off;
+          etag = k .etag;
+          count = k .dir .count;
+          erased = q;
+          split = k .dir .split;
+          tail = k .dir .tail;
+        }

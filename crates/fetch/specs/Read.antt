@@ -1,4 +1,5 @@
--- What fetch reads off a walk, as the code does it: the record, the erased mark, the answer, the two blocks in rank. Assumes nothing.
+-- What fetch reads off a walk, as the code does it: the record, the erased mark, the answer, the two blocks in rank.
+-- Assumes nothing.
 use mathlib.Core.Bool.{Bool, false, _&&_}
 use mathlib.Core.List.{List}
 use Prim.Native.Nat.{ℕ, _+_, _%_, _<_, _≤_}

@@ -1,4 +1,5 @@
-// Fetching a metadata pair: dir/fetch.rs, lfs.c's lfs_dir_fetch. Of two blocks, tried in rank, the first with a valid commit answers.
+// Fetching a metadata pair: dir/fetch.rs, lfs.c's lfs_dir_fetch. Of two blocks, tried in rank, the first with a valid
+// commit answers.
 ghost use mathlib.Core.Path.{_≡_};
 ghost use Prim.Native.Nat.{_<_};
 ghost use Rattle.format.specs.Count.{secondFirst};
@@ -78,7 +79,8 @@ fn answer(prog: u32, n: u32, m: u32, b: &[u8], w: Walked) -> Fetched
     Fetched::Found(dir, w.taken.seed)
 }
 
-// The two blocks in rank: n with its bytes b, and then m with its bytes c. "The first block with a valid commit answers."
+// The two blocks in rank: n with its bytes b, and then m with its bytes c. "The first block with a valid commit
+// answers."
 fn in_order(prog: u32, n: u32, b: &[u8], m: u32, c: &[u8], seed: u32) -> Fetched
     requires { ⌜ Readables prog (now b) (now c) ⌝ }
     ensures { λ r. ⌜ r ≡ inOrder prog n (now (b .entry)) m (now (c .entry)) seed ⌝ }

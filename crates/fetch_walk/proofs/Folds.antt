@@ -1,5 +1,5 @@
--- The loop's two records over a list of events leave format's folds over what is committed; and the end of a log lies in its block.
--- Assumes nothing.
+-- The loop's two records over a list of events leave format's folds over what is committed; and the end of a log lies
+-- in its block. Assumes nothing.
 use mathlib.Core.Path.{_≡_, refl, sym, ap, _∙_}
 use mathlib.Core.Bool.{Bool, true, false, cond}
 use mathlib.Core.List.{List, [], _∷_}
@@ -12,7 +12,8 @@ use Rattle.format.specs.Word.{be32, le32, xor, allOnes}
 use Rattle.format.specs.Tag.{tagLength, tagFlipped}
 use Rattle.format.specs.Kind.{isForward}
 use Rattle.format.specs.Crc.{crc}
-use Rattle.format.specs.Walk.{Event, ent, chk, inv, Class, past, invalid, check, entry, classOf, checked, stepOf, walkIn, walkFrom, walk}
+use Rattle.format.specs.Walk.{Event, ent, chk, inv, Class, past, invalid, check, entry, classOf, checked, stepOf}
+use Rattle.format.specs.Walk.{walkIn, walkFrom, walk}
 use Rattle.format.specs.Log.{keptBefore, committed, log, eventLength, span, tagAfter}
 use Rattle.format.specs.Record.{countOf, tailOf, splitOf, Forward, noForward, forward, forwardOf, seedOf}
 use Rattle.format.proofs.Classes.{check-says, entry-says}
@@ -35,7 +36,8 @@ unfolding after steps
 after-kept h k e [] = refl
 after-kept h k e (x ∷ es) = refl
 
-after-check : (h k : Taken) (t x : ℕ) (es : List Event) → after (step (chk t x) h) (step (chk t x) h) es ≡ after h k (chk t x ∷ es)
+after-check : (h k : Taken) (t x : ℕ) (es : List Event)
+    → after (step (chk t x) h) (step (chk t x) h) es ≡ after h k (chk t x ∷ es)
 unfolding after steps
 after-check h k t x [] = refl
 after-check h k t x (e ∷ es) = refl
@@ -44,7 +46,8 @@ settles-after : (h k : Taken) (es : List Event) → settles h k es ≡ after h k
 unfolding settles after committed
 settles-after h k [] = refl
 settles-after h k (ent t x ∷ es) = settles-after (step (ent t x) h) k es ∙ after-kept h k (ent t x) (committed es)
-settles-after h k (chk t x ∷ es) = settles-after (step (chk t x) h) (step (chk t x) h) es ∙ after-check h k t x (committed es)
+settles-after h k (chk t x ∷ es) = settles-after (step (chk t x) h) (step (chk t x) h) es
+    ∙ after-check h k t x (committed es)
 settles-after h k (inv ∷ es) = settles-after h k es ∙ after-kept h k inv (committed es)
 
 same-start : (s : Taken) (es : List Event) → after s s es ≡ steps s es
@@ -59,31 +62,53 @@ settles-steps s es = settles-after s s es ∙ same-start s (committed es)
 abbrev foldsFrom : Taken → Forward → List Event → Taken
 foldsFrom k f es =
     record {
-      dir = record { count = countOf (k .dir .count) es; split = splitOf (k .dir .split) es; tail = tailOf (k .dir .tail) es; fcrc = fcrcOf (forwardOf f es) };
+      dir = record {
+        count = countOf (k .dir .count) es;
+        split = splitOf (k .dir .split) es;
+        tail = tailOf (k .dir .tail) es;
+        fcrc = fcrcOf (forwardOf f es);
+      };
       off = k .off + span es;
       etag = tagAfter (k .etag) es;
       seed = seedOf (k .seed) es;
     }
 
 -- a forward check read or kept, on both sides
-kept-forward : (q : Bool) (n s : ℕ) (f : Forward) → fcrcOf (cond q (forward n s) f) ≡ cond q (fcrcOf (forward n s)) (fcrcOf f)
+kept-forward : (q : Bool) (n s : ℕ) (f : Forward) → fcrcOf (cond q (forward n s) f)
+    ≡ cond q (fcrcOf (forward n s)) (fcrcOf f)
 kept-forward true n s f = refl
 kept-forward false n s f = refl
 
-moved : (k : Taken) (f : Forward) (es : List Event) (n : ℕ) → n ≡ k .off + span es → record { dir = foldsFrom k f es .dir; off = n; etag = foldsFrom k f es .etag; seed = foldsFrom k f es .seed } ≡ foldsFrom k f es
-moved k f es n e = λ i. record { dir = foldsFrom k f es .dir; off = e i; etag = foldsFrom k f es .etag; seed = foldsFrom k f es .seed }
+moved : (k : Taken) (f : Forward) (es : List Event) (n : ℕ) → n ≡ k .off + span es
+    → record { dir = foldsFrom k f es .dir; off = n; etag = foldsFrom k f es .etag; seed = foldsFrom k f es .seed }
+    ≡ foldsFrom k f es
+moved k f es n e = λ i. record {
+  dir = foldsFrom k f es .dir;
+  off = e i;
+  etag = foldsFrom k f es .etag;
+  seed = foldsFrom k f es .seed;
+}
 
 steps-folds : (k : Taken) (f : Forward) → k .dir .fcrc ≡ fcrcOf f → (es : List Event) → steps k es ≡ foldsFrom k f es
 unfolding steps countOf tailOf splitOf forwardOf seedOf span eventLength tagAfter entered
-steps-folds k f e [] = λ i. record { dir = record { count = k .dir .count; split = k .dir .split; tail = k .dir .tail; fcrc = e i }; off = sym (add-zero (k .off)) i; etag = k .etag; seed = k .seed }
+steps-folds k f e [] = λ i.
+    record {
+      dir = record { count = k .dir .count; split = k .dir .split; tail = k .dir .tail; fcrc = e i };
+      off = sym (add-zero (k .off)) i;
+      etag = k .etag;
+      seed = k .seed;
+    }
 steps-folds k f e (ent t x ∷ es) =
     let g : Forward = cond (isForward t) (forward (le32 x) (le32 (drop 4 x))) f in
-    steps-folds (step (ent t x) k) g (ap (cond (isForward t) (fcrcOf (forward (le32 x) (le32 (drop 4 x))))) e ∙ sym (kept-forward (isForward t) (le32 x) (le32 (drop 4 x)) f)) es
+    steps-folds (step (ent t x) k) g (ap (cond (isForward t) (fcrcOf (forward (le32 x) (le32 (drop 4 x))))) e
+    ∙ sym (kept-forward (isForward t) (le32 x) (le32 (drop 4 x)) f)) es
     ∙ moved k f (ent t x ∷ es) (k .off + tagLength t + span es) (add-assoc (k .off) (tagLength t) (span es))
 steps-folds k f e (chk t x ∷ es) =
-    steps-folds (step (chk t x) k) f e es ∙ moved k f (chk t x ∷ es) (k .off + tagLength t + span es) (add-assoc (k .off) (tagLength t) (span es))
+    steps-folds (step (chk t x) k) f e es ∙ moved k f (chk t x ∷ es) (k .off + tagLength t + span es)
+    (add-assoc (k .off) (tagLength t) (span es))
 steps-folds k f e (inv ∷ es) =
-    steps-folds k f e es ∙ moved k f (inv ∷ es) (k .off + span es) (ap (λ (n : ℕ). k .off + n) (sym (zero-add (span es))))
+    steps-folds k f e es ∙ moved k f (inv ∷ es) (k .off + span es)
+    (ap (λ (n : ℕ). k .off + n) (sym (zero-add (span es))))
 
 -- the code's record over a log, from the start, is what format's folds say of the log
 pub steps-taken : (seed : ℕ) (es : List Event) → steps (takenNone seed) es ≡ takenOf seed es
@@ -91,7 +116,8 @@ unfolding takenNone emptyDir
 steps-taken seed es = steps-folds (takenNone seed) noForward refl es
 
 -- and what the loop leaves of a walk is what they say of what it committed
-pub settles-taken : (seed : ℕ) (es : List Event) → settles (takenNone seed) (takenNone seed) es ≡ takenOf seed (committed es)
+pub settles-taken : (seed : ℕ) (es : List Event) → settles (takenNone seed) (takenNone seed) es
+    ≡ takenOf seed (committed es)
 settles-taken seed es = settles-steps (takenNone seed) es ∙ steps-taken seed (committed es)
 
 -- ---- the end of a log lies in its block
@@ -115,7 +141,8 @@ span-walk (suc n) sum prev rest = go (λ s p. span-walk n s p (drop (tagLength t
     t : ℕ
     t = xor (be32 rest) prev
 
-    behind : (s p : ℕ) → span (walkIn n s p (drop (tagLength t) rest)) ≤ length (drop (tagLength t) rest) → tagLength t ≤ length rest
+    behind : (s p : ℕ) → span (walkIn n s p (drop (tagLength t) rest)) ≤ length (drop (tagLength t) rest)
+        → tagLength t ≤ length rest
         → tagLength t + span (walkIn n s p (drop (tagLength t) rest)) ≤ length rest
     behind s p ih h = omega (arith, length-drop (tagLength t) rest)
 
@@ -123,7 +150,8 @@ span-walk (suc n) sum prev rest = go (λ s p. span-walk n s p (drop (tagLength t
         → (k : Class) → classOf t (length rest) ≡ k → span (stepOf (walkIn n) k t sum rest) ≤ length rest
     go ih past k = omega arith
     go ih invalid k = omega arith
-    go ih entry k = let s = crc sum (take (tagLength t) rest) in behind s t (ih s t) (entry-says t (length rest) k .0 .fits)
+    go ih entry k = let s = crc sum (take (tagLength t) rest) in behind s t (ih s t)
+        (entry-says t (length rest) k .0 .fits)
     go ih check k = fit (eqb (crc sum (take 4 rest)) (le32 (drop 4 rest)))
       where
         fit : (q : Bool) → span (checked (walkIn n) q t rest) ≤ length rest
@@ -134,4 +162,9 @@ pub log-within : (b : List ℕ) → 4 ≤ length b → 4 + span (log b) ≤ leng
 unfolding log walk walkFrom
 log-within b h =
     let s = crc allOnes (take 4 b) in
-    omega (arith, span-committed (walkIn (suc (length (drop 4 b))) s allOnes (drop 4 b)), span-walk (suc (length (drop 4 b))) s allOnes (drop 4 b), length-drop 4 b)
+    omega (
+      arith,
+      span-committed (walkIn (suc (length (drop 4 b))) s allOnes (drop 4 b)),
+      span-walk (suc (length (drop 4 b))) s allOnes (drop 4 b),
+      length-drop 4 b,
+    )

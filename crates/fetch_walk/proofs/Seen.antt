@@ -1,5 +1,5 @@
--- What stands at a cursor: from the tests that the code makes, and back; and the bridge, that a cursor's step is a step of format's walk.
--- Assumes nothing.
+-- What stands at a cursor: from the tests that the code makes, and back; and the bridge, that a cursor's step is a step
+-- of format's walk. Assumes nothing.
 use mathlib.Core.Path.{_≡_, refl, sym, ap, _∙_}
 use mathlib.Core.Bool.{Bool, true, false, cond}
 use mathlib.Core.List.{List, [], _∷_}
@@ -14,9 +14,11 @@ use Rattle.format.specs.Word.{be32, le32, xor, allOnes}
 use Rattle.format.specs.Tag.{tagSize, tagDelete, tagLength, tagFlipped}
 use Rattle.format.specs.Kind.{isCheck}
 use Rattle.format.specs.Crc.{crc}
-use Rattle.format.specs.Walk.{Event, ent, chk, inv, Class, past, invalid, check, entry, readBehind, classOf, bodyOf, checked, stepOf, walkFrom}
+use Rattle.format.specs.Walk.{Event, ent, chk, inv, Class, past, invalid, check, entry, readBehind, classOf, bodyOf}
+use Rattle.format.specs.Walk.{checked, stepOf, walkFrom}
 use Rattle.format.proofs.Walk.{walk-step}
-use Rattle.format.proofs.Classes.{class-short, class-invalid, class-long, class-unread, class-check, class-entry, Whole, check-says, entry-says}
+use Rattle.format.proofs.Classes.{class-short, class-invalid, class-long, class-unread, class-check, class-entry, Whole}
+use Rattle.format.proofs.Classes.{check-says, entry-says}
 use Rattle.fetch_walk.specs.Next.{nextOf, tagSeen, checkedAs, checkSeen, seenAs, afterCheck, afterEntry, tagAt}
 use Rattle.fetch_walk.specs.State.{from}
 use Rattle.fetch_walk.specs.declared.cursor.Cursor.{Cursor}
@@ -69,12 +71,14 @@ module _ (b : List ℕ) (at t sum : ℕ) where
           seen-check r e h = e ∙ rw (class-check t (length (drop at b)) four v fits (omega (arith, length-drop at b)) h)
 
           -- r is what `entry_at` answers
-          pub seen-entry : (r : Cursor) → r ≡ afterEntry (drop at b) at t sum → isCheck t ≡ false → Entry t r ≡ tagSeen b at t sum
+          pub seen-entry : (r : Cursor) → r ≡ afterEntry (drop at b) at t sum → isCheck t ≡ false
+              → Entry t r ≡ tagSeen b at t sum
           unfolding tagSeen
           seen-entry r e h = rw (e, class-entry t (length (drop at b)) four v fits (omega (arith, length-drop at b)) h)
 
 -- w and r are what `be32` and `tag_at` answer
-pub next-tag : (b : List ℕ) (c : Cursor) (w : ℕ) (r : Seen) → w ≡ be32 (drop (c .at) b) → r ≡ tagSeen b (c .at) (bitXor w (c .prev)) (c .sum)
+pub next-tag : (b : List ℕ) (c : Cursor) (w : ℕ) (r : Seen) → w ≡ be32 (drop (c .at) b)
+    → r ≡ tagSeen b (c .at) (bitXor w (c .prev)) (c .sum)
     → r ≡ nextOf b c
 unfolding nextOf xor
 next-tag b c w r ew er = cc
@@ -84,7 +88,8 @@ unfolding nextOf
 next-short b c h = seen-short b (c .at) (tagAt b c) (c .sum) h
 
 -- a part of a block that starts at `at` and is n bytes long, as the code cuts it
-pub part : (b : List ℕ) (at n sum s : ℕ) → s ≡ crc sum (take (at + n - at) (drop at b)) → s ≡ crc sum (take n (drop at b))
+pub part : (b : List ℕ) (at n sum s : ℕ) → s ≡ crc sum (take (at + n - at) (drop at b))
+    → s ≡ crc sum (take n (drop at b))
 part b at n sum s e = let f : at + n - at ≡ n = omega arith in e ∙ ap (λ (k : ℕ). crc sum (take k (drop at b))) f
 
 -- n and s are what `tag_length` and `lfs_crc` answer
@@ -92,11 +97,13 @@ pub entry-cursor : (b : List ℕ) (at t sum n s : ℕ) → n ≡ tagLength t →
     → record { at = at + n; prev = t; sum = s } ≡ afterEntry (drop at b) at t sum
 unfolding afterEntry
 entry-cursor b at t sum n s en es =
-    let e : s ≡ crc sum (take (tagLength t) (drop at b)) = part b at n sum s es ∙ ap (λ (k : ℕ). crc sum (take k (drop at b))) en in
+    let e : s ≡ crc sum (take (tagLength t) (drop at b)) = part b at n sum s es
+    ∙ ap (λ (k : ℕ). crc sum (take k (drop at b))) en in
     λ i. record { at = at + en i; prev = t; sum = e i }
 
 -- s and x are what `lfs_crc` and `le32` answer
-module _ (b : List ℕ) (at t sum s x : ℕ) (es : s ≡ crc sum (take (at + 4 - at) (drop at b))) (ex : x ≡ le32 (drop (at + 4) b)) where
+module _ (b : List ℕ) (at t sum s x : ℕ) (es : s ≡ crc sum (take (at + 4 - at) (drop at b)))
+    (ex : x ≡ le32 (drop (at + 4) b)) where
   pub check-differs : (s ≡ x → ⊥) → Past ≡ checkSeen (drop at b) at t sum
   unfolding checkSeen
   check-differs h = rw (drop-drop 4 at b, ← part b at 4 sum s es, ← ex, ne-eqb s x h)
@@ -202,4 +209,9 @@ module _ (b : List ℕ) (c : Cursor) where
           fit true q =
               let ed : afterCheck (c .at) u ≡ d = cc in
               let w = check-says u (length rest) k in
-              record { whole = w .0; is = w .1; end = sym (ap (λ (y : Cursor). y .at) ed); prev = sym (ap (λ (y : Cursor). y .prev) ed) }
+              record {
+                whole = w .0;
+                is = w .1;
+                end = sym (ap (λ (y : Cursor). y .at) ed);
+                prev = sym (ap (λ (y : Cursor). y .prev) ed);
+              }

@@ -75,19 +75,22 @@ pub tail-reads : (t : ℕ) → tagType1 t ≡ 0x600 → readBehind t ≡ 8
 tail-reads t h = behind-wide t (ne-eqb (tagType2 t) 0x500 (tail-not-check t h)) (rw (eq-eqb (tagType1 t) 0x600 h))
 
 pub forward-reads : (t : ℕ) → tagType3 t ≡ 0x5ff → readBehind t ≡ 8
-forward-reads t h = behind-wide t (ne-eqb (tagType2 t) 0x500 (forward-not-check t h)) (rw (eq-eqb (tagType3 t) 0x5ff h) (or-true (isTail t)))
+forward-reads t h = behind-wide t (ne-eqb (tagType2 t) 0x500 (forward-not-check t h))
+    (rw (eq-eqb (tagType3 t) 0x5ff h) (or-true (isTail t)))
 
 -- ---- an entry's step, of the four answers to "which kind is it"
 abbrev stepped : Bool → Bool → Bool → Bool → ℕ → List ℕ → DirState → DirState
 stepped n s l f t x d =
     record {
-      count = cond n (countNamed (d .count) (tagId t)) (cond s (countSpliced (d .count) (toZ w8 (tagChunk t))) (d .count));
+      count = cond n (countNamed (d .count) (tagId t))
+          (cond s (countSpliced (d .count) (toZ w8 (tagChunk t))) (d .count));
       split = cond l (eqb (tagChunk t % 2) 1) (d .split);
       tail = cond l (pairIn x) (d .tail);
       fcrc = cond f (fcrcOf (forward (le32 x) (le32 (drop 4 x)))) (d .fcrc);
     }
 
-by-kind : (t : ℕ) (x : List ℕ) (d : DirState) {n s l f : Bool} → isName t ≡ n → isSplice t ≡ s → isTail t ≡ l → isForward t ≡ f
+by-kind : (t : ℕ) (x : List ℕ) (d : DirState) {n s l f : Bool} → isName t ≡ n → isSplice t ≡ s → isTail t ≡ l
+    → isForward t ≡ f
     → stepped n s l f t x d ≡ entered t x d
 unfolding entered counted
 by-kind t x d en es el ef = λ i. stepped (sym en i) (sym es i) (sym el i) (sym ef i) t x d
@@ -99,25 +102,30 @@ module _ (t : ℕ) (x : List ℕ) (d r : DirState) where
 
   pub enter-name : tagType1 t ≡ 0 → r ≡ named t d → r ≡ entered t x d
   unfolding named
-  enter-name h e = e ∙ by-kind t x d (eq-eqb (tagType1 t) 0 h) (ne-eqb (tagType1 t) 0x400 (λ q. omega arith)) (ne-eqb (tagType1 t) 0x600 (λ q. omega arith)) (no-forward (λ q. omega arith))
+  enter-name h e = e ∙ by-kind t x d (eq-eqb (tagType1 t) 0 h) (ne-eqb (tagType1 t) 0x400 (λ q. omega arith))
+      (ne-eqb (tagType1 t) 0x600 (λ q. omega arith)) (no-forward (λ q. omega arith))
 
   module _ (n0 : tagType1 t ≡ 0 → ⊥) where
     pub enter-splice : tagType1 t ≡ 0x400 → r ≡ spliced t d → r ≡ entered t x d
     unfolding spliced
-    enter-splice h e = e ∙ by-kind t x d (ne-eqb (tagType1 t) 0 n0) (eq-eqb (tagType1 t) 0x400 h) (ne-eqb (tagType1 t) 0x600 (λ q. omega arith)) (no-forward (λ q. omega arith))
+    enter-splice h e = e ∙ by-kind t x d (ne-eqb (tagType1 t) 0 n0) (eq-eqb (tagType1 t) 0x400 h)
+        (ne-eqb (tagType1 t) 0x600 (λ q. omega arith)) (no-forward (λ q. omega arith))
 
     module _ (n4 : tagType1 t ≡ 0x400 → ⊥) where
       pub enter-tail : tagType1 t ≡ 0x600 → r ≡ tailed t x d → r ≡ entered t x d
       unfolding tailed
-      enter-tail h e = e ∙ by-kind t x d (ne-eqb (tagType1 t) 0 n0) (ne-eqb (tagType1 t) 0x400 n4) (eq-eqb (tagType1 t) 0x600 h) (no-forward (λ q. omega arith))
+      enter-tail h e = e ∙ by-kind t x d (ne-eqb (tagType1 t) 0 n0) (ne-eqb (tagType1 t) 0x400 n4)
+          (eq-eqb (tagType1 t) 0x600 h) (no-forward (λ q. omega arith))
 
       module _ (n6 : tagType1 t ≡ 0x600 → ⊥) where
         pub enter-forward : tagType3 t ≡ 0x5ff → r ≡ forwarded x d → r ≡ entered t x d
         unfolding forwarded
-        enter-forward h e = e ∙ by-kind t x d (ne-eqb (tagType1 t) 0 n0) (ne-eqb (tagType1 t) 0x400 n4) (ne-eqb (tagType1 t) 0x600 n6) (eq-eqb (tagType3 t) 0x5ff h)
+        enter-forward h e = e ∙ by-kind t x d (ne-eqb (tagType1 t) 0 n0) (ne-eqb (tagType1 t) 0x400 n4)
+            (ne-eqb (tagType1 t) 0x600 n6) (eq-eqb (tagType3 t) 0x5ff h)
 
         pub enter-other : (tagType3 t ≡ 0x5ff → ⊥) → r ≡ d → r ≡ entered t x d
-        enter-other h e = e ∙ by-kind t x d (ne-eqb (tagType1 t) 0 n0) (ne-eqb (tagType1 t) 0x400 n4) (ne-eqb (tagType1 t) 0x600 n6) (ne-eqb (tagType3 t) 0x5ff h)
+        enter-other h e = e ∙ by-kind t x d (ne-eqb (tagType1 t) 0 n0) (ne-eqb (tagType1 t) 0x400 n4)
+            (ne-eqb (tagType1 t) 0x600 n6) (ne-eqb (tagType3 t) 0x5ff h)
 
 -- ---- an entry's step sees of the bytes behind the tag only those that its event has
 pub entered-body : (t : ℕ) (rest : List ℕ) (d : DirState) → entered t (bodyOf t rest) d ≡ entered t (drop 4 rest) d
@@ -127,7 +135,8 @@ entered-body t rest d = go (isTail t) (isForward t)
     x : List ℕ
     x = drop 4 rest
 
-    go : (l f : Bool) → stepped (isName t) (isSplice t) l f t (take (cond (l || f) 8 (tagLength t - 4)) x) d ≡ stepped (isName t) (isSplice t) l f t x d
+    go : (l f : Bool) → stepped (isName t) (isSplice t) l f t (take (cond (l || f) 8 (tagLength t - 4)) x) d
+        ≡ stepped (isName t) (isSplice t) l f t x d
     go true f = rw (le32-take x, le32-take-second x)
     go false true = rw (le32-take x, le32-take-second x)
     go false false = refl

@@ -1,5 +1,5 @@
--- A turn of the loop: what the walk from here leaves on the state now is what it leaves from the cursor before on the state before.
--- Assumes nothing.
+-- A turn of the loop: what the walk from here leaves on the state now is what it leaves from the cursor before on the
+-- state before. Assumes nothing.
 use mathlib.Core.Path.{_≡_, sym, ap, _∙_}
 use mathlib.Core.Bool.{Bool, true, false}
 use mathlib.Core.List.{List, _∷_}
@@ -29,7 +29,8 @@ use Rattle.fetch_walk.proofs.Steps.{entered-body}
 use Rattle.fetch_walk.proofs.Folds.{settles-taken}
 
 -- c and w are what `start` and `begin` answer
-pub begun-leaves : (b : List ℕ) (seed : ℕ) (c : Cursor) (w : WalkState) → c ≡ startOf b → w ≡ begun seed → leaves b w c ≡ walkedOf b seed
+pub begun-leaves : (b : List ℕ) (seed : ℕ) (c : Cursor) (w : WalkState) → c ≡ startOf b → w ≡ begun seed
+    → leaves b w c ≡ walkedOf b seed
 unfolding leaves walkedOf begun startOf from working takenNone log walk
 begun-leaves b seed c w ec ew = rw (ec, ew, settles-taken seed (walk b))
 
@@ -39,20 +40,25 @@ left b h k q d = record { taken = settles h k (from b d); straight = stoppedStra
 
 module _ (b : List ℕ) (c : Cursor) (w : WalkState) (u : Walked) (so-far : u ≡ leaves b w c) where
   -- x is what `entry` answers
-  pub turn-entry : {t : ℕ} {d : Cursor} (x : WalkState) → nextOf b c ≡ Entry t d → x ≡ holding b t (c .at + 4) w → u ≡ leaves b x d
+  pub turn-entry : {t : ℕ} {d : Cursor} (x : WalkState) → nextOf b c ≡ Entry t d → x ≡ holding b t (c .at + 4) w
+      → u ≡ leaves b x d
   unfolding leaves settles stoppedStraight working holding left
   turn-entry {t} {d} x e ex =
       let s = entry-seen b c e in
       let f : from b c ≡ ent t (bodyOf t (drop (c .at) b)) ∷ from b d = from-next b c ∙ ap (follow b c) e in
-      let h : entered t (bodyOf t (drop (c .at) b)) (w .dir) ≡ entered t (drop (c .at + 4) b) (w .dir) = entered-body t (drop (c .at) b) (w .dir) ∙ ap (λ (l : List ℕ). entered t l (w .dir)) (drop-drop 4 (c .at) b) in
+      let h : entered t (bodyOf t (drop (c .at) b)) (w .dir) ≡ entered t (drop (c .at + 4) b) (w .dir) =
+      entered-body t (drop (c .at) b) (w .dir) ∙ ap (λ (l : List ℕ). entered t l (w .dir))
+      (drop-drop 4 (c .at) b) in
       let xh : x .dir ≡ entered t (drop (c .at + 4) b) (w .dir) = ap (λ (y : WalkState). y .dir) ex in
       let xt : x .taken ≡ w .taken = ap (λ (y : WalkState). y .taken) ex in
-      let k : step (ent t (bodyOf t (drop (c .at) b))) (working w c) ≡ working x d = worked t x d (h ∙ sym xh) (sym (s .end)) (sym (s .prev)) (ap (λ (y : Taken). y .seed) (sym xt)) in
+      let k : step (ent t (bodyOf t (drop (c .at) b))) (working w c) ≡ working x d =
+      worked t x d (h ∙ sym xh) (sym (s .end)) (sym (s .prev)) (ap (λ (y : Taken). y .seed) (sym xt)) in
       let q : false ≡ isCheck (d .prev) = sym (ap isCheck (s .prev) ∙ s .plain) in
       let y : w .taken ≡ x .taken = sym xt in
       so-far ∙ rw f (λ i. left b (k i) (y i) (q i) d)
     where
-      worked : (t : ℕ) (x : WalkState) (d : Cursor) → entered t (bodyOf t (drop (c .at) b)) (w .dir) ≡ x .dir → c .at + tagLength t ≡ d .at → t ≡ d .prev → w .taken .seed ≡ x .taken .seed
+      worked : (t : ℕ) (x : WalkState) (d : Cursor) → entered t (bodyOf t (drop (c .at) b)) (w .dir) ≡ x .dir
+          → c .at + tagLength t ≡ d .at → t ≡ d .prev → w .taken .seed ≡ x .taken .seed
           → step (ent t (bodyOf t (drop (c .at) b))) (working w c) ≡ working x d
       worked t x d e1 e2 e3 e4 = λ i. record { dir = e1 i; off = e2 i; etag = e3 i; seed = e4 i }
 
@@ -62,15 +68,18 @@ module _ (b : List ℕ) (c : Cursor) (w : WalkState) (u : Walked) (so-far : u �
   turn-check {x} {d} v e ev =
       let s = check-seen b c e in
       let f : from b c ≡ chk (tagAt b c) x ∷ from b d = from-next b c ∙ ap (follow b c) e in
-      let k : step (chk (tagAt b c) x) (working w c) ≡ working (taking x d w) d = worked x d (sym (s .end)) (sym (s .prev)) in
+      let k : step (chk (tagAt b c) x) (working w c) ≡ working (taking x d w) d =
+      worked x d (sym (s .end)) (sym (s .prev)) in
       let q : true ≡ isCheck (d .prev) = sym (ap isCheck (s .prev) ∙ flipped-check (tagAt b c) ∙ s .is) in
       so-far ∙ rw f (λ i. left b (k i) (k i) (q i) d) ∙ ap (λ (y : WalkState). leaves b y d) (sym ev)
     where
-      worked : (x : ℕ) (d : Cursor) → c .at + tagLength (tagAt b c) ≡ d .at → tagFlipped (tagAt b c) ≡ d .prev → step (chk (tagAt b c) x) (working w c) ≡ working (taking x d w) d
+      worked : (x : ℕ) (d : Cursor) → c .at + tagLength (tagAt b c) ≡ d .at → tagFlipped (tagAt b c) ≡ d .prev
+          → step (chk (tagAt b c) x) (working w c) ≡ working (taking x d w) d
       worked x d e2 e3 = λ i. record { dir = w .dir; off = e2 i; etag = e3 i; seed = crc (w .taken .seed) (toLe32 x) }
 
   -- q is what `is_check` answers
-  pub turn-invalid : (q : Bool) → nextOf b c ≡ Invalid → q ≡ isCheck (c .prev) → record { taken = w .taken; straight = q } ≡ u
+  pub turn-invalid : (q : Bool) → nextOf b c ≡ Invalid → q ≡ isCheck (c .prev)
+      → record { taken = w .taken; straight = q } ≡ u
   unfolding leaves settles stoppedStraight
   turn-invalid q e eq = sym (so-far ∙ rw (from-next b c ∙ ap (follow b c) e, eq))
 
@@ -87,7 +96,10 @@ module _ (b : List ℕ) (c : Cursor) where
   pub entry-moved : {t : ℕ} {d : Cursor} → nextOf b c ≡ Entry t d → Moved d
   entry-moved {t} {d} e =
       let s = entry-seen b c e in
-      record { low = omega (arith, tagLength-ge t, s .end); high = omega (arith, length-drop (c .at) b, s .end, s .whole .fits, tagLength-ge t) }
+      record {
+        low = omega (arith, tagLength-ge t, s .end);
+        high = omega (arith, length-drop (c .at) b, s .end, s .whole .fits, tagLength-ge t);
+      }
 
   pub entry-room : {t : ℕ} {d : Cursor} → nextOf b c ≡ Entry t d → c .at + 4 + readBehind t ≤ length b
   entry-room {t} {d} e = let s = entry-seen b c e in omega (arith, length-drop (c .at) b, s .whole .reach)
@@ -95,4 +107,7 @@ module _ (b : List ℕ) (c : Cursor) where
   pub check-moved : {x : ℕ} {d : Cursor} → nextOf b c ≡ Check x d → Moved d
   check-moved {x} {d} e =
       let s = check-seen b c e in
-      record { low = omega (arith, tagLength-ge (tagAt b c), s .end); high = omega (arith, length-drop (c .at) b, s .end, s .whole .fits, tagLength-ge (tagAt b c)) }
+      record {
+        low = omega (arith, tagLength-ge (tagAt b c), s .end);
+        high = omega (arith, length-drop (c .at) b, s .end, s .whole .fits, tagLength-ge (tagAt b c));
+      }

@@ -16,7 +16,12 @@ fcrcOf noForward = record { seen = false; size = 0; sum = 0 }
 fcrcOf (forward n s) = record { seen = true; size = n; sum = s }
 
 abbrev pub dirOf : List Event → DirState
-dirOf es = record { count = countOf 0 es; split = splitOf false es; tail = tailOf noTail es; fcrc = fcrcOf (forwardOf noForward es) }
+dirOf es = record {
+  count = countOf 0 es;
+  split = splitOf false es;
+  tail = tailOf noTail es;
+  fcrc = fcrcOf (forwardOf noForward es);
+}
 
 abbrev pub takenOf : ℕ → List Event → Taken
 takenOf seed es = record { dir = dirOf es; off = logEnd es; etag = logEndTag es; seed = seedOf seed es }

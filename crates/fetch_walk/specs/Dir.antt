@@ -29,7 +29,12 @@ unfoldable pub tailed : ℕ → List ℕ → DirState → DirState
 tailed t x d = record { count = d .count; split = eqb (tagChunk t % 2) 1; tail = pairIn x; fcrc = d .fcrc }
 
 unfoldable pub forwarded : List ℕ → DirState → DirState
-forwarded x d = record { count = d .count; split = d .split; tail = d .tail; fcrc = fcrcOf (forward (le32 x) (le32 (drop 4 x))) }
+forwarded x d = record {
+  count = d .count;
+  split = d .split;
+  tail = d .tail;
+  fcrc = fcrcOf (forward (le32 x) (le32 (drop 4 x)));
+}
 
 -- any entry: each part as its own fold has it
 unfoldable pub entered : ℕ → List ℕ → DirState → DirState

@@ -1,4 +1,5 @@
--- The steps of the walk's state, as the code makes them: one record is worked on, another was taken by the last commit. Assumes nothing.
+-- The steps of the walk's state, as the code makes them: one record is worked on, another was taken by the last commit.
+-- Assumes nothing.
 use mathlib.Core.List.{List, [], _∷_}
 use Prim.Native.Nat.{ℕ, _+_}
 use lib.ListN.{drop}
@@ -25,12 +26,25 @@ holding b t at w = record { dir = entered t (drop at b) (w .dir); taken = w .tak
 
 unfoldable pub taking : ℕ → Cursor → WalkState → WalkState
 taking x c w =
-    record { dir = w .dir; taken = record { dir = w .dir; off = c .at; etag = c .prev; seed = crc (w .taken .seed) (toLe32 x) } }
+    record {
+      dir = w .dir;
+      taken = record {
+        dir = w .dir;
+        off = c .at;
+        etag = c .prev;
+        seed = crc (w .taken .seed) (toLe32 x);
+      };
+    }
 
 -- an event's step on what a commit would take
 abbrev pub step : Event → Taken → Taken
 step (ent t x) k = record { dir = entered t x (k .dir); off = k .off + tagLength t; etag = t; seed = k .seed }
-step (chk t x) k = record { dir = k .dir; off = k .off + tagLength t; etag = tagFlipped t; seed = crc (k .seed) (toLe32 x) }
+step (chk t x) k = record {
+  dir = k .dir;
+  off = k .off + tagLength t;
+  etag = tagFlipped t;
+  seed = crc (k .seed) (toLe32 x);
+}
 step inv k = k
 
 -- what is taken at last, where h is worked on and k was taken
@@ -51,4 +65,7 @@ from b c = walkFrom (c .sum) (c .prev) (drop (c .at) b)
 -- what the walk from a state and a cursor leaves
 unfoldable pub leaves : List ℕ → WalkState → Cursor → Walked
 leaves b w c =
-    record { taken = settles (working w c) (w .taken) (from b c); straight = stoppedStraight (isCheck (c .prev)) (from b c) }
+    record {
+      taken = settles (working w c) (w .taken) (from b c);
+      straight = stoppedStraight (isCheck (c .prev)) (from b c);
+    }

@@ -1,5 +1,6 @@
-// A cursor over one block, and the step that reads what stands there: the lexing of `lfs_dir_fetchmatch`'s loop. Bytes are summed once each:
-// an entry's tag and data in one pass, a check's tag in another, and nothing before the length is known to fit.
+// A cursor over one block, and the step that reads what stands there: the lexing of `lfs_dir_fetchmatch`'s loop. Bytes
+// are summed once each: an entry's tag and data in one pass, a check's tag in another, and nothing before the length is
+// known to fit.
 ghost use mathlib.Core.Path.{_≡_};
 ghost use Prim.Native.Nat.{_+_, _^_, _≤_, _<_};
 ghost use lib.ListN.{length, drop};
@@ -58,7 +59,8 @@ impl Cursor {
     }
 }
 
-// "The walk stops on an invalid tag, on an entry passing the block, or on any read past it." `sum` is the checksum before the tag.
+// "The walk stops on an invalid tag, on an entry passing the block, or on any read past it." `sum` is the checksum
+// before the tag.
 fn tag_at(b: &[u8], at: usize, tag: u32, sum: u32) -> Seen
     requires { ⌜ at + 4 ≤ length (now b) ⌝ }
     ensures { λ r. ⌜ r ≡ tagSeen (now (b .entry)) at tag sum ⌝ }
@@ -80,7 +82,8 @@ fn tag_at(b: &[u8], at: usize, tag: u32, sum: u32) -> Seen
     }
 }
 
-// "four little-endian bytes behind the tag equal the checksum, or the walk stops": the check tag's own four bytes are in the checksum.
+// "four little-endian bytes behind the tag equal the checksum, or the walk stops": the check tag's own four bytes are
+// in the checksum.
 fn check_at(b: &[u8], at: usize, tag: u32, sum: u32) -> Seen
     requires { ⌜ CheckFits (now b) at tag ⌝ }
     ensures { λ r. ⌜ r ≡ checkSeen (drop at (now (b .entry))) at tag sum ⌝ }
@@ -129,7 +132,8 @@ pub fn is_check(tag: u32) -> bool
     tag::lfs_tag_type2(tag) == LFS_TYPE_CCRC
 }
 
-// How many bytes are read behind a tag whatever its size: a check's checksum; the eight of a tail and of a forward check.
+// How many bytes are read behind a tag whatever its size: a check's checksum; the eight of a tail and of a forward
+// check.
 fn read_behind(tag: u32) -> usize
     ensures { λ r. ⌜ (r ≡ readBehind tag) × (r ≤ 8) ⌝ }
 {

@@ -1,4 +1,5 @@
-// What the entries read so far say of the directory: a record by value, stepped by its own operations, one for each kind of entry.
+// What the entries read so far say of the directory: a record by value, stepped by its own operations, one for each
+// kind of entry.
 ghost use mathlib.Core.Path.{_≡_};
 ghost use Prim.Native.Nat.{_+_, _≤_};
 ghost use lib.ListN.{length, drop};
@@ -91,7 +92,8 @@ impl DirState {
         self
     }
 
-    // Any entry. Names, splices and tails go by type1, the forward check is exactly 0x5ff; the others say nothing of the directory.
+    // Any entry. Names, splices and tails go by type1, the forward check is exactly 0x5ff; the others say nothing of
+    // the directory.
     pub fn entry(self, b: &[u8], tag: u32, at: usize) -> Self
         requires { ⌜ at + readBehind tag ≤ length (now b) ⌝ }
         ensures { λ r. ⌜ r ≡ entered tag (drop at (now (b .entry))) self ⌝ }

@@ -1,5 +1,6 @@
-// The walk over one metadata block, from its revision to where it stops: what `lfs_dir_fetchmatch` learns of a block. The state goes in and
-// comes back by value, stepped by its own operations. A function with a `requires` is for the crates of this repository, which test first.
+// The walk over one metadata block, from its revision to where it stops: what `lfs_dir_fetchmatch` learns of a block.
+// The state goes in and comes back by value, stepped by its own operations. A function with a `requires` is for the
+// crates of this repository, which test first.
 ghost use mathlib.Core.Path.{_≡_};
 ghost use Prim.Native.Nat.{_+_, _≤_};
 ghost use lib.ListN.{length};
@@ -56,8 +57,8 @@ impl WalkState {
         self
     }
 
-    // A commit check that fits, with its checksum and the cursor behind it. The directory goes on as it is: a forward check counts in later
-    // commits too.
+    // A commit check that fits, with its checksum and the cursor behind it. The directory goes on as it is: a forward
+    // check counts in later commits too.
     pub fn commit(mut self, sum: u32, c: Cursor) -> Self
         ensures { λ r. ⌜ r ≡ taking sum c self ⌝ }
     {

@@ -20,7 +20,8 @@ same-hop f g b off t h = go (leb (4 + tagLength t) off) refl
     go : (c : Bool) → leb (4 + tagLength t) off ≡ c → hop f c b off t ≡ hop g c b off t
     go true e =
         let l : 4 + tagLength t ≤ off = leb-true (4 + tagLength t) off e in
-        ap (λ z. record { tag = t; off = off - tagLength t } ∷ z) (h (off - tagLength t) (xor (be32 (drop (off - tagLength t) b)) t % 2 ^ 31) (omega (arith, tagLength-ge t)))
+        ap (λ z. record { tag = t; off = off - tagLength t } ∷ z)
+        (h (off - tagLength t) (xor (be32 (drop (off - tagLength t) b)) t % 2 ^ 31) (omega (arith, tagLength-ge t)))
     go false e = refl
 
 -- any number of steps above the offset is enough
@@ -28,7 +29,8 @@ enough : (n m : ℕ) (b : List ℕ) (off t : ℕ) → off < n → off < m → ba
 unfolding backs
 enough zero m b off t h k = absurd (omega arith)
 enough (suc n) zero b off t h k = absurd (omega arith)
-enough (suc n) (suc m) b off t h k = same-hop (backs n b) (backs m b) b off t (λ o u l. enough n m b o u (omega arith) (omega arith))
+enough (suc n) (suc m) b off t h k = same-hop (backs n b) (backs m b) b off t
+    (λ o u l. enough n m b o u (omega arith) (omega arith))
 
 pub back-step : (b : List ℕ) (off t : ℕ) → back b off t ≡ hop (back b) (leb (4 + tagLength t) off) b off t
 unfolding back backs
@@ -38,5 +40,6 @@ pub back-none : (b : List ℕ) (off t : ℕ) → off < 4 + tagLength t → back 
 back-none b off t h = rw (back-step b off t, lt-leb (4 + tagLength t) off h)
 
 pub back-more : (b : List ℕ) (off t : ℕ) → 4 + tagLength t ≤ off
-    → back b off t ≡ record { tag = t; off = off - tagLength t } ∷ back b (off - tagLength t) (xor (be32 (drop (off - tagLength t) b)) t % 2 ^ 31)
+    → back b off t ≡ record { tag = t; off = off - tagLength t } ∷ back b (off - tagLength t)
+    (xor (be32 (drop (off - tagLength t) b)) t % 2 ^ 31)
 back-more b off t h = back-step b off t ∙ rw (le-leb (4 + tagLength t) off h)

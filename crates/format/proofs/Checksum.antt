@@ -1,5 +1,5 @@
--- Laws of the checksum for its callers: of bytes behind bytes, that it stays a word, and that the sum of a difference is the difference of
--- the sums. Assumes nothing.
+-- Laws of the checksum for its callers: of bytes behind bytes, that it stays a word, and that the sum of a difference
+-- is the difference of the sums. Assumes nothing.
 use mathlib.Core.Path.{_≡_, refl, ap, _∙_}
 use mathlib.Core.List.{List, [], _∷_, _++_}
 use Prim.Native.Nat.{ℕ, zero, suc, _*_, _/_, _%_, _^_, _<_}
@@ -31,7 +31,8 @@ bits-lt (suc n) c h = bits-lt n (crcBit c) (bit-lt c h)
 pub crc-word : (l : List ℕ) (c : ℕ) → c < 2 ^ 32 → crc c l < 2 ^ 32
 unfolding crc crcByte
 crc-word [] c h = h
-crc-word (b ∷ l) c h = crc-word l (crcByte c b) (bits-lt 8 (bitXor c (b % 2 ^ 8)) (xor-lt 32 c (b % 2 ^ 8) h (omega arith)))
+crc-word (b ∷ l) c h = crc-word l (crcByte c b)
+    (bits-lt 8 (bitXor c (b % 2 ^ 8)) (xor-lt 32 c (b % 2 ^ 8) h (omega arith)))
 
 -- what a register has more than another passes through the bytes as it would pass through zeros
 pub crc-linear : (c d : ℕ) (b : ℕ) → crcByte (bitXor c d) b ≡ bitXor (crcByte c b) (crcBits 8 d)

@@ -1,4 +1,5 @@
--- The class of a tag at the head of so many bytes: from the tests in the order in which code makes them, and back. Assumes nothing.
+-- The class of a tag at the head of so many bytes: from the tests in the order in which code makes them, and back.
+-- Assumes nothing.
 use mathlib.Core.Path.{_≡_, refl}
 use mathlib.Core.Bool.{Bool, true, false, cond}
 use Prim.Native.Nat.{ℕ, _+_, _^_, _≤_, _<_}
@@ -26,19 +27,37 @@ module _ (t left : ℕ) (l : 4 ≤ left) where
     module _ (fits : tagLength t ≤ left) where
       pub class-unread : left < 4 + readBehind t → classOf t left ≡ past
       unfolding classOf
-      class-unread h = rw (le-leb 4 left l, lt-ltb t (2 ^ 31) v, le-leb (tagLength t) left fits, lt-leb (4 + readBehind t) left h)
+      class-unread h = rw (
+        le-leb 4 left l,
+        lt-ltb t (2 ^ 31) v,
+        le-leb (tagLength t) left fits,
+        lt-leb (4 + readBehind t) left h,
+      )
 
       pub class-check : 4 + readBehind t ≤ left → isCheck t ≡ true → classOf t left ≡ check
       unfolding classOf
-      class-check h c = rw (le-leb 4 left l, lt-ltb t (2 ^ 31) v, le-leb (tagLength t) left fits, le-leb (4 + readBehind t) left h, c)
+      class-check h c = rw (
+        le-leb 4 left l,
+        lt-ltb t (2 ^ 31) v,
+        le-leb (tagLength t) left fits,
+        le-leb (4 + readBehind t) left h,
+        c,
+      )
 
       pub class-entry : 4 + readBehind t ≤ left → isCheck t ≡ false → classOf t left ≡ entry
       unfolding classOf
-      class-entry h c = rw (le-leb 4 left l, lt-ltb t (2 ^ 31) v, le-leb (tagLength t) left fits, le-leb (4 + readBehind t) left h, c)
+      class-entry h c = rw (
+        le-leb 4 left l,
+        lt-ltb t (2 ^ 31) v,
+        le-leb (tagLength t) left fits,
+        le-leb (4 + readBehind t) left h,
+        c,
+      )
 
 -- ---- and back: what a class says
 abbrev pick : Bool → Bool → Bool → Bool → Bool → Class
-pick four valid fits reach is = cond four (cond valid (cond fits (cond reach (cond is check entry) past) past) invalid) past
+pick four valid fits reach is = cond four (cond valid (cond fits (cond reach (cond is check entry) past) past) invalid)
+    past
 
 abbrev Passed : Bool → Bool → Bool → Bool → Bool → Type 0
 Passed valid fits reach is wanted = (valid ≡ true) × (fits ≡ true) × (reach ≡ true) × (is ≡ wanted)
@@ -65,18 +84,25 @@ pub record Whole (t left : ℕ) : Type 0 where
   pub fits : tagLength t ≤ left
   pub reach : 4 + readBehind t ≤ left
 
-whole : (t left : ℕ) (is : Bool) → Passed (tagValid t) (leb (tagLength t) left) (leb (4 + readBehind t) left) (isCheck t) is → Whole t left
-whole t left is r = record { small = ltb-true t (2 ^ 31) (r .0); fits = leb-true (tagLength t) left (r .1); reach = leb-true (4 + readBehind t) left (r .2) }
+whole : (t left : ℕ) (is : Bool) → Passed (tagValid t) (leb (tagLength t) left) (leb (4 + readBehind t) left)
+    (isCheck t) is → Whole t left
+whole t left is r = record {
+  small = ltb-true t (2 ^ 31) (r .0);
+  fits = leb-true (tagLength t) left (r .1);
+  reach = leb-true (4 + readBehind t) left (r .2);
+}
 
 pub check-says : (t left : ℕ) → classOf t left ≡ check → Whole t left × (isCheck t ≡ true)
 unfolding classOf
 check-says t left h =
-    let r = pick-check (leb 4 left) (tagValid t) (leb (tagLength t) left) (leb (4 + readBehind t) left) (isCheck t) h in (whole t left true r, r .3)
+    let r = pick-check (leb 4 left) (tagValid t) (leb (tagLength t) left) (leb (4 + readBehind t) left) (isCheck t) h in
+    (whole t left true r, r .3)
 
 pub entry-says : (t left : ℕ) → classOf t left ≡ entry → Whole t left × (isCheck t ≡ false)
 unfolding classOf
 entry-says t left h =
-    let r = pick-entry (leb 4 left) (tagValid t) (leb (tagLength t) left) (leb (4 + readBehind t) left) (isCheck t) h in (whole t left false r, r .3)
+    let r = pick-entry (leb 4 left) (tagValid t) (leb (tagLength t) left) (leb (4 + readBehind t) left) (isCheck t) h in
+    (whole t left false r, r .3)
 
 -- ---- what is read behind a tag
 pub behind-check : (t : ℕ) → isCheck t ≡ true → readBehind t ≡ 4

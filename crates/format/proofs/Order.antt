@@ -1,5 +1,5 @@
--- Which block is tried first, by comparisons of words: a difference is above 0, read as signed, where it is neither 0 nor has its top bit.
--- Assumes nothing.
+-- Which block is tried first, by comparisons of words: a difference is above 0, read as signed, where it is neither 0
+-- nor has its top bit. Assumes nothing.
 use mathlib.Core.Path.{_≡_, refl, sym}
 use mathlib.Core.Bool.{Bool, true, false, _&&_}
 use Prim.Native.Nat.{ℕ, _^_, _<_}
@@ -29,14 +29,20 @@ above-zero d = go (ltb d (2 ^ 31)) refl
     go true e = rw e (with-true (ltb 0 d))
     go false e = rw e (with-false (ltb 0 d))
 
-pub second-first : (rev0 rev1 : ℕ) → secondFirst rev0 rev1 ≡ ltb 0 (minus32 rev1 rev0) && ltb (minus32 rev1 rev0) (2 ^ 31)
+pub second-first : (rev0 rev1 : ℕ) → secondFirst rev0 rev1 ≡ ltb 0 (minus32 rev1 rev0)
+    && ltb (minus32 rev1 rev0) (2 ^ 31)
 second-first rev0 rev1 = above-zero (minus32 rev1 rev0)
 
 -- a revision plus one, wrapping, is tried first, on either side
 pub next-first : (rev : ℕ) → rev < 2 ^ 32 → secondFirst rev (plus32 rev 1) ≡ true
 next-first rev h =
-    rw (second-first rev (plus32 rev 1), lt-ltb 0 (minus32 (plus32 rev 1) rev) (omega arith), lt-ltb (minus32 (plus32 rev 1) rev) (2 ^ 31) (omega arith))
+    rw (
+      second-first rev (plus32 rev 1),
+      lt-ltb 0 (minus32 (plus32 rev 1) rev) (omega arith),
+      lt-ltb (minus32 (plus32 rev 1) rev) (2 ^ 31) (omega arith),
+    )
 
 pub next-stays : (rev : ℕ) → rev < 2 ^ 32 → secondFirst (plus32 rev 1) rev ≡ false
 next-stays rev h =
-    rw (second-first (plus32 rev 1) rev, le-ltb (minus32 rev (plus32 rev 1)) (2 ^ 31) (omega arith)) (sym (with-false (ltb 0 (minus32 rev (plus32 rev 1)))))
+    rw (second-first (plus32 rev 1) rev, le-ltb (minus32 rev (plus32 rev 1)) (2 ^ 31) (omega arith))
+    (sym (with-false (ltb 0 (minus32 rev (plus32 rev 1)))))

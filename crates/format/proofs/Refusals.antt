@@ -18,6 +18,7 @@ module _ (prog : ℕ) (second : Bool) (b : List ℕ) (es : List Event) (entries 
   irregular-first h = rw h
 
   -- a bad entry is refused for itself, whether there is room or not
-  pub bad-before-space : Regular es ≡ true → (i : ℕ) → judge dat 0 (countOf 0 es) entries ≡ bad i → appended prog second b es entries dat ≡ refused (BadEntry i)
+  pub bad-before-space : Regular es ≡ true → (i : ℕ) → judge dat 0 (countOf 0 es) entries ≡ bad i
+      → appended prog second b es entries dat ≡ refused (BadEntry i)
   unfolding appended
   bad-before-space h i k = rw (h, k)

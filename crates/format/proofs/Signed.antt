@@ -1,5 +1,5 @@
--- A word of w bits read as signed, by a subtraction that fits: where its top bit is set it is -1 less the word's distance m from all ones.
--- One law for every width. Assumes nothing.
+-- A word of w bits read as signed, by a subtraction that fits: where its top bit is set it is -1 less the word's
+-- distance m from all ones. One law for every width. Assumes nothing.
 use mathlib.Core.Path.{_≡_, refl, sym, ap, _∙_}
 use Prim.Native.Nat.{ℕ, zero, suc, _+_, _-_, _%_, _^_, _<_, _≤_}
 use native.Mathlib.Nat.{zero-add}

@@ -1,5 +1,6 @@
--- Laws of tags as words: what the top byte decides, what the XOR keeps, what bit 31 does not touch, and the fields of a tag that was made.
--- Each field law stands alone, since `omega` meets its bound where several are in reach. Assumes nothing.
+-- Laws of tags as words: what the top byte decides, what the XOR keeps, what bit 31 does not touch, and the fields of a
+-- tag that was made. Each field law stands alone, since `omega` meets its bound where several are in reach. Assumes
+-- nothing.
 use mathlib.Core.Path.{_≡_, refl, sym, ap, _∙_}
 use mathlib.Core.List.{List, _++_}
 use Prim.Native.Nat.{ℕ, zero, suc, _+_, _*_, _/_, _%_, _^_, _≤_, _<_}
@@ -8,7 +9,8 @@ use lib.Bits.{bitXor, xor-shr, xor-mod, xor-comm, xor-self}
 use lib.Dec.{eqb}
 use borrow.Author.Tests.{eq-eqb, ne-eqb}
 use Rattle.format.specs.Word.{be32, toBe32, xor, allOnes}
-use Rattle.format.specs.Tag.{tagType1, tagType2, tagType3, tagChunk, tagId, tagSize, removalSize, tagLength, tagFlipped, tagOf}
+use Rattle.format.specs.Tag.{tagType1, tagType2, tagType3, tagChunk, tagId, tagSize, removalSize, tagLength}
+use Rattle.format.specs.Tag.{tagFlipped, tagOf}
 use Rattle.format.specs.Kind.{typeCheck, isCheck}
 use Rattle.format.proofs.Xor.{xor-cancel}
 use Rattle.format.proofs.Words.{be32-toBe32, xor-undo}
@@ -106,11 +108,13 @@ pub of-type3 : (type id size : ℕ) → type < 2 ^ 11 → id < 2 ^ 10 → size <
 unfolding tagOf
 of-type3 type id size a b c = omega arith
 
-pub of-type1 : (type id size : ℕ) → type < 2 ^ 11 → id < 2 ^ 10 → size < 2 ^ 10 → tagType1 (tagOf type id size) ≡ type / 2 ^ 8 * 2 ^ 8
+pub of-type1 : (type id size : ℕ) → type < 2 ^ 11 → id < 2 ^ 10 → size < 2 ^ 10
+    → tagType1 (tagOf type id size) ≡ type / 2 ^ 8 * 2 ^ 8
 unfolding tagOf
 of-type1 type id size a b c = omega arith
 
-pub of-type2 : (type id size : ℕ) → type < 2 ^ 11 → id < 2 ^ 10 → size < 2 ^ 10 → tagType2 (tagOf type id size) ≡ type / 2 ^ 7 * 2 ^ 7
+pub of-type2 : (type id size : ℕ) → type < 2 ^ 11 → id < 2 ^ 10 → size < 2 ^ 10
+    → tagType2 (tagOf type id size) ≡ type / 2 ^ 7 * 2 ^ 7
 unfolding tagOf
 of-type2 type id size a b c = omega arith
 
@@ -131,7 +135,8 @@ unfolding tagOf
 of-valid type id size a b c = omega arith
 
 pub of-length : (type id size : ℕ) → size < removalSize → tagLength (tagOf type id size) ≡ 4 + size
-of-length type id size h = length-size (tagOf type id size) (λ q. omega (arith, of-size type id size (omega arith))) ∙ ap (λ (n : ℕ). 4 + n) (of-size type id size (omega arith))
+of-length type id size h = length-size (tagOf type id size) (λ q. omega (arith, of-size type id size (omega arith)))
+    ∙ ap (λ (n : ℕ). 4 + n) (of-size type id size (omega arith))
 
 -- and a valid tag is made of its fields
 pub of-fields : (t : ℕ) → t < 2 ^ 31 → tagOf (tagType3 t) (tagId t) (tagSize t) ≡ t

@@ -9,7 +9,8 @@ use lib.Dec.{eqb}
 use Rattle.format.specs.Crc.{crc}
 use Rattle.format.specs.Word.{be32, le32, xor, allOnes}
 use Rattle.format.specs.Tag.{tagLength, tagFlipped}
-use Rattle.format.specs.Walk.{Event, ent, chk, Class, past, invalid, check, entry, classOf, bodyOf, checked, stepOf, walkIn, walkFrom}
+use Rattle.format.specs.Walk.{Event, ent, chk, Class, past, invalid, check, entry, classOf, bodyOf, checked}
+use Rattle.format.specs.Walk.{stepOf, walkIn, walkFrom}
 use Rattle.format.proofs.Words.{tagLength-ge}
 
 -- behind a tag there are fewer bytes
@@ -30,20 +31,24 @@ same-step f g sum rest h check t = fits (eqb (crc sum (take 4 rest)) (le32 (drop
 same-step f g sum rest h entry t = ap (λ es. ent t (bodyOf t rest) ∷ es) (h (crc sum (take (tagLength t) rest)) t t)
 
 -- any number of steps above the number of bytes is enough
-enough : (n m sum prev : ℕ) (rest : List ℕ) → length rest < n → length rest < m → walkIn n sum prev rest ≡ walkIn m sum prev rest
+enough : (n m sum prev : ℕ) (rest : List ℕ) → length rest < n → length rest < m
+    → walkIn n sum prev rest ≡ walkIn m sum prev rest
 unfolding walkIn classOf
 enough zero m sum prev rest h k = absurd (omega arith)
 enough (suc n) zero sum prev rest h k = absurd (omega arith)
 enough (suc n) (suc m) sum prev [] h k = refl
 enough (suc n) (suc m) sum prev (b ∷ r) h k =
-    same-step (walkIn n) (walkIn m) sum (b ∷ r) (λ s p t. enough n m s p (drop (tagLength t) (b ∷ r)) (shorter t b r n h) (shorter t b r m k))
+    same-step (walkIn n) (walkIn m) sum (b ∷ r) (λ s p t. enough n m s p (drop (tagLength t) (b ∷ r))
+    (shorter t b r n h) (shorter t b r m k))
     (classOf (xor (be32 (b ∷ r)) prev) (length (b ∷ r))) (xor (be32 (b ∷ r)) prev)
 
 pub walk-step : (sum prev : ℕ) (rest : List ℕ)
-    → walkFrom sum prev rest ≡ stepOf walkFrom (classOf (xor (be32 rest) prev) (length rest)) (xor (be32 rest) prev) sum rest
+    → walkFrom sum prev rest ≡ stepOf walkFrom (classOf (xor (be32 rest) prev) (length rest)) (xor (be32 rest) prev) sum
+    rest
 unfolding walkFrom walkIn classOf
 walk-step sum prev [] = refl
 walk-step sum prev (b ∷ r) =
     same-step (walkIn (length (b ∷ r))) walkFrom sum (b ∷ r)
-    (λ s p t. enough (length (b ∷ r)) (suc (length (drop (tagLength t) (b ∷ r)))) s p (drop (tagLength t) (b ∷ r)) (shorter t b r (length (b ∷ r)) (omega arith)) (omega arith))
+    (λ s p t. enough (length (b ∷ r)) (suc (length (drop (tagLength t) (b ∷ r)))) s p (drop (tagLength t) (b ∷ r))
+    (shorter t b r (length (b ∷ r)) (omega arith)) (omega arith))
     (classOf (xor (be32 (b ∷ r)) prev) (length (b ∷ r))) (xor (be32 (b ∷ r)) prev)

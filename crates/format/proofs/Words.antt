@@ -31,11 +31,13 @@ unfolding toLe32
 length-toLe32 w = refl
 
 -- ---- a word at an offset, byte by byte
-pub be32-at : (b : List ℕ) (a : ℕ) → be32 (drop a b) ≡ getD b a 0 * 2 ^ 24 + getD b (a + 1) 0 * 2 ^ 16 + getD b (a + 2) 0 * 2 ^ 8 + getD b (a + 3) 0
+pub be32-at : (b : List ℕ) (a : ℕ) → be32 (drop a b) ≡ getD b a 0 * 2 ^ 24 + getD b (a + 1) 0 * 2 ^ 16 + getD b (a + 2)
+    0 * 2 ^ 8 + getD b (a + 3) 0
 unfolding be32
 be32-at b a = rw (getD-drop a b 0 0, getD-drop a b 1 0, getD-drop a b 2 0, getD-drop a b 3 0, add-zero a)
 
-pub le32-at : (b : List ℕ) (a : ℕ) → le32 (drop a b) ≡ getD b a 0 + getD b (a + 1) 0 * 2 ^ 8 + getD b (a + 2) 0 * 2 ^ 16 + getD b (a + 3) 0 * 2 ^ 24
+pub le32-at : (b : List ℕ) (a : ℕ) → le32 (drop a b) ≡ getD b a 0 + getD b (a + 1) 0 * 2 ^ 8 + getD b (a + 2) 0 * 2 ^ 16
+    + getD b (a + 3) 0 * 2 ^ 24
 unfolding le32
 le32-at b a = rw (getD-drop a b 0 0, getD-drop a b 1 0, getD-drop a b 2 0, getD-drop a b 3 0, add-zero a)
 
@@ -55,8 +57,10 @@ tagLength-ge t = either (tagDelete t)
     either false = omega arith
 
 -- of a type of 12 bits (the validity with it), an id and a size of 10 bits each, LFS_MKTAG is their sum
-pub mkTag-sum : (type id size : ℕ) → type < 2 ^ 12 → id < 2 ^ 10 → size < 2 ^ 10 → mkTag type id size ≡ type * 2 ^ 20 + id * 2 ^ 10 + size
+pub mkTag-sum : (type id size : ℕ) → type < 2 ^ 12 → id < 2 ^ 10 → size < 2 ^ 10
+    → mkTag type id size ≡ type * 2 ^ 20 + id * 2 ^ 10 + size
 mkTag-sum type id size ht hi hs =
     let e : bitOr (type * 2 ^ 20 % 2 ^ 32) (id * 2 ^ 10 % 2 ^ 32) ≡ (type * 2 ^ 10 + id) * 2 ^ 10 =
-    rw (shl-exact {a = type} 12 20 32 ht (omega arith), shl-exact {a = id} 10 10 32 hi (omega arith)) (rw (or-shifted type 20 (id * 2 ^ 10) (omega arith)) (omega arith)) in
+    rw (shl-exact {a = type} 12 20 32 ht (omega arith), shl-exact {a = id} 10 10 32 hi (omega arith))
+    (rw (or-shifted type 20 (id * 2 ^ 10) (omega arith)) (omega arith)) in
     rw e (rw (or-shifted (type * 2 ^ 10 + id) 10 size hs) (omega arith))

@@ -1,4 +1,5 @@
--- Laws of `^` that the library does not state: it is associative, and an operand applied twice goes away. Assumes nothing.
+-- Laws of `^` that the library does not state: it is associative, and an operand applied twice goes away. Assumes
+-- nothing.
 use mathlib.Core.Path.{_≡_, refl, sym, ap, ap₂, _∙_}
 use Prim.Native.Nat.{ℕ, zero, suc, _+_, _*_, _/_, _%_, _<_}
 use native.Mathlib.Nat.{mod-lt, le-of-suc-le-suc, not-suc-le-zero, zero-lt-suc}
@@ -21,7 +22,8 @@ differ-assoc zero y z hx hy hz = refl
 differ-assoc (suc zero) zero z hx hy hz = refl
 differ-assoc (suc zero) (suc zero) zero hx hy hz = refl
 differ-assoc (suc zero) (suc zero) (suc zero) hx hy hz = refl
-differ-assoc (suc zero) (suc zero) (suc (suc z)) hx hy hz = absurd (not-suc-le-zero (le-of-suc-le-suc (le-of-suc-le-suc hz)))
+differ-assoc (suc zero) (suc zero) (suc (suc z)) hx hy hz =
+    absurd (not-suc-le-zero (le-of-suc-le-suc (le-of-suc-le-suc hz)))
 differ-assoc (suc zero) (suc (suc y)) z hx hy hz = absurd (not-suc-le-zero (le-of-suc-le-suc (le-of-suc-le-suc hy)))
 differ-assoc (suc (suc x)) y z hx hy hz = absurd (not-suc-le-zero (le-of-suc-le-suc (le-of-suc-le-suc hx)))
 
@@ -31,7 +33,9 @@ xor-assoc a =
     (λ n ih b c.
     xor-step (bitXor n b) c
     ∙ ap₂ (λ (x y : ℕ). bitXor x (c / 2) * 2 + differ y (c % 2)) (xor-shr n b 1) (xor-odd n b)
-    ∙ ap₂ (λ (x y : ℕ). x * 2 + y) (ih (b / 2) (c / 2)) (differ-assoc (n % 2) (b % 2) (c % 2) (mod-lt n (zero-lt-suc 1)) (mod-lt b (zero-lt-suc 1)) (mod-lt c (zero-lt-suc 1)))
+    ∙ ap₂ (λ (x y : ℕ). x * 2 + y) (ih (b / 2) (c / 2))
+    (differ-assoc (n % 2) (b % 2) (c % 2) (mod-lt n (zero-lt-suc 1)) (mod-lt b (zero-lt-suc 1))
+    (mod-lt c (zero-lt-suc 1)))
     ∙ sym (ap₂ (λ (x y : ℕ). bitXor (n / 2) x * 2 + differ (n % 2) y) (xor-shr b c 1) (xor-odd b c))
     ∙ sym (xor-step n (bitXor b c)))
     a
@@ -45,4 +49,5 @@ xor-swap a b c = xor-assoc a b c ∙ ap (bitXor a) (xor-comm b c) ∙ sym (xor-a
 
 -- two sums, added place by place
 pub xor-four : (a b c d : ℕ) → bitXor (bitXor a b) (bitXor c d) ≡ bitXor (bitXor a c) (bitXor b d)
-xor-four a b c d = sym (xor-assoc (bitXor a b) c d) ∙ ap (λ (x : ℕ). bitXor x d) (xor-swap a b c) ∙ xor-assoc (bitXor a c) b d
+xor-four a b c d = sym (xor-assoc (bitXor a b) c d) ∙ ap (λ (x : ℕ). bitXor x d) (xor-swap a b c)
+    ∙ xor-assoc (bitXor a c) b d

@@ -1,5 +1,5 @@
--- Document 01's table of refusals, and for each answer its number and the values that come back with it. A promise about an answer is one
--- about these. Assumes nothing.
+-- Document 01's table of refusals, and for each answer its number and the values that come back with it. A promise
+-- about an answer is one about these. Assumes nothing.
 use mathlib.Core.Bool.{Bool, true, false}
 use Prim.Native.Nat.{ℕ}
 use lib.IntN.{ℤ, pos, negℤ}
@@ -19,11 +19,10 @@ use Rattle.format.specs.declared.Committed.the-variants as committed
 use Rattle.format.specs.declared.Stored.{Stored}
 use Rattle.format.specs.declared.Stored.the-variants as stored
 
--- ---- the table
--- "-22 | a size or number above is broken"; "-84 | fetch: block number not below a non-zero block count, or neither block has a valid
--- commit; lookup: the matched bytes pass the block"; "-2 | fetch: count above 1,023; lookup: no entry"; "-201 | an entry is bad"; "-202 |
--- the committed log isn't regular"; "-28 | the rounded end passes the block"; "-203 | append only: the room behind the end isn't clean";
--- "-204 | the checksum coincidence"
+-- ---- the table "-22 | a size or number above is broken"; "-84 | fetch: block number not below a non-zero block count,
+-- or neither block has a valid commit; lookup: the matched bytes pass the block"; "-2 | fetch: count above 1,023;
+-- lookup: no entry"; "-201 | an entry is bad"; "-202 | the committed log isn't regular"; "-28 | the rounded end passes
+-- the block"; "-203 | append only: the room behind the end isn't clean"; "-204 | the checksum coincidence"
 abbrev pub refusalNumber : Refusal → ℤ
 refusalNumber refusal.Invalid = negℤ (pos 22)
 refusalNumber refusal.Corrupt = negℤ (pos 84)
@@ -38,7 +37,16 @@ refusalNumber refusal.Coincidence = negℤ (pos 204)
 -- what comes back: "record all zero", but for a count above 1,023 "record and seed as read"
 abbrev pub zeroMdir : LfsMdir
 zeroMdir =
-    record { pair = record { n0 = 0; n1 = 0 }; rev = 0; off = 0; etag = 0; count = 0; erased = false; split = false; tail = record { n0 = 0; n1 = 0 } }
+    record {
+      pair = record { n0 = 0; n1 = 0 };
+      rev = 0;
+      off = 0;
+      etag = 0;
+      count = 0;
+      erased = false;
+      split = false;
+      tail = record { n0 = 0; n1 = 0 };
+    }
 
 abbrev pub refusalMdir : Refusal → LfsMdir
 refusalMdir refusal.Invalid = zeroMdir

@@ -20,7 +20,8 @@ alignDown a m = cond (eqb m 0) (Refused Invalid) (Is (downTo a m))
 unfoldable pub alignUp : ℕ → ℕ → Word
 alignUp a m = alignDown (minus32 (plus32 a m) 1) m
 
--- `lfs_npw2`: the digits of a - 1 (in 32 bits that wrap), and 1 where there are none; so the least n from 1 on with a at most 2 ^ n, and 32 for 0
+-- `lfs_npw2`: the digits of a - 1 (in 32 bits that wrap), and 1 where there are none; so the least n from 1 on with a
+-- at most 2 ^ n, and 32 for 0
 unfoldable pub npw2 : ℕ → ℕ
 npw2 a = max 1 (32 - leadingZeros 32 (minus32 a 1))
 

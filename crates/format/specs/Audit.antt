@@ -1,5 +1,6 @@
--- The audit of a pair's instructions: the text that names each slot with a payload and no deadline, or a deadline and no payload. Either is left where
--- the two went into separate commits. An input is taken, and refused, as the listing takes it. Assumes nothing.
+-- The audit of a pair's instructions: the text that names each slot with a payload and no deadline, or a deadline and
+-- no payload. Either is left where the two went into separate commits. An input is taken, and refused, as the listing
+-- takes it. Assumes nothing.
 use mathlib.Core.Bool.{Bool, true, false, not, cond, _&&_, _||_}
 use mathlib.Core.Option.{Option, none, some}
 use mathlib.Core.List.{List, [], _∷_, _++_}
@@ -68,7 +69,8 @@ tally is (s ∷ D) = cond (is s) 1 0 + tally is D
 
 -- Behind them three lines: how many lack a deadline, how many a payload, and of how many slots.
 unfoldable pub totalLines : ℕ → ℕ → ℕ → List ℕ
-totalLines d p n = numberLine (ascii "payload without deadline ") d ++ (numberLine (ascii "deadline without payload ") p ++ numberLine (ascii "slots ") n)
+totalLines d p n = numberLine (ascii "payload without deadline ") d
+    ++ (numberLine (ascii "deadline without payload ") p ++ numberLine (ascii "slots ") n)
 
 unfoldable pub slotsAudit : List Slot → List ℕ
 slotsAudit D = auditLines 0 D ++ totalLines (tally lacksDeadline D) (tally lacksPayload D) (length D)

@@ -1,5 +1,5 @@
--- Words read from and stored to a slice at an offset. "A read whose start plus length passes the block size is -84", and so is a store,
--- which then alters nothing. Assumes nothing.
+-- Words read from and stored to a slice at an offset. "A read whose start plus length passes the block size is -84",
+-- and so is a store, which then alters nothing. Assumes nothing.
 use mathlib.Core.Bool.{Bool, cond}
 use mathlib.Core.List.{List}
 use Prim.Native.Nat.{ℕ, _+_}

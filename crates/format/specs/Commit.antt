@@ -18,11 +18,12 @@ pub record Item : Type 0 where
   pub tag : ℕ
   pub body : List ℕ
 
--- "The bytes: tags chained as above, data, then a check tag .. and the checksum little-endian." `sum` is the checksum and `prev` the
--- previous tag before them, `ct` the check tag; "padding isn't stored".
+-- "The bytes: tags chained as above, data, then a check tag .. and the checksum little-endian." `sum` is the checksum
+-- and `prev` the previous tag before them, `ct` the check tag; "padding isn't stored".
 unfoldable pub commitBytes : ℕ → ℕ → List Item → ℕ → List ℕ
 commitBytes sum prev [] ct = toBe32 (xor ct prev) ++ toLe32 (crc sum (toBe32 (xor ct prev)))
-commitBytes sum prev (i ∷ is) ct = toBe32 (xor (i .tag) prev) ++ (i .body ++ commitBytes (crc sum (toBe32 (xor (i .tag) prev) ++ i .body)) (i .tag) is ct)
+commitBytes sum prev (i ∷ is) ct = toBe32 (xor (i .tag) prev)
+    ++ (i .body ++ commitBytes (crc sum (toBe32 (xor (i .tag) prev) ++ i .body)) (i .tag) is ct)
 
 -- the checksum that they end with
 unfoldable pub commitSum : ℕ → ℕ → List Item → ℕ → ℕ
@@ -34,7 +35,8 @@ unfoldable pub written : List Item → List Event → List Event
 written [] es = es
 written (i ∷ is) es = ent (i .tag) (i .body) ∷ written is es
 
--- "Entries run against a count c, starting at the record's": each passes the rule of its type, at the count that the ones before it leave.
+-- "Entries run against a count c, starting at the record's": each passes the rule of its type, at the count that the
+-- ones before it leave.
 unfoldable pub itemsHold : ℕ → List Item → Bool
 itemsHold c [] = true
 itemsHold c (i ∷ is) =

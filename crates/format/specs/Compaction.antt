@@ -1,5 +1,6 @@
--- Document 01, The added writer: compaction. It "erases the block that fetch did not answer from to 0xff and writes revision plus one (wrapping)
--- and one commit". Which are accepted, what is stored, and what both calls answer and leave. Assumes nothing.
+-- Document 01, The added writer: compaction. It "erases the block that fetch did not answer from to 0xff and writes
+-- revision plus one (wrapping) and one commit". Which are accepted, what is stored, and what both calls answer and
+-- leave. Assumes nothing.
 use mathlib.Core.Bool.{Bool, true, false, not, cond, _&&_}
 use mathlib.Core.Option.{Option, none, some}
 use mathlib.Core.List.{List, [], _∷_, _++_}
@@ -18,7 +19,8 @@ use Rattle.format.specs.Directory.{classes, Load, Slot, dirOf, moveOf}
 use Rattle.format.specs.Tag.{tagOf}
 use Rattle.format.specs.Commit.{Item, checkTag}
 use Rattle.format.specs.Stores.{entriesLength, coincides, compacting}
-use Rattle.format.specs.Writer.{checkLength, roundedEnd, checkSize, blockAt, isSecond, Images, images, committedAs}
+use Rattle.format.specs.Writer.{checkLength, roundedEnd, checkSize, blockAt, isSecond, Images, images}
+use Rattle.format.specs.Writer.{committedAs}
 use Rattle.format.specs.Writer.{unlimited}
 use Rattle.format.specs.declared.Geometry.{Geometry}
 use Rattle.format.specs.declared.LfsPair.{LfsPair}
@@ -45,7 +47,8 @@ slotItems (suc n) c id s = classItems id (s c) ++ slotItems n (suc c) id s
 -- "for each id create", and what the slot holds
 unfoldable pub dirItems : ℕ → List Slot → List Item
 dirItems id [] = []
-dirItems id (s ∷ D) = (record { tag = tagOf typeCreate id 0; body = [] } ∷ slotItems classes 0 id s) ++ dirItems (suc id) D
+dirItems id (s ∷ D) = (record { tag = tagOf typeCreate id 0; body = [] } ∷ slotItems classes 0 id s)
+    ++ dirItems (suc id) D
 
 -- "then tail unless it is soft and both 0xffffffff"
 abbrev pub isNoTail : Bool → LfsPair → Bool
@@ -53,17 +56,20 @@ isNoTail split p = not split && eqb (p .n0) allOnes && eqb (p .n1) allOnes
 
 abbrev pub tailItems : Bool → LfsPair → List Item
 tailItems split p =
-    cond (isNoTail split p) [] (record { tag = tagOf (cond split typeHardTail typeTail) noSlot 8; body = toLe32 (p .n0) ++ toLe32 (p .n1) } ∷ [])
+    cond (isNoTail split p) []
+    (record { tag = tagOf (cond split typeHardTail typeTail) noSlot 8; body = toLe32 (p .n0) ++ toLe32 (p .n1) }
+    ∷ [])
 
 -- "then move state if found"
 abbrev pub moveItems : Option Load → List Item
 moveItems v = classItems noSlot v
 
 unfoldable pub compactionItems : List Event → List Item
-compactionItems es = dirItems 0 (dirOf es) ++ (tailItems (splitOf false es) (tailOf noTail es) ++ moveItems (moveOf none es))
+compactionItems es = dirItems 0 (dirOf es) ++ (tailItems (splitOf false es) (tailOf noTail es)
+    ++ moveItems (moveOf none es))
 
--- ---- which compactions are accepted
--- Refused, or accepted: whether the second block answers (so that the first is written), the new revision, the entries, their check's size.
+-- ---- which compactions are accepted Refused, or accepted: whether the second block answers (so that the first is
+-- written), the new revision, the entries, their check's size.
 pub data CompactVerdict : Type 0 where
   compactRefused : Refusal → CompactVerdict
   compactAccepted : Bool → ℕ → List Item → ℕ → CompactVerdict
@@ -76,13 +82,15 @@ compactCheckAt is = 4 + entriesLength is
 unfoldable pub placedAnew : ℕ → ℕ → Bool → ℕ → List Item → CompactVerdict
 placedAnew prog block second rev is =
     cond (ltb block (roundedEnd prog (compactCheckAt is))) (compactRefused NoSpace)
-    (cond (coincides (crc allOnes (toLe32 rev)) allOnes is (checkTag (checkSize prog (compactCheckAt is)))) (compactRefused Coincidence)
+    (cond (coincides (crc allOnes (toLe32 rev)) allOnes is (checkTag (checkSize prog (compactCheckAt is))))
+    (compactRefused Coincidence)
     (compactAccepted second rev is (checkSize prog (compactCheckAt is))))
 
 -- "-202 | the committed log isn't regular"; "revision plus one (wrapping)"
 unfoldable pub compactable : ℕ → Bool → List ℕ → List Event → CompactVerdict
 compactable prog second b es =
-    cond (not (Regular es)) (compactRefused Irregular) (placedAnew prog (length b) second (plus32 (le32 b) 1) (compactionItems es))
+    cond (not (Regular es)) (compactRefused Irregular)
+    (placedAnew prog (length b) second (plus32 (le32 b) 1) (compactionItems es))
 
 -- "Compaction: the same without -201 and -203": -22 and fetch's own refusals come from fetch
 abbrev pub compactFetched : ℕ → List ℕ → List ℕ → ℕ → Fetched → CompactVerdict
@@ -100,7 +108,8 @@ compactStores is = 1 + compactCheckAt is + checkLength
 
 -- the block o after the first n of them
 abbrev pub compactedTo : List ℕ → ℕ → List Item → ℕ → ℕ → List ℕ
-compactedTo o rev is size n = compacting o rev is (checkTag size) (length o - (compactCheckAt is + checkLength)) (min n (compactStores is))
+compactedTo o rev is size n = compacting o rev is (checkTag size) (length o - (compactCheckAt is + checkLength))
+    (min n (compactStores is))
 
 abbrev pub compactImagesAfter : ℕ → List ℕ → List ℕ → CompactVerdict → Images
 compactImagesAfter n b0 b1 (compactRefused r) = images b0 b1

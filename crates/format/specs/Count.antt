@@ -17,7 +17,8 @@ secondFirst rev0 rev1 = ltZ (pos 0) (scmp rev1 rev0)
 abbrev pub countNamed : ℕ → ℕ → ℕ
 countNamed count id = max count (id + 1)
 
--- "Splice (type1 0x400): count plus splice, raised to 0 if below, then modulo 65,536." (`negsuc n` is -(n + 1), and `-` stops at 0.)
+-- "Splice (type1 0x400): count plus splice, raised to 0 if below, then modulo 65,536." (`negsuc n` is -(n + 1), and `-`
+-- stops at 0.)
 abbrev pub countSpliced : ℕ → ℤ → ℕ
 countSpliced count (pos n) = (count + n) % 65_536
 countSpliced count (negsuc n) = (count - suc n) % 65_536

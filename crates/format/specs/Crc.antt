@@ -1,10 +1,11 @@
--- Document 01, Tag: the checksum, "low half of a byte first, no final inversion; its definition is bit by bit, reflected polynomial
--- 0xedb88320". The table of sixteen words is tied to it in crate `crc`. Assumes nothing.
+-- Document 01, Tag: the checksum, "low half of a byte first, no final inversion; its definition is bit by bit,
+-- reflected polynomial 0xedb88320". The table of sixteen words is tied to it in crate `crc`. Assumes nothing.
 use mathlib.Core.List.{List, [], _∷_}
 use Prim.Native.Nat.{ℕ, zero, suc, _*_, _/_, _%_, _^_}
 use lib.Bits.{bitXor}
 
--- x^32 + x^26 + x^23 + x^22 + x^16 + x^12 + x^11 + x^10 + x^8 + x^7 + x^5 + x^4 + x^2 + x + 1, the highest power in the lowest bit
+-- x^32 + x^26 + x^23 + x^22 + x^16 + x^12 + x^11 + x^10 + x^8 + x^7 + x^5 + x^4 + x^2 + x + 1, the highest power in the
+-- lowest bit
 abbrev pub polynomial : ℕ
 polynomial = 0xedb8_8320
 
@@ -16,7 +17,8 @@ unfoldable pub crcBits : ℕ → ℕ → ℕ
 crcBits zero c = c
 crcBits (suc n) c = crcBits n (crcBit c)
 
--- A byte is added to the register's low end, and eight bits pass. A number that is no byte counts by its low eight bits.
+-- A byte is added to the register's low end, and eight bits pass. A number that is no byte counts by its low eight
+-- bits.
 unfoldable pub crcByte : ℕ → ℕ → ℕ
 crcByte c b = crcBits 8 (bitXor c (b % 2 ^ 8))
 

@@ -1,5 +1,5 @@
--- Document 01: "a simple directory machine: slots inserted, removed, attributes set". The directory of a log is what its entries make of an empty
--- one. Assumes nothing.
+-- Document 01: "a simple directory machine: slots inserted, removed, attributes set". The directory of a log is what
+-- its entries make of an empty one. Assumes nothing.
 use mathlib.Core.Bool.{Bool, cond}
 use mathlib.Core.Option.{Option, none, some}
 use mathlib.Core.List.{List, [], _∷_, _++_, reverse}
@@ -29,7 +29,8 @@ empty c = none
 unfoldable pub upd : Slot → ℕ → Option Load → Slot
 upd s c v k = cond (eqb k c) v (s k)
 
--- what an entry does: make a slot, remove one, put something (or, for a removal, nothing) under a slot's class; or none of these
+-- what an entry does: make a slot, remove one, put something (or, for a removal, nothing) under a slot's class; or none
+-- of these
 pub data Act : Type 0 where
   mk : ℕ → Act
   rm : ℕ → Act

@@ -1,5 +1,5 @@
--- Document 01, The added writer: the entry records of a commit over their data buffer, what each makes, and which is the first bad one.
--- Assumes nothing.
+-- Document 01, The added writer: the entry records of a commit over their data buffer, what each makes, and which is
+-- the first bad one. Assumes nothing.
 use mathlib.Core.Bool.{Bool, false, cond, _&&_, _||_}
 use mathlib.Core.List.{List, [], _∷_, map}
 use Prim.Native.Nat.{ℕ, suc, _+_}
@@ -41,7 +41,8 @@ pub data Judged : Type 0 where
   bad : ℕ → Judged
   good : ℕ → Judged
 
--- "Entries run against a count c": es from the index i and the count c on. "-201 | an entry is bad | index from 0 of the first bad one"
+-- "Entries run against a count c": es from the index i and the count c on. "-201 | an entry is bad | index from 0 of
+-- the first bad one"
 unfoldable pub judge : List ℕ → ℕ → ℕ → List Entry → Judged
 judge dat i c [] = good c
 judge dat i c (e ∷ es) = cond (entryHolds dat c e) (judge dat (suc i) (countAfter (entryRule e) c) es) (bad i)

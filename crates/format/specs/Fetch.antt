@@ -1,5 +1,5 @@
--- Document 01, Fetch: the answer of `lfs_dir_fetch`, a function of the two blocks' view, their numbers and, for the erased mark, the answering
--- block's bytes. Assumes nothing.
+-- Document 01, Fetch: the answer of `lfs_dir_fetch`, a function of the two blocks' view, their numbers and, for the
+-- erased mark, the answering block's bytes. Assumes nothing.
 use mathlib.Core.Bool.{Bool, true, false, not, cond, _&&_, _||_}
 use mathlib.Core.List.{List}
 use Prim.Native.Nat.{ℕ, _+_, _%_}
@@ -32,18 +32,20 @@ pairFits g length0 length1 n0 n1 =
 unfoldable pub tooHigh : ℕ → ℕ → Bool
 tooHigh count n = not (eqb count 0) && leb count n
 
--- "the last one's checksum from 0xffffffff over that many bytes from the end fits. Ours: a forward length past the block gives no."
+-- "the last one's checksum from 0xffffffff over that many bytes from the end fits. Ours: a forward length past the
+-- block gives no."
 abbrev pub forwardFits : List ℕ → ℕ → Forward → Bool
 forwardFits b end noForward = false
 forwardFits b end (forward n sum) = leb (end + n) (length b) && eqb (crc allOnes (take n (drop end b))) sum
 
--- "Erased is yes exactly if the walk stopped on an invalid tag straight after a commit, the end is a multiple of the program size, a forward
--- check was seen in ANY commit so far, and the last one's checksum .. fits."
+-- "Erased is yes exactly if the walk stopped on an invalid tag straight after a commit, the end is a multiple of the
+-- program size, a forward check was seen in ANY commit so far, and the last one's checksum .. fits."
 unfoldable pub erasedOf : ℕ → List ℕ → List Event → Bool
 erasedOf prog b es =
     stoppedStraight false (walk b) && eqb (logEnd es % prog) 0 && forwardFits b (logEnd es) (forwardOf noForward es)
 
--- The record of the block n, whose bytes are b, with the revision and the log of its view; m is the other block's number.
+-- The record of the block n, whose bytes are b, with the revision and the log of its view; m is the other block's
+-- number.
 unfoldable pub mdirOf : ℕ → ℕ → ℕ → List ℕ → ℕ → List Event → LfsMdir
 mdirOf prog n m b rev es =
     record {

@@ -59,12 +59,13 @@ typeHardTail = 0x601
 abbrev pub typeMove : ℕ
 typeMove = 0x7ff
 
--- The id of what belongs to no slot: "Tail: id 1,023 .. Move state: id 1,023", check tags, and the root of `lfs_dir_getinfo`.
+-- The id of what belongs to no slot: "Tail: id 1,023 .. Move state: id 1,023", check tags, and the root of
+-- `lfs_dir_getinfo`.
 abbrev pub noSlot : ℕ
 noSlot = 1023
 
--- What fetch tells apart. Names, splices and tails go by type1, so every 0x0xx is a name; a check goes by type2, 0x500 to 0x57f;
--- the forward check is exactly 0x5ff.
+-- What fetch tells apart. Names, splices and tails go by type1, so every 0x0xx is a name; a check goes by type2, 0x500
+-- to 0x57f; the forward check is exactly 0x5ff.
 abbrev pub isName : ℕ → Bool
 isName t = eqb (tagType1 t) typeName
 

@@ -1,5 +1,6 @@
--- Document 01, Cases: the text of the listing program, byte by byte. "A listing program takes both images on standard input (block size is half
--- the length, program size 16, numbers 0 and 1, block count 0, seed 0; an odd length or one above 65,536 is -22)." Assumes nothing.
+-- Document 01, Cases: the text of the listing program, byte by byte. "A listing program takes both images on standard
+-- input (block size is half the length, program size 16, numbers 0 and 1, block count 0, seed 0; an odd length or one
+-- above 65,536 is -22)." Assumes nothing.
 use mathlib.Core.Bool.{Bool, not, cond, _&&_, _||_}
 use mathlib.Core.Option.{Option, none, some}
 use mathlib.Core.List.{List, [], _∷_, _++_}
@@ -78,7 +79,8 @@ abbrev pub tailKind : Bool → List ℕ
 tailKind split = cond split (ascii "tail hard ") (ascii "tail soft ")
 
 unfoldable pub tailLine : Bool → LfsPair → List ℕ
-tailLine split p = cond (isNoTail split p) (ascii "tail none\n") (tailKind split ++ (decimal (p .n0) ++ numberLine (ascii " ") (p .n1)))
+tailLine split p = cond (isNoTail split p) (ascii "tail none\n")
+    (tailKind split ++ (decimal (p .n0) ++ numberLine (ascii " ") (p .n1)))
 
 unfoldable pub erasedLine : Bool → List ℕ
 erasedLine erased = cond erased (ascii "erased yes\n") (ascii "erased no\n")
@@ -92,8 +94,8 @@ recordLines m =
     ++ (numberLine (ascii "count ") (m .count)
     ++ (tailLine (m .split) (m .tail) ++ erasedLine (m .erased)))))
 
--- ---- the directory
--- "Slot: id, name type, name, struct type, struct length; a missing part prints `-` per field." Each field stands behind a space.
+-- ---- the directory "Slot: id, name type, name, struct type, struct length; a missing part prints `-` per field." Each
+-- field stands behind a space.
 unfoldable pub nameFields : Option Load → List ℕ
 nameFields none = ascii " - -"
 nameFields (some v) = ascii " " ++ (hexType (v .type) ++ (ascii " " ++ nameBytes (v .bytes)))
@@ -112,7 +114,8 @@ attrData (b ∷ bs) = hexBytes (b ∷ bs)
 
 unfoldable pub attrLine : ℕ → Option Load → List ℕ
 attrLine id none = []
-attrLine id (some v) = ascii "attr " ++ (decimal id ++ (ascii " " ++ (hexType (v .type) ++ (ascii " " ++ (attrData (v .bytes) ++ ascii "\n")))))
+attrLine id (some v) = ascii "attr "
+    ++ (decimal id ++ (ascii " " ++ (hexType (v .type) ++ (ascii " " ++ (attrData (v .bytes) ++ ascii "\n")))))
 
 -- what a slot holds under n classes from c on
 unfoldable pub attrLines : ℕ → ℕ → ℕ → Slot → List ℕ
@@ -141,8 +144,8 @@ dirLines b = cond (Regular (log b)) (slotLines 0 (dirOf (log b))) (refusedLine I
 unfoldable pub blockText : LfsMdir → List ℕ → List ℕ
 blockText m b = recordLines m ++ dirLines b
 
--- what fetch answers for an input: "block size is half the length, program size 16, numbers 0 and 1, block count 0, seed 0; an odd length or one
--- above 65,536 is -22"
+-- what fetch answers for an input: "block size is half the length, program size 16, numbers 0 and 1, block count 0,
+-- seed 0; an odd length or one above 65,536 is -22"
 abbrev pub inputGeometry : ℕ → Geometry
 inputGeometry size = record { «block_size» = size; «prog_size» = 16 }
 
@@ -154,7 +157,8 @@ fetchInput input =
 -- the text of what fetch answered: a refusal's line, or what `shows` says of the record and of the block that answers
 abbrev pub fetchedText : (LfsMdir → List ℕ → List ℕ) → List ℕ → Fetched → List ℕ
 fetchedText shows input (Refused r) = refusedLine r
-fetchedText shows input (Found m s) = shows m (blockAt (isSecond 0 m) (take (length input / 2) input) (drop (length input / 2) input))
+fetchedText shows input (Found m s) =
+    shows m (blockAt (isSecond 0 m) (take (length input / 2) input) (drop (length input / 2) input))
 
 abbrev pub listingOf : List ℕ → List ℕ
 listingOf input = fetchedText blockText input (fetchInput input)

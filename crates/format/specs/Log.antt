@@ -11,8 +11,8 @@ abbrev pub keptBefore : Event → List Event → List Event
 keptBefore e [] = []
 keptBefore e (x ∷ l) = e ∷ x ∷ l
 
--- What is committed: each check, and each entry that has a check behind it. "Then the record takes count, tail, split, end and end tag":
--- what stands behind the last check isn't taken.
+-- What is committed: each check, and each entry that has a check behind it. "Then the record takes count, tail, split,
+-- end and end tag": what stands behind the last check isn't taken.
 unfoldable pub committed : List Event → List Event
 committed [] = []
 committed (chk t c ∷ es) = chk t c ∷ committed es
@@ -47,7 +47,8 @@ logEnd es = 4 + span es
 abbrev pub logEndTag : List Event → ℕ
 logEndTag es = tagAfter allOnes es
 
--- "the walk stopped on an invalid tag straight after a commit": said of a whole walk; `after` tells whether the event before was a check.
+-- "the walk stopped on an invalid tag straight after a commit": said of a whole walk; `after` tells whether the event
+-- before was a check.
 unfoldable pub stoppedStraight : Bool → List Event → Bool
 stoppedStraight after [] = false
 stoppedStraight after (ent t d ∷ es) = stoppedStraight false es

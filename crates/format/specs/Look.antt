@@ -1,5 +1,5 @@
--- Document 01, Lookup: the search in the tags met on the way back. "Key and running difference are 32-bit words that wrap." A pending move
--- only lowers the difference that the search starts with. Assumes nothing.
+-- Document 01, Lookup: the search in the tags met on the way back. "Key and running difference are 32-bit words that
+-- wrap." A pending move only lowers the difference that the search starts with. Assumes nothing.
 use mathlib.Core.Bool.{Bool, cond, _&&_}
 use mathlib.Core.List.{List, [], _∷_}
 use Prim.Native.Nat.{ℕ, suc, _*_, _%_, _^_}
@@ -11,13 +11,14 @@ use Rattle.format.specs.Tag.{tagSplice, tagId, tagDelete, tagOf}
 use Rattle.format.specs.Kind.{isSplice, typeCreate}
 use Rattle.format.specs.Back.{Met}
 
--- No entry; or the tag that matched, where it stands, and the difference there. "The answer is the tag plus the difference."
+-- No entry; or the tag that matched, where it stands, and the difference there. "The answer is the tag plus the
+-- difference."
 pub data Found : Type 0 where
   noEntry : Found
   found : ℕ → ℕ → ℕ → Found
 
--- The masks of the directory lookups: "newest name (type under 0x700), struct (under 0x700)", both with the id; "0x7ff for each attribute
--- type", with the id; "the move state (0x7ff, no ids)".
+-- The masks of the directory lookups: "newest name (type under 0x700), struct (under 0x700)", both with the id; "0x7ff
+-- for each attribute type", with the id; "the move state (0x7ff, no ids)".
 abbrev pub maskType1 : ℕ
 maskType1 = 0x700f_fc00
 
@@ -44,8 +45,8 @@ createAt key = tagOf typeCreate (tagId key) 0
 abbrev pub diffAfter : Bool → ℕ → ℕ → ℕ → ℕ
 diffAfter ids t key diff = cond (splicedAt ids t (minus32 key diff)) (plus32 diff (asIds (tagSplice t))) diff
 
--- "each splice at or below the adjusted id answers -2 if it is exactly create at that id with size 0, else adds its splice, as ids, to the
--- difference. A match that is a removal answers -2."
+-- "each splice at or below the adjusted id answers -2 if it is exactly create at that id with size 0, else adds its
+-- splice, as ids, to the difference. A match that is a removal answers -2."
 unfoldable pub wlook : Bool → ℕ → ℕ → ℕ → List Met → Found
 wlook ids mask key diff [] = noEntry
 wlook ids mask key diff (m ∷ ms) =

@@ -1,5 +1,5 @@
--- Document 01, Lookup: the answers of `lfs_dir_getslice`, `lfs_dir_get`, `lfs_dir_getinfo` and `lfs_dir_getgstate`, and what they leave in a
--- buffer, an info or a state. Assumes nothing.
+-- Document 01, Lookup: the answers of `lfs_dir_getslice`, `lfs_dir_get`, `lfs_dir_getinfo` and `lfs_dir_getgstate`, and
+-- what they leave in a buffer, an info or a state. Assumes nothing.
 use mathlib.Core.Bool.{Bool, not, cond, _&&_}
 use mathlib.Core.List.{List, _∷_, _++_}
 use Prim.Native.Nat.{ℕ, _+_, _-_, _%_, _^_, min}
@@ -7,7 +7,8 @@ use lib.ListN.{length, take, drop, replicate}
 use lib.Dec.{leb, ltb, eqb}
 use Rattle.format.specs.Word.{le32, plus32, minus32}
 use Rattle.format.specs.Tag.{tagType3, tagId, tagSize, tagOf}
-use Rattle.format.specs.Kind.{typeDirectory, typeDirStruct, typeInlineStruct, typeCtzStruct, typeName, typeMove, noSlot}
+use Rattle.format.specs.Kind.{typeDirectory, typeDirStruct, typeInlineStruct, typeCtzStruct, typeName, typeMove}
+use Rattle.format.specs.Kind.{noSlot}
 use Rattle.format.specs.Record.{pairIn}
 use Rattle.format.specs.Pair.{pairSync}
 use Rattle.format.specs.Gstate.{gstateHasMoveHere, gstateXor}
@@ -25,11 +26,12 @@ use Rattle.format.specs.declared.Altered.{Altered}
 use Rattle.format.specs.declared.Altered.the-variants as altered
 use Rattle.format.specs.declared.Informed.{Informed}
 
--- ---- where a lookup looks
--- "a record whose pair isn't the two given numbers in either order or whose end passes the block" is -22, as a broken size or number is
+-- ---- where a lookup looks "a record whose pair isn't the two given numbers in either order or whose end passes the
+-- block" is -22, as a broken size or number is
 unfoldable pub recordFits : Geometry → ℕ → ℕ → ℕ → ℕ → LfsMdir → Bool
 recordFits g length0 length1 n0 n1 dir =
-    pairFits g length0 length1 n0 n1 && pairSync (dir .pair) (record { n0 = n0; n1 = n1 }) && leb (dir .off) (g .«block_size»)
+    pairFits g length0 length1 n0 n1 && pairSync (dir .pair) (record { n0 = n0; n1 = n1 })
+    && leb (dir .off) (g .«block_size»)
 
 -- the record's first number is the block that it was read from
 abbrev pub blockOf : List ℕ → List ℕ → ℕ → LfsMdir → List ℕ
@@ -44,17 +46,19 @@ hasIds mask = not (eqb (tagId mask) 0)
 abbrev pub searchedFrom : List ℕ → LfsMdir → ℕ → ℕ → ℕ → Found
 searchedFrom b dir mask key diff = wlook (hasIds mask) mask key diff (back b (dir .off) (dir .etag))
 
--- "a pending move (global tag's type1 not 0) whose pair shares any block answers -2 at its own id and lowers the difference by one id above it"
+-- "a pending move (global tag's type1 not 0) whose pair shares any block answers -2 at its own id and lowers the
+-- difference by one id above it"
 unfoldable pub searched : List ℕ → LfsMdir → LfsGstate → ℕ → ℕ → Found
 searched b dir gdisk mask key =
     cond (hasIds mask && gstateHasMoveHere gdisk (dir .pair))
     (cond (eqb (tagId (gdisk .tag)) (tagId key)) noEntry
-    (cond (ltb (tagId (gdisk .tag)) (tagId key)) (searchedFrom b dir mask key (minus32 0 (2 ^ 10))) (searchedFrom b dir mask key 0)))
+    (cond (ltb (tagId (gdisk .tag)) (tagId key)) (searchedFrom b dir mask key (minus32 0 (2 ^ 10)))
+    (searchedFrom b dir mask key 0)))
     (searchedFrom b dir mask key 0)
 
--- ---- the slice of what was found: "min(size, buffer length) bytes are read from the entry's first data byte plus the offset, also where that
--- runs into the next entry; the rest of the buffer is zeroed. The answer is the tag plus the difference." "-84 | lookup: the matched bytes
--- pass the block"
+-- ---- the slice of what was found: "min(size, buffer length) bytes are read from the entry's first data byte plus the
+-- offset, also where that runs into the next entry; the rest of the buffer is zeroed. The answer is the tag plus the
+-- difference." "-84 | lookup: the matched bytes pass the block"
 abbrev pub sliceStart : ℕ → ℕ → ℕ
 sliceStart tagOff offset = tagOff + 4 + offset
 
@@ -70,7 +74,8 @@ abbrev pub sliceBuffer : List ℕ → ℕ → List ℕ → Found → List ℕ
 sliceBuffer b offset buffer noEntry = buffer
 sliceBuffer b offset buffer (found t tagOff diff) =
     cond (leb (sliceEnd t tagOff offset (length buffer)) (length b))
-    (take (min (tagSize t) (length buffer)) (drop (sliceStart tagOff offset) b) ++ replicate (length buffer - tagSize t) 0)
+    (take (min (tagSize t) (length buffer)) (drop (sliceStart tagOff offset) b)
+    ++ replicate (length buffer - tagSize t) 0)
     buffer
 
 -- ---- `lfs_dir_getslice`
@@ -79,7 +84,8 @@ abbrev pub longestBuffer : ℕ
 longestBuffer = 65_536
 
 unfoldable pub getsliceFits : Geometry → List ℕ → List ℕ → ℕ → ℕ → LfsMdir → List ℕ → Bool
-getsliceFits g b0 b1 n0 n1 dir buffer = recordFits g (length b0) (length b1) n0 n1 dir && leb (length buffer) longestBuffer
+getsliceFits g b0 b1 n0 n1 dir buffer = recordFits g (length b0) (length b1) n0 n1 dir
+    && leb (length buffer) longestBuffer
 
 -- "A lookup tests -22 first .. then it walks".
 unfoldable pub getsliceOf : Geometry → List ℕ → List ℕ → ℕ → ℕ → LfsMdir → LfsGstate → ℕ → ℕ → ℕ → List ℕ → Got
@@ -94,17 +100,20 @@ getsliceBuffer g b0 b1 n0 n1 dir gdisk mask key offset buffer =
     (sliceBuffer (blockOf b0 b1 n0 dir) offset buffer (searched (blockOf b0 b1 n0 dir) dir gdisk mask key))
     buffer
 
--- ---- `lfs_dir_get`: the slice from 0, as long as the key's size field says. A shorter buffer is -22; only so many bytes are written.
+-- ---- `lfs_dir_get`: the slice from 0, as long as the key's size field says. A shorter buffer is -22; only so many
+-- bytes are written.
 unfoldable pub getFits : ℕ → List ℕ → Bool
 getFits key buffer = leb (tagSize key) (length buffer) && leb (length buffer) longestBuffer
 
 unfoldable pub getOf : Geometry → List ℕ → List ℕ → ℕ → ℕ → LfsMdir → LfsGstate → ℕ → ℕ → List ℕ → Got
 getOf g b0 b1 n0 n1 dir gdisk mask key buffer =
-    cond (getFits key buffer) (getsliceOf g b0 b1 n0 n1 dir gdisk mask key 0 (take (tagSize key) buffer)) (got.Refused Invalid)
+    cond (getFits key buffer) (getsliceOf g b0 b1 n0 n1 dir gdisk mask key 0 (take (tagSize key) buffer))
+    (got.Refused Invalid)
 
 unfoldable pub getBuffer : Geometry → List ℕ → List ℕ → ℕ → ℕ → LfsMdir → LfsGstate → ℕ → ℕ → List ℕ → List ℕ
 getBuffer g b0 b1 n0 n1 dir gdisk mask key buffer =
-    cond (getFits key buffer) (getsliceBuffer g b0 b1 n0 n1 dir gdisk mask key 0 (take (tagSize key) buffer) ++ drop (tagSize key) buffer) buffer
+    cond (getFits key buffer) (getsliceBuffer g b0 b1 n0 n1 dir gdisk mask key 0 (take (tagSize key) buffer)
+    ++ drop (tagSize key) buffer) buffer
 
 -- a buffer of n zeros, as the calls below lend
 abbrev pub blankBuffer : ℕ → List ℕ
@@ -123,12 +132,14 @@ gstateIn d = record { tag = le32 d; pair = pairIn (drop 4 d) }
 
 abbrev pub moveAnswer : List ℕ → Found → Altered
 moveAnswer b noEntry = altered.Done
-moveAnswer b (found t tagOff diff) = cond (leb (sliceEnd t tagOff 0 12) (length b)) altered.Done (altered.Refused Corrupt)
+moveAnswer b (found t tagOff diff) = cond (leb (sliceEnd t tagOff 0 12) (length b)) altered.Done
+    (altered.Refused Corrupt)
 
 abbrev pub moveState : List ℕ → LfsGstate → Found → LfsGstate
 moveState b gstate noEntry = gstate
 moveState b gstate (found t tagOff diff) =
-    cond (leb (sliceEnd t tagOff 0 12) (length b)) (gstateXor gstate (gstateIn (sliceBuffer b 0 (blankBuffer 12) (found t tagOff diff)))) gstate
+    cond (leb (sliceEnd t tagOff 0 12) (length b))
+    (gstateXor gstate (gstateIn (sliceBuffer b 0 (blankBuffer 12) (found t tagOff diff)))) gstate
 
 unfoldable pub getgstateOf : Geometry → List ℕ → List ℕ → ℕ → ℕ → LfsMdir → LfsGstate → Altered
 getgstateOf g b0 b1 n0 n1 dir gdisk =
@@ -169,18 +180,29 @@ infoRefused r = record { answer = altered.Refused r; info = record { kind = 0; s
 
 -- "id 1,023 is the root, named "/"."
 abbrev pub infoRoot : Informed
-infoRoot = record { answer = altered.Done; info = record { kind = typeDirectory; size = 0; name = 0x2f ∷ blankBuffer 255 } }
+infoRoot = record {
+  answer = altered.Done;
+  info = record { kind = typeDirectory; size = 0; name = 0x2f ∷ blankBuffer 255 };
+}
 
 -- "Ours: size is 0 unless the struct is inline or CTZ": a CTZ struct is its head and its size, little-endian
 abbrev pub infoSize : ℕ → List ℕ → ℕ
-infoSize t struct = cond (eqb (tagType3 t) typeCtzStruct) (le32 (drop 4 struct)) (cond (eqb (tagType3 t) typeInlineStruct) (tagSize t) 0)
+infoSize t struct = cond (eqb (tagType3 t) typeCtzStruct) (le32 (drop 4 struct))
+    (cond (eqb (tagType3 t) typeInlineStruct) (tagSize t) 0)
 
 -- from the answers and the buffers of the two lookups; "name bytes not read are 0"
 abbrev pub infoFrom : Got → List ℕ → Got → List ℕ → Informed
 infoFrom (got.Refused r) name u struct = infoRefused r
 infoFrom (got.Found t) name (got.Refused r) struct = infoRefused r
 infoFrom (got.Found t) name (got.Found u) struct =
-    record { answer = altered.Done; info = record { kind = tagType3 t % 2 ^ 8; size = infoSize u struct; name = name ++ blankBuffer (256 - length name) } }
+    record {
+      answer = altered.Done;
+      info = record {
+        kind = tagType3 t % 2 ^ 8;
+        size = infoSize u struct;
+        name = name ++ blankBuffer (256 - length name);
+      };
+    }
 
 -- a lookup at offset 0 into a blank buffer of n bytes: its answer, and the buffer
 abbrev pub readAnswer : List ℕ → ℕ → Found → Got
@@ -191,7 +213,8 @@ readBuffer b n f = sliceBuffer b 0 (blankBuffer n) f
 
 abbrev pub infoOf : List ℕ → ℕ → Found → Found → Informed
 infoOf b nameMax name struct =
-    infoFrom (readAnswer b (nameMax + 1) name) (readBuffer b (nameMax + 1) name) (readAnswer b 8 struct) (readBuffer b 8 struct)
+    infoFrom (readAnswer b (nameMax + 1) name) (readBuffer b (nameMax + 1) name) (readAnswer b 8 struct)
+    (readBuffer b 8 struct)
 
 unfoldable pub getinfoOf : Geometry → List ℕ → List ℕ → ℕ → ℕ → LfsMdir → LfsGstate → ℕ → ℕ → Informed
 getinfoOf g b0 b1 n0 n1 dir gdisk nameMax id =

@@ -1,5 +1,5 @@
--- Document 01: "lookup with these masks equals a simple directory machine: slots inserted, removed, attributes set". The machine, with tail and
--- move state, and what the directory lookups give of it. Assumes nothing.
+-- Document 01: "lookup with these masks equals a simple directory machine: slots inserted, removed, attributes set".
+-- The machine, with tail and move state, and what the directory lookups give of it. Assumes nothing.
 use mathlib.Core.Bool.{Bool, true, false, _&&_}
 use mathlib.Core.Option.{Option, none, some}
 use mathlib.Core.List.{List, _++_}
@@ -31,11 +31,16 @@ machineOf es = record { slots = dirOf es; split = splitOf false es; tail = tailO
 
 -- the machine after more entries
 abbrev pub ran : Machine → List Event → Machine
-ran M es = record { slots = applyAll (M .slots) (acts es); split = splitOf (M .split) es; tail = tailOf (M .tail) es; move = moveOf (M .move) es }
+ran M es = record {
+  slots = applyAll (M .slots) (acts es);
+  split = splitOf (M .split) es;
+  tail = tailOf (M .tail) es;
+  move = moveOf (M .move) es;
+}
 
--- ---- the directory lookups
--- "newest name (type under 0x700), struct (under 0x700) .. These, with 0x7ff for each attribute type, and the move state (0x7ff, no ids) are the
--- directory lookups": of the slot with an id its name, its struct, its user attribute 0x300 + u; and the move state.
+-- ---- the directory lookups "newest name (type under 0x700), struct (under 0x700) .. These, with 0x7ff for each
+-- attribute type, and the move state (0x7ff, no ids) are the directory lookups": of the slot with an id its name, its
+-- struct, its user attribute 0x300 + u; and the move state.
 pub data Ask : Type 0 where
   name : ℕ → Ask
   struct : ℕ → Ask

@@ -1,5 +1,5 @@
--- Document 01, Fetch: what a log says, each part as a fold over its events. "Then the record takes count, tail, split, end and end tag; the seed
--- takes the checksum's four bytes" (end and end tag stand in Log). Assumes nothing.
+-- Document 01, Fetch: what a log says, each part as a fold over its events. "Then the record takes count, tail, split,
+-- end and end tag; the seed takes the checksum's four bytes" (end and end tag stand in Log). Assumes nothing.
 use mathlib.Core.Bool.{Bool, cond}
 use mathlib.Core.List.{List, [], _∷_}
 use Prim.Native.Nat.{ℕ, _%_}
@@ -13,7 +13,8 @@ use Rattle.format.specs.Walk.{Event, ent, chk, inv}
 use Rattle.format.specs.Count.{countNamed, countSpliced}
 use Rattle.format.specs.declared.LfsPair.{LfsPair}
 
--- "Name: count becomes at least id + 1. Splice (type1 0x400): count plus splice, raised to 0 if below, then modulo 65,536."
+-- "Name: count becomes at least id + 1. Splice (type1 0x400): count plus splice, raised to 0 if below, then modulo
+-- 65,536."
 unfoldable pub counted : ℕ → ℕ → ℕ
 counted c t = cond (isName t) (countNamed c (tagId t)) (cond (isSplice t) (countSpliced c (tagSplice t)) c)
 

@@ -4,7 +4,9 @@ use mathlib.Core.List.{List, [], _∷_}
 use Prim.Native.Nat.{ℕ, suc, _+_, _-_}
 use lib.Dec.{leb, ltb, eqb}
 use Rattle.format.specs.Tag.{tagType3, tagId, tagSize, removalSize}
-use Rattle.format.specs.Kind.{typeFile, typeDirectory, typeSuperblock, typeDirStruct, typeInlineStruct, typeCtzStruct, typeUserAttr, typeCreate, typeDelete, typeForward, typeTail, typeHardTail, typeMove, noSlot}
+use Rattle.format.specs.Kind.{typeFile, typeDirectory, typeSuperblock, typeDirStruct, typeInlineStruct}
+use Rattle.format.specs.Kind.{typeCtzStruct, typeUserAttr, typeCreate, typeDelete, typeForward, typeTail}
+use Rattle.format.specs.Kind.{typeHardTail, typeMove, noSlot}
 use Rattle.format.specs.Walk.{Event, ent, chk, inv}
 
 -- Which rule a type falls under.
@@ -28,9 +30,10 @@ ruleOf logged type =
 abbrev pub between : ℕ → ℕ → ℕ → Bool
 between low high n = leb low n && leb n high
 
--- "Create: id at most c, c at most 1,022, length 0. Delete: id below c, length 0. Name ..: length 1 to 1,022. Struct 0x200 and 0x202: 8;
--- 0x201: 0 to 1,022. User attribute: 0 to 1,022, or 1,023 for removal with no data. These last three need id below c. Tail: id 1,023,
--- length 8. Move state: id 1,023, length 12. Anything else is bad" and "forward checks (id 1,023, length 8)".
+-- "Create: id at most c, c at most 1,022, length 0. Delete: id below c, length 0. Name ..: length 1 to 1,022. Struct
+-- 0x200 and 0x202: 8; 0x201: 0 to 1,022. User attribute: 0 to 1,022, or 1,023 for removal with no data. These last
+-- three need id below c. Tail: id 1,023, length 8. Move state: id 1,023, length 12. Anything else is bad" and "forward
+-- checks (id 1,023, length 8)".
 unfoldable pub ruleHolds : Rule → ℕ → ℕ → ℕ → Bool
 ruleHolds create c id size = leb id c && leb c 1_022 && eqb size 0
 ruleHolds delete c id size = ltb id c && eqb size 0
@@ -59,7 +62,8 @@ countAfter bad c = c
 -- The events of a log pass the rules from a count on, and "every check tag's size is 4 to 1,022".
 unfoldable pub regularFrom : ℕ → List Event → Bool
 regularFrom c [] = true
-regularFrom c (ent t d ∷ es) = ruleHolds (ruleOf true (tagType3 t)) c (tagId t) (tagSize t) && regularFrom (countAfter (ruleOf true (tagType3 t)) c) es
+regularFrom c (ent t d ∷ es) = ruleHolds (ruleOf true (tagType3 t)) c (tagId t) (tagSize t)
+    && regularFrom (countAfter (ruleOf true (tagType3 t)) c) es
 regularFrom c (chk t x ∷ es) = between 4 1_022 (tagSize t) && regularFrom c es
 regularFrom c (inv ∷ es) = regularFrom c es
 

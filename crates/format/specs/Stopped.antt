@@ -1,7 +1,7 @@
--- DEMAND 3: "Stop an accepted commit or compaction after any number of its stores: fetch gives the finished directory if
--- the finished bytes are there, else the old one; only the old record's erased mark may differ." What that says of a pair,
--- of its images after a stop, and of both calls. Fetch is any fetch: a restart asks with a seed of its own, and with the
--- block count that it knows. Assumes nothing.
+-- DEMAND 3: "Stop an accepted commit or compaction after any number of its stores: fetch gives the finished directory
+-- if the finished bytes are there, else the old one; only the old record's erased mark may differ." What that says of a
+-- pair, of its images after a stop, and of both calls. Fetch is any fetch: a restart asks with a seed of its own, and
+-- with the block count that it knows. Assumes nothing.
 use mathlib.Core.Path.{_≡_}
 use mathlib.Core.Logic.{_⊎_}
 use mathlib.Core.Bool.{Bool, true, false, _||_}
@@ -22,7 +22,8 @@ use Rattle.format.specs.declared.LfsMdir.{LfsMdir}
 use Rattle.format.specs.declared.LfsGstate.{LfsGstate}
 use Rattle.format.specs.declared.Entry.{Entry}
 use Rattle.format.specs.declared.Fetched.the-variants.{Found}
-use Rattle.format.specs.Machine.{Machine, machineOf, ran, Ask, askMask, askKey, askFits, askId, asked, heldGot, heldBuffer}
+use Rattle.format.specs.Machine.{Machine, machineOf, ran, Ask, askMask, askKey, askFits, askId, asked, heldGot}
+use Rattle.format.specs.Machine.{heldBuffer}
 
 -- what an image is: a list of bytes
 abbrev pub Bytes : List ℕ → Type 0
@@ -31,17 +32,27 @@ Bytes b = (i : ℕ) → getD b i 0 < 2 ^ 8
 -- a record with its erased mark put aside
 abbrev pub unmarked : LfsMdir → LfsMdir
 unmarked m =
-    record { pair = m .pair; rev = m .rev; off = m .off; etag = m .etag; count = m .count; erased = false; split = m .split; tail = m .tail }
+    record {
+      pair = m .pair;
+      rev = m .rev;
+      off = m .off;
+      etag = m .etag;
+      count = m .count;
+      erased = false;
+      split = m .split;
+      tail = m .tail;
+    }
 
 module _ (g : Geometry) (n0 n1 : ℕ) where
-  -- Fetch gives the record m, whoever asks: from every seed, and for every block count that the two numbers pass (0, which
-  -- means none, is one). `read` is the seed that comes back, of the one that was given.
+  -- Fetch gives the record m, whoever asks: from every seed, and for every block count that the two numbers pass (0,
+  -- which means none, is one). `read` is the seed that comes back, of the one that was given.
   abbrev pub Finds : List ℕ → List ℕ → LfsMdir → (ℕ → ℕ) → Type 0
   Finds b0 b1 m read = (count seed : ℕ) → tooHigh count n0 || tooHigh count n1 ≡ false
       → fetchOf g b0 b1 n0 n1 count seed ≡ Found m (read seed)
 
-  -- A pair shows a machine: fetch gives a record with its number of slots and its tail, the log is regular, and with that
-  -- record every directory lookup, "for ids below count and no pending move", answers what the machine has, word and buffer.
+  -- A pair shows a machine: fetch gives a record with its number of slots and its tail, the log is regular, and with
+  -- that record every directory lookup, "for ids below count and no pending move", answers what the machine has, word
+  -- and buffer.
   pub record Shows (b0 b1 : List ℕ) (M : Machine) : Type 0 where
     pub dir : LfsMdir
     pub read : ℕ → ℕ
@@ -51,12 +62,14 @@ module _ (g : Geometry) (n0 n1 : ℕ) where
     pub tail : dir .tail ≡ M .tail
     pub regular : Regular (log (blockOf b0 b1 n0 dir)) ≡ true
     pub lookups : (a : Ask) (gdisk : LfsGstate) (size : ℕ) (buffer : List ℕ)
-        → askFits M a ≡ true → gstateHasMoveHere gdisk (dir .pair) ≡ false → size < 2 ^ 10 → length buffer ≤ longestBuffer
+        → askFits M a ≡ true → gstateHasMoveHere gdisk (dir .pair) ≡ false → size < 2 ^ 10
+        → length buffer ≤ longestBuffer
         → (getsliceOf g b0 b1 n0 n1 dir gdisk (askMask a) (askKey a size) 0 buffer ≡ heldGot (askId a) (asked M a))
         × (getsliceBuffer g b0 b1 n0 n1 dir gdisk (askMask a) (askKey a size) 0 buffer ≡ heldBuffer buffer (asked M a))
 
-  -- The images i0, i1 read as b0, b1 did: fetch gives the same record but for the erased mark, and from every seed the same
-  -- seed; and every lookup at offset 0 with it, whatever mask, key and global state, gives the same answer and buffer.
+  -- The images i0, i1 read as b0, b1 did: fetch gives the same record but for the erased mark, and from every seed the
+  -- same seed; and every lookup at offset 0 with it, whatever mask, key and global state, gives the same answer and
+  -- buffer.
   pub record ReadsAs (b0 b1 i0 i1 : List ℕ) : Type 0 where
     pub before : LfsMdir
     pub after : LfsMdir
@@ -65,12 +78,13 @@ module _ (g : Geometry) (n0 n1 : ℕ) where
     pub refetched : Finds i0 i1 after read
     pub same : unmarked after ≡ unmarked before
     pub lookups : (gdisk : LfsGstate) (mask key : ℕ) (buffer : List ℕ)
-        → (getsliceOf g i0 i1 n0 n1 after gdisk mask key 0 buffer ≡ getsliceOf g b0 b1 n0 n1 before gdisk mask key 0 buffer)
+        → (getsliceOf g i0 i1 n0 n1 after gdisk mask key 0 buffer ≡ getsliceOf g b0 b1 n0 n1 before gdisk mask key 0
+        buffer)
         × (getsliceBuffer g i0 i1 n0 n1 after gdisk mask key 0 buffer
         ≡ getsliceBuffer g b0 b1 n0 n1 before gdisk mask key 0 buffer)
 
-  -- i0, i1 are images of a call on b0, b1 that was stopped, f those of the finished call; M is what the pair held before
-  -- it, N what the finished one holds
+  -- i0, i1 are images of a call on b0, b1 that was stopped, f those of the finished call; M is what the pair held
+  -- before it, N what the finished one holds
   pub record Stopped (b0 b1 i0 i1 : List ℕ) (f : Images) (M N : Machine) : Type 0 where
     pub either : ((i0 ≡ f .b0) × (i1 ≡ f .b1)) ⊎ ReadsAs b0 b1 i0 i1
     pub old : Shows b0 b1 M
@@ -102,14 +116,15 @@ module _ (g : Geometry) (b0 b1 : List ℕ) (n0 n1 count seed : ℕ) where
         × (i1 ≡ commitImages g b0 b1 n0 n1 count seed entries dat n .b1)
         × CommitStopped g b0 b1 n0 n1 count seed entries dat i0 i1
 
-    -- `lfs_dir_commit`: all of its stores; and DEMAND 3 wherever it is stopped, after each number n of them, of the images
-    -- that the call with this limit leaves
+    -- `lfs_dir_commit`: all of its stores; and DEMAND 3 wherever it is stopped, after each number n of them, of the
+    -- images that the call with this limit leaves
     abbrev pub CommitLeaves : List ℕ → List ℕ → Type 0
     CommitLeaves i0 i1 =
         (i0 ≡ commitImages g b0 b1 n0 n1 count seed entries dat unlimited .b0)
         × (i1 ≡ commitImages g b0 b1 n0 n1 count seed entries dat unlimited .b1)
         × ((n : ℕ) → CommitStopped g b0 b1 n0 n1 count seed entries dat
-        (commitImages g b0 b1 n0 n1 count seed entries dat n .b0) (commitImages g b0 b1 n0 n1 count seed entries dat n .b1))
+        (commitImages g b0 b1 n0 n1 count seed entries dat n .b0)
+        (commitImages g b0 b1 n0 n1 count seed entries dat n .b1))
 
   -- `lfs_dir_compact_stores` with the limit n
   abbrev pub CompactStoresLeaves : ℕ → List ℕ → List ℕ → Type 0

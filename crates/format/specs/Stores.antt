@@ -35,8 +35,8 @@ unfoldable pub entriesLength : List Item → ℕ
 entriesLength [] = 0
 entriesLength (i ∷ is) = tagLength (i .tag) + entriesLength is
 
--- A block b with the log es after k stores of a commit: its bytes stand from the old end on. `paste` of the library puts the first k bytes of
--- a list in the place of as many.
+-- A block b with the log es after k stores of a commit: its bytes stand from the old end on. `paste` of the library
+-- puts the first k bytes of a list in the place of as many.
 unfoldable pub appending : List ℕ → List Event → List Item → ℕ → ℕ → List ℕ
 appending b es is ct k = paste b (logEnd es) (commitBytes allOnes (logEndTag es) is ct) k
 
@@ -53,8 +53,8 @@ unfoldable pub compacting : List ℕ → ℕ → List Item → ℕ → ℕ → �
 compacting o rev is ct m zero = o
 compacting o rev is ct m (suc k) = fill k (compactBytes rev is ct) ++ erased m
 
--- "Coincidence: put 1, 2 or 3 bytes of the check tag and fill its four with 0xff; if any of the three checksums is 0xffffffff, refuse."
--- `sum` and `prev` are the checksum and the previous tag before the commit's bytes.
+-- "Coincidence: put 1, 2 or 3 bytes of the check tag and fill its four with 0xff; if any of the three checksums is
+-- 0xffffffff, refuse." `sum` and `prev` are the checksum and the previous tag before the commit's bytes.
 unfoldable pub coincides : ℕ → ℕ → List Item → ℕ → Bool
 coincides sum prev [] ct =
     eqb (crc sum (fill 1 (toBe32 (xor ct prev)))) allOnes

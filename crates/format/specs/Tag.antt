@@ -51,7 +51,8 @@ tagLength t = cond (tagDelete t) 4 (4 + tagSize t)
 unfoldable pub tagFlipped : ℕ → ℕ
 tagFlipped t = t + t / 2 ^ 20 % 2 * 2 ^ 31
 
--- A tag of its three parts, as LFS_MKTAG shifts and joins any three words: what passes a field runs into the next, what passes 32 bits is lost.
+-- A tag of its three parts, as LFS_MKTAG shifts and joins any three words: what passes a field runs into the next, what
+-- passes 32 bits is lost.
 abbrev pub mkTag : ℕ → ℕ → ℕ → ℕ
 mkTag type id size = bitOr (bitOr (type * 2 ^ 20 % 2 ^ 32) (id * 2 ^ 10 % 2 ^ 32)) size
 
@@ -59,6 +60,7 @@ mkTag type id size = bitOr (bitOr (type * 2 ^ 20 % 2 ^ 32) (id * 2 ^ 10 % 2 ^ 32
 abbrev pub mkTagIf : Bool → ℕ → ℕ → ℕ → ℕ
 mkTagIf c type id size = cond c (mkTag type id size) (mkTag 0 0 0)
 
--- The tag of a type of 11 bits, an id and a size of 10 bits each. LFS_MKTAG is the same there (`mkTag-sum` of proofs/Words.antt).
+-- The tag of a type of 11 bits, an id and a size of 10 bits each. LFS_MKTAG is the same there (`mkTag-sum` of
+-- proofs/Words.antt).
 unfoldable pub tagOf : ℕ → ℕ → ℕ → ℕ
 tagOf type id size = type * 2 ^ 20 + id * 2 ^ 10 + size

@@ -1,5 +1,5 @@
--- Document 01, The added writer: which commits are accepted, what an accepted one stores, and what both calls answer and leave.
--- Assumes nothing.
+-- Document 01, The added writer: which commits are accepted, what an accepted one stores, and what both calls answer
+-- and leave. Assumes nothing.
 use mathlib.Core.Bool.{Bool, true, false, not, cond, _&&_}
 use mathlib.Core.List.{List}
 use Prim.Native.Nat.{ℕ, _+_, _-_, _%_, min}
@@ -20,7 +20,8 @@ use Rattle.format.specs.declared.Geometry.{Geometry}
 use Rattle.format.specs.declared.LfsMdir.{LfsMdir}
 use Rattle.format.specs.declared.Entry.{Entry}
 use Rattle.format.specs.declared.Refusal.{Refusal}
-use Rattle.format.specs.declared.Refusal.the-variants.{Invalid, BadEntry, Irregular, NoSpace, Unclean, Coincidence}
+use Rattle.format.specs.declared.Refusal.the-variants.{Invalid, BadEntry, Irregular, NoSpace, Unclean}
+use Rattle.format.specs.declared.Refusal.the-variants.{Coincidence}
 use Rattle.format.specs.declared.Fetched.{Fetched}
 use Rattle.format.specs.declared.Fetched.the-variants as fetched
 use Rattle.format.specs.declared.Committed.{Committed}
@@ -33,11 +34,13 @@ use Rattle.format.specs.declared.Stored.the-variants as stored
 abbrev pub checkLength : ℕ
 checkLength = 8
 
--- Where a commit ends whose check tag stands at `at`: "on a multiple of the program size", the next one behind tag and checksum.
+-- Where a commit ends whose check tag stands at `at`: "on a multiple of the program size", the next one behind tag and
+-- checksum.
 unfoldable pub roundedEnd : ℕ → ℕ → ℕ
 roundedEnd prog at = downTo (at + checkLength + (prog - 1)) prog
 
--- "Its size, 4 or more, is the least that ends on a multiple of the program size": what is between the tag's four bytes and that end.
+-- "Its size, 4 or more, is the least that ends on a multiple of the program size": what is between the tag's four bytes
+-- and that end.
 unfoldable pub checkSize : ℕ → ℕ → ℕ
 checkSize prog at = roundedEnd prog at - (at + 4)
 
@@ -58,14 +61,16 @@ abbrev pub mostEntries : ℕ
 mostEntries = 8_192
 
 unfoldable pub commitFits : Geometry → ℕ → ℕ → ℕ → ℕ → ℕ → ℕ → Bool
-commitFits g length0 length1 n0 n1 entries bytes = pairFits g length0 length1 n0 n1 && leb bytes mostData && leb entries mostEntries
+commitFits g length0 length1 n0 n1 entries bytes = pairFits g length0 length1 n0 n1 && leb bytes mostData
+    && leb entries mostEntries
 
--- "Append needs bytes 0xff from the old end to the block's end, an old end that is a multiple of the program size, and an end tag with bit
--- 31 clear."
+-- "Append needs bytes 0xff from the old end to the block's end, an old end that is a multiple of the program size, and
+-- an end tag with bit 31 clear."
 unfoldable pub roomClean : ℕ → List ℕ → ℕ → ℕ → Bool
 roomClean prog b end etag = allErased (drop end b) && eqb (end % prog) 0 && tagValid etag
 
--- A call is refused, or accepted: whether the second block answers, and so is appended to, the entries, and their check's size.
+-- A call is refused, or accepted: whether the second block answers, and so is appended to, the entries, and their
+-- check's size.
 pub data Verdict : Type 0 where
   refused : Refusal → Verdict
   accepted : Bool → List Item → ℕ → Verdict
@@ -108,7 +113,8 @@ unfoldable pub verdictOf : Geometry → List ℕ → List ℕ → ℕ → ℕ �
 verdictOf g b0 b1 n0 n1 count seed entries dat =
     cond (not (commitFits g (length b0) (length b1) n0 n1 (length entries) (length dat))) (refused Invalid)
     (fetchedThen (fetchOf g b0 b1 n0 n1 count seed)
-    (λ m. appended (g .«prog_size») (isSecond n0 m) (blockAt (isSecond n0 m) b0 b1) (log (blockAt (isSecond n0 m) b0 b1)) entries dat))
+    (λ m. appended (g .«prog_size») (isSecond n0 m) (blockAt (isSecond n0 m) b0 b1)
+    (log (blockAt (isSecond n0 m) b0 b1)) entries dat))
 
 -- ---- what both calls leave and answer
 pub record Images : Type 0 where

@@ -1,8 +1,10 @@
-// The global state: lfs_gstate.rs, lfs.c's lfs_gstate_*. Two layers: what is computed, on states by value, for every caller of this
-// repository; and littlefs's own functions, thin, which take the state where it stands, by `&` or `&mut`, and call the first.
-// (lfs_gstate_fromle32 and lfs_gstate_tole32 have no counterpart: a state is read from bytes, see docs/DECISIONS.md.)
+// The global state: lfs_gstate.rs, lfs.c's lfs_gstate_*. Two layers: what is computed, on states by value, for every
+// caller of this repository; and littlefs's own functions, thin, which take the state where it stands, by `&` or
+// `&mut`, and call the first. (lfs_gstate_fromle32 and lfs_gstate_tole32 have no counterpart: a state is read from
+// bytes, see docs/DECISIONS.md.)
 ghost use mathlib.Core.Path.{_≡_};
-ghost use Rattle.format.specs.Gstate.{gstateXor, gstateZero, gstateHasOrphans, gstateOrphans, gstateNeedsSuperblock, gstateHasMove, gstateHasMoveHere};
+ghost use Rattle.format.specs.Gstate.{gstateXor, gstateZero, gstateHasOrphans, gstateOrphans, gstateNeedsSuperblock};
+ghost use Rattle.format.specs.Gstate.{gstateHasMove, gstateHasMoveHere};
 use format::LfsGstate;
 use format::LfsPair;
 

@@ -1,4 +1,5 @@
--- The laws that the walks of the two exports with entries cite: what the call below answers, as C gets it. Assumes nothing.
+-- The laws that the walks of the two exports with entries cite: what the call below answers, as C gets it. Assumes
+-- nothing.
 use mathlib.Core.Path.{_≡_, ap, _∙_}
 use mathlib.Core.List.{List}
 use Prim.Native.Nat.{ℕ}

@@ -3,7 +3,8 @@
 // that one law proves all of a shape (proofs/Handed.antt); so even a cast is a function here.
 ghost use mathlib.Core.Path.{_≡_};
 ghost use Rattle.format.specs.Answer.{flagOf};
-ghost use Rattle.format.specs.Gstate.{gstateXor, gstateZero, gstateHasOrphans, gstateOrphans, gstateNeedsSuperblock, gstateHasMove, gstateHasMoveHere};
+ghost use Rattle.format.specs.Gstate.{gstateXor, gstateZero, gstateHasOrphans, gstateOrphans, gstateNeedsSuperblock};
+ghost use Rattle.format.specs.Gstate.{gstateHasMove, gstateHasMoveHere};
 use format::LfsGstate;
 use lanolin_answers::flag;
 

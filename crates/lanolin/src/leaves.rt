@@ -7,7 +7,8 @@ ghost use Rattle.format.specs.Bytes.{le32At, be32At, putAnswer, putLe32, putBe3
 ghost use Rattle.format.specs.Count.{scmp};
 ghost use Rattle.format.specs.Crc.{crc};
 ghost use Rattle.format.specs.Pair.{pairSwapped, pairNull, pairCmp, pairSync};
-ghost use Rattle.format.specs.Tag.{tagValid, tagType1, tagType2, tagType3, tagChunk, tagSplice, tagId, tagSize, tagDelete, tagLength, mkTag, mkTagIf};
+ghost use Rattle.format.specs.Tag.{tagValid, tagType1, tagType2, tagType3, tagChunk, tagSplice, tagId, tagSize};
+ghost use Rattle.format.specs.Tag.{tagDelete, tagLength, mkTag, mkTagIf};
 ghost use Rattle.lanolin_answers.specs.Values.{wordOut};
 use format::LfsPair;
 use lanolin_answers::Value;

@@ -1,5 +1,6 @@
-// The C-callable layer: each public call on numbers, slices and one plain struct by value, under a flat name that begins `lanolin_`
-// (docs/DECISIONS.md has the shapes). It is thin: no logic of its own, no `requires`. Results are document 01's numbers: 0, or the refusal.
+// The C-callable layer: each public call on numbers, slices and one plain struct by value, under a flat name that
+// begins `lanolin_` (docs/DECISIONS.md has the shapes). It is thin: no logic of its own, no `requires`. Results are
+// document 01's numbers: 0, or the refusal.
 ghost use mathlib.Core.Path.{_≡_};
 ghost use Rattle.lanolin_answers.specs.Values.{committedOut, storedOut};
 ghost use Rattle.format.specs.Writer.{commitOf, commitStoresOf};
@@ -21,7 +22,8 @@ pub mod writing;
 // The global state, which stands with the caller.
 pub mod global;
 
-// Commit, and the same with a limit of stores. Both hold the list of entries and only pass it on: walks that tools/genwalk.py writes.
+// Commit, and the same with a limit of stores. Both hold the list of entries and only pass it on: walks that
+// tools/genwalk.py writes.
 #[no_mangle]
 pub extern "C" fn lanolin_commit(
     g: Geometry,

@@ -1,8 +1,10 @@
-// Reading for C callers: fetch and lookups. Each export hands its numbers, slices and records to the call of the same name.
+// Reading for C callers: fetch and lookups. Each export hands its numbers, slices and records to the call of the same
+// name.
 ghost use mathlib.Core.Path.{_≡_};
 ghost use Rattle.format.specs.Answer.{alteredResult};
 ghost use Rattle.format.specs.Fetch.{fetchOf};
-ghost use Rattle.format.specs.Lookup.{getsliceOf, getsliceBuffer, getOf, getBuffer, getinfoOf, getgstateOf, getgstateState};
+ghost use Rattle.format.specs.Lookup.{getsliceOf, getsliceBuffer, getOf, getBuffer, getinfoOf, getgstateOf};
+ghost use Rattle.format.specs.Lookup.{getgstateState};
 ghost use Rattle.lanolin_answers.specs.Values.{fetchedOut, gotOut, infoOut};
 use format::Geometry;
 use format::LfsGstate;
@@ -48,8 +50,10 @@ pub extern "C" fn lanolin_getslice(
     goff: u32,
     buffer: &mut [u8],
 ) -> Value
-    ensures { λ r. ⌜ r ≡ gotOut (getsliceOf g (now (b0 .entry)) (now (b1 .entry)) n0 n1 dir gdisk gmask gtag goff (now (buffer .entry))) ⌝ }
-    ensures { λ _. ⌜ now (buffer .exit) ≡ getsliceBuffer g (now (b0 .entry)) (now (b1 .entry)) n0 n1 dir gdisk gmask gtag goff (now (buffer .entry)) ⌝ }
+    ensures { λ r. ⌜ r ≡ gotOut (getsliceOf g (now (b0 .entry)) (now (b1 .entry)) n0 n1 dir gdisk gmask gtag goff
+        (now (buffer .entry))) ⌝ }
+    ensures { λ _. ⌜ now (buffer .exit) ≡ getsliceBuffer g (now (b0 .entry)) (now (b1 .entry)) n0 n1 dir gdisk gmask
+        gtag goff (now (buffer .entry)) ⌝ }
 {
     got_out(lookup::lfs_dir_getslice(g, b0, b1, n0, n1, dir, gdisk, gmask, gtag, goff, buffer))
 }
@@ -67,8 +71,10 @@ pub extern "C" fn lanolin_get(
     gtag: u32,
     buffer: &mut [u8],
 ) -> Value
-    ensures { λ r. ⌜ r ≡ gotOut (getOf g (now (b0 .entry)) (now (b1 .entry)) n0 n1 dir gdisk gmask gtag (now (buffer .entry))) ⌝ }
-    ensures { λ _. ⌜ now (buffer .exit) ≡ getBuffer g (now (b0 .entry)) (now (b1 .entry)) n0 n1 dir gdisk gmask gtag (now (buffer .entry)) ⌝ }
+    ensures { λ r. ⌜ r ≡ gotOut (getOf g (now (b0 .entry)) (now (b1 .entry)) n0 n1 dir gdisk gmask gtag
+        (now (buffer .entry))) ⌝ }
+    ensures { λ _. ⌜ now (buffer .exit) ≡ getBuffer g (now (b0 .entry)) (now (b1 .entry)) n0 n1 dir gdisk gmask gtag
+        (now (buffer .entry)) ⌝ }
 {
     got_out(lookup::lfs_dir_get(g, b0, b1, n0, n1, dir, gdisk, gmask, gtag, buffer))
 }
@@ -102,7 +108,9 @@ pub extern "C" fn lanolin_getgstate(
     gdisk: LfsGstate,
     gstate: &mut LfsGstate,
 ) -> i32
-    ensures { λ r. ⌜ (r ≡ alteredResult (getgstateOf g (now (b0 .entry)) (now (b1 .entry)) n0 n1 dir gdisk)) × (now (gstate .exit) ≡ getgstateState g (now (b0 .entry)) (now (b1 .entry)) n0 n1 dir gdisk (now (gstate .entry))) ⌝ }
+    ensures { λ r. ⌜ (r ≡ alteredResult (getgstateOf g (now (b0 .entry)) (now (b1 .entry)) n0 n1 dir gdisk))
+        × (now (gstate .exit) ≡ getgstateState g (now (b0 .entry)) (now (b1 .entry)) n0 n1 dir gdisk
+        (now (gstate .entry))) ⌝ }
 {
     altered_out(lookup::lfs_dir_getgstate(g, b0, b1, n0, n1, dir, gdisk, gstate))
 }

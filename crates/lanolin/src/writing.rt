@@ -1,4 +1,5 @@
-// Compaction for C callers, and the same with a limit of stores. Each export hands its numbers and slices to the call of the same name.
+// Compaction for C callers, and the same with a limit of stores. Each export hands its numbers and slices to the call
+// of the same name.
 ghost use mathlib.Core.Path.{_≡_};
 ghost use Rattle.format.specs.Compaction.{compactOf, compactStoresOf};
 ghost use Rattle.format.specs.Stopped.{CompactLeaves, CompactStoresLeaves};
@@ -19,7 +20,8 @@ pub extern "C" fn lanolin_compact(
     block_count: u32,
     seed: u32,
 ) -> CommittedOut
-    ensures { λ r. ⌜ r ≡ committedOut seed (compactOf g (now (b0 .entry)) (now (b1 .entry)) n0 n1 «block_count» seed) ⌝ }
+    ensures { λ r. ⌜ r ≡ committedOut seed (compactOf g (now (b0 .entry)) (now (b1 .entry)) n0 n1 «block_count»
+        seed) ⌝ }
     ensures { λ _. ⌜ CompactLeaves g (now (b0 .entry)) (now (b1 .entry)) n0 n1 «block_count» seed
         (now (b0 .exit)) (now (b1 .exit)) ⌝ }
 {
@@ -40,7 +42,8 @@ pub extern "C" fn lanolin_compact_stores(
     seed: u32,
     stores: u32,
 ) -> StoredOut
-    ensures { λ r. ⌜ r ≡ storedOut (compactStoresOf g (now (b0 .entry)) (now (b1 .entry)) n0 n1 «block_count» seed stores) ⌝ }
+    ensures { λ r. ⌜ r ≡ storedOut (compactStoresOf g (now (b0 .entry)) (now (b1 .entry)) n0 n1 «block_count» seed
+        stores) ⌝ }
     ensures { λ _. ⌜ CompactStoresLeaves g (now (b0 .entry)) (now (b1 .entry)) n0 n1 «block_count» seed stores
         (now (b0 .exit)) (now (b1 .exit)) ⌝ }
 {

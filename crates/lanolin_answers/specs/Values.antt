@@ -1,6 +1,8 @@
 -- The structs that C gets, from the answers. Assumes nothing.
 use Prim.Native.Nat.{ℕ}
-use Rattle.format.specs.Answer.{wordResult, wordValue, gotResult, gotTag, fetchedResult, fetchedMdir, fetchedSeed, alteredResult, committedResult, committedIndex, committedMdir, committedSeed, storedResult, storedIndex, storedMade}
+use Rattle.format.specs.Answer.{wordResult, wordValue, gotResult, gotTag, fetchedResult, fetchedMdir, fetchedSeed}
+use Rattle.format.specs.Answer.{alteredResult, committedResult, committedIndex, committedMdir, committedSeed}
+use Rattle.format.specs.Answer.{storedResult, storedIndex, storedMade}
 use Rattle.format.specs.declared.Word.{Word}
 use Rattle.format.specs.declared.Got.{Got}
 use Rattle.format.specs.declared.Fetched.{Fetched}
@@ -24,7 +26,12 @@ abbrev pub fetchedOut : ℕ → Fetched → FetchedOut
 fetchedOut seed f = record { result = fetchedResult f; dir = fetchedMdir f; seed = fetchedSeed seed f }
 
 abbrev pub infoOut : Informed → InfoOut
-infoOut i = record { result = alteredResult (i .answer); kind = i .info .kind; size = i .info .size; name = i .info .name }
+infoOut i = record {
+  result = alteredResult (i .answer);
+  kind = i .info .kind;
+  size = i .info .size;
+  name = i .info .name;
+}
 
 -- from the seed that was given
 abbrev pub committedOut : ℕ → Committed → CommittedOut

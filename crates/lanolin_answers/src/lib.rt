@@ -1,6 +1,7 @@
 // Answers as C gets them: document 01's numbers, and structs of plain fields.
 ghost use mathlib.Core.Path.{_≡_};
-ghost use Rattle.format.specs.Answer.{flagOf, refusalNumber, refusalMdir, refusalSeed, refusalIndex, alteredResult, zeroMdir};
+ghost use Rattle.format.specs.Answer.{flagOf, refusalNumber, refusalMdir, refusalSeed, refusalIndex, alteredResult};
+ghost use Rattle.format.specs.Answer.{zeroMdir};
 ghost use Rattle.lanolin_answers.specs.Values.{wordOut, gotOut, fetchedOut, infoOut, committedOut, storedOut};
 use format::Altered;
 use format::Committed;

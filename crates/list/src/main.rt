@@ -1,10 +1,11 @@
-// Document 01's listing program: both images of a pair on standard input, one behind the other, the text on standard output. 65,537 bytes are read, so
-// that a longer input is told from one of 65,536.
+// Document 01's listing program: both images of a pair on standard input, one behind the other, the text on standard
+// output. 65,537 bytes are read, so that a longer input is told from one of 65,536.
 use libc::STDIN_FILENO;
 
-// The buffer has room for every text. An entry of 4 + n bytes shows at most 4 * (4 + n): a byte of a name shows four, an empty user attribute of
-// four bytes a line of 16. Only a create, of four bytes, shows 18, and there are at most 1,023 slots. So a block of 32,768 bytes shows less than
-// 4 * 32,768 + 2 * 1,023, and the record's lines have less than 128 bytes.
+// The buffer has room for every text. An entry of 4 + n bytes shows at most 4 * (4 + n): a byte of a name shows four,
+// an empty user attribute of four bytes a line of 16. Only a create, of four bytes, shows 18, and there are at most
+// 1,023 slots. So a block of 32,768 bytes shows less than 4 * 32,768 + 2 * 1,023, and the record's lines have less than
+// 128 bytes.
 fn show(pair: &[u8]) {
     let mut text = [0u8; 134_000];
     let n = text_listing::lfs_dir_list(pair, &mut text);

@@ -9,7 +9,9 @@ use lib.ListN.{length, take, drop, length-replicate}
 use borrow.Author.Tests.{leb-true, eq-eqb, ne-eqb, not-true, not-false}
 use Rattle.format.specs.Tag.{tagType3, mkTag}
 use Rattle.format.specs.Look.{Found}
-use Rattle.format.specs.Lookup.{recordFits, blockOf, searched, sliceAnswer, sliceBuffer, blankBuffer, nameMask, nameKey, structMask, structKey, infoRefused, infoRoot, infoSize, infoFrom, readAnswer, readBuffer, infoOf, getinfoFits, getinfoOf}
+use Rattle.format.specs.Lookup.{recordFits, blockOf, searched, sliceAnswer, sliceBuffer, blankBuffer, nameMask, nameKey}
+use Rattle.format.specs.Lookup.{structMask, structKey, infoRefused, infoRoot, infoSize, infoFrom, readAnswer}
+use Rattle.format.specs.Lookup.{readBuffer, infoOf, getinfoFits, getinfoOf}
 use Rattle.format.specs.declared.Geometry.{Geometry}
 use Rattle.format.specs.declared.LfsMdir.{LfsMdir}
 use Rattle.format.specs.declared.LfsGstate.{LfsGstate}
@@ -36,7 +38,8 @@ drop-blank (suc n) zero k h = absurd (omega arith)
 drop-blank (suc n) (suc m) k h = drop-blank n m k (omega arith)
 
 -- ---- the struct's lookup; gm and gt are the mask and the key that LFS_MKTAG makes, a its answer
-module _ (b : List ℕ) (dir : LfsMdir) (gdisk : LfsGstate) (id t : ℕ) (name : List ℕ) (h : id ≤ 1023) (gm gt : ℕ) (em : gm ≡ mkTag 0x700 1023 0)
+module _ (b : List ℕ) (dir : LfsMdir) (gdisk : LfsGstate) (id t : ℕ) (name : List ℕ) (h : id ≤ 1023) (gm gt : ℕ)
+    (em : gm ≡ mkTag 0x700 1023 0)
     (et : gt ≡ mkTag 0x200 id 8) (a : Got) (e : a ≡ readAnswer b 8 (searched b dir gdisk gm gt)) where
   struct : searched b dir gdisk gm gt ≡ searched b dir gdisk structMask (structKey id)
   struct =
@@ -49,16 +52,19 @@ module _ (b : List ℕ) (dir : LfsMdir) (gdisk : LfsGstate) (id t : ℕ) (name :
   told x d = infoNamed t name x d
 
   abbrev promised : Informed
-  promised = told (readAnswer b 8 (searched b dir gdisk structMask (structKey id))) (readBuffer b 8 (searched b dir gdisk structMask (structKey id)))
+  promised = told (readAnswer b 8 (searched b dir gdisk structMask (structKey id)))
+      (readBuffer b 8 (searched b dir gdisk structMask (structKey id)))
 
   answers : a ≡ readAnswer b 8 (searched b dir gdisk structMask (structKey id))
   answers = e ∙ ap (λ u. readAnswer b 8 u) struct
 
   pub named-refused : (r : Refusal) → a ≡ got.Refused r → (x : Informed) → x ≡ infoRefused r → x ≡ promised
-  named-refused r q x ex = ex ∙ ap (λ y. told y (readBuffer b 8 (searched b dir gdisk structMask (structKey id)))) (sym q ∙ answers)
+  named-refused r q x ex = ex ∙ ap (λ y. told y (readBuffer b 8 (searched b dir gdisk structMask (structKey id))))
+      (sym q ∙ answers)
 
   -- d is the buffer, z the size in it, k the name's type
-  pub named-found : (u : ℕ) → a ≡ got.Found u → (d : List ℕ) → d ≡ readBuffer b 8 (searched b dir gdisk gm gt) → (z k : ℕ) → z ≡ infoSize u d → k ≡ tagType3 t
+  pub named-found : (u : ℕ) → a ≡ got.Found u → (d : List ℕ) → d ≡ readBuffer b 8 (searched b dir gdisk gm gt)
+      → (z k : ℕ) → z ≡ infoSize u d → k ≡ tagType3 t
       → record { answer = altered.Done; info = record { kind = k % 2 ^ 8; size = z; name = name } } ≡ promised
   named-found u q d ed z k ez ek =
       (λ i. record { answer = altered.Done; info = record { kind = ek i % 2 ^ 8; size = ez i; name = name } })
@@ -68,12 +74,15 @@ module _ (b : List ℕ) (dir : LfsMdir) (gdisk : LfsGstate) (id t : ℕ) (name :
 abbrev blank : ℕ → List ℕ
 blank nameMax = take (nameMax + 1) (blankBuffer 256)
 
-padded : (t : ℕ) (name : List ℕ) (u : Got) (d : List ℕ) → infoNamed t (name ++ blankBuffer (256 - length name)) u d ≡ infoFrom (got.Found t) name u d
+padded : (t : ℕ) (name : List ℕ) (u : Got) (d : List ℕ)
+    → infoNamed t (name ++ blankBuffer (256 - length name)) u d ≡ infoFrom (got.Found t) name u d
 padded t name (got.Refused r) d = refl
 padded t name (got.Found u) d = refl
 
-module _ (b : List ℕ) (dir : LfsMdir) (gdisk : LfsGstate) (nameMax id : ℕ) (hn : nameMax ≤ 255) (hi : id ≤ 1023) (gm gt : ℕ) (em : gm ≡ mkTag 0x780 1023 0)
-    (et : gt ≡ mkTag 0x000 id (nameMax + 1)) (a : Got) (e : a ≡ sliceAnswer b 0 (length (blank nameMax)) (searched b dir gdisk gm gt)) where
+module _ (b : List ℕ) (dir : LfsMdir) (gdisk : LfsGstate) (nameMax id : ℕ) (hn : nameMax ≤ 255) (hi : id ≤ 1023)
+    (gm gt : ℕ) (em : gm ≡ mkTag 0x780 1023 0)
+    (et : gt ≡ mkTag 0x000 id (nameMax + 1)) (a : Got)
+    (e : a ≡ sliceAnswer b 0 (length (blank nameMax)) (searched b dir gdisk gm gt)) where
   abbrev u : Found
   u = searched b dir gdisk nameMask (nameKey id nameMax)
 
@@ -83,27 +92,36 @@ module _ (b : List ℕ) (dir : LfsMdir) (gdisk : LfsGstate) (nameMax id : ℕ) (
   name-search : searched b dir gdisk gm gt ≡ u
   name-search =
       let m : gm ≡ nameMask = tag-made 0x780 1023 0 gm (omega arith) (omega arith) (omega arith) em in
-      let k : gt ≡ nameKey id nameMax = tag-made 0x000 id (nameMax + 1) gt (omega arith) (omega arith) (omega arith) et in
+      let k : gt ≡ nameKey id nameMax = tag-made 0x000 id (nameMax + 1) gt (omega arith) (omega arith) (omega arith)
+      et in
       λ i. searched b dir gdisk (m i) (k i)
 
   lent : blank nameMax ≡ blankBuffer (nameMax + 1)
   lent = take-blank (nameMax + 1) 256 (omega arith)
 
   name-answer : a ≡ readAnswer b (nameMax + 1) u
-  name-answer = e ∙ ap (λ f. sliceAnswer b 0 (length (blank nameMax)) f) name-search ∙ ap (λ (k : ℕ). sliceAnswer b 0 k u) (ap length lent ∙ length-replicate {A = ℕ} (nameMax + 1) 0)
+  name-answer = e ∙ ap (λ f. sliceAnswer b 0 (length (blank nameMax)) f) name-search
+      ∙ ap (λ (k : ℕ). sliceAnswer b 0 k u) (ap length lent ∙ length-replicate {A = ℕ} (nameMax + 1) 0)
 
   pub info-refused : (r : Refusal) → a ≡ got.Refused r → (x : Informed) → x ≡ infoRefused r → x ≡ infoOf b nameMax u v
-  info-refused r q x ex = ex ∙ ap (λ y. infoFrom y (readBuffer b (nameMax + 1) u) (readAnswer b 8 v) (readBuffer b 8 v)) (sym q ∙ name-answer)
+  info-refused r q x ex = ex ∙ ap (λ y. infoFrom y (readBuffer b (nameMax + 1) u) (readAnswer b 8 v) (readBuffer b 8 v))
+      (sym q ∙ name-answer)
 
   -- l is the part that was lent, x the info with the buffer of which it is the front
-  pub info-found : (t : ℕ) → a ≡ got.Found t → (l : List ℕ) → l ≡ sliceBuffer b 0 (blank nameMax) (searched b dir gdisk gm gt) → (x : Informed)
-      → x ≡ infoNamed t (l ++ drop (nameMax + 1) (blankBuffer 256)) (readAnswer b 8 v) (readBuffer b 8 v) → x ≡ infoOf b nameMax u v
+  pub info-found : (t : ℕ) → a ≡ got.Found t → (l : List ℕ)
+      → l ≡ sliceBuffer b 0 (blank nameMax) (searched b dir gdisk gm gt) → (x : Informed)
+      → x ≡ infoNamed t (l ++ drop (nameMax + 1) (blankBuffer 256)) (readAnswer b 8 v) (readBuffer b 8 v)
+      → x ≡ infoOf b nameMax u v
   info-found t q l el x ex =
       let name : List ℕ = readBuffer b (nameMax + 1) u in
-      let same : l ≡ name = el ∙ ap (λ f. sliceBuffer b 0 (blank nameMax) f) name-search ∙ ap (λ (d : List ℕ). sliceBuffer b 0 d u) lent in
-      let long : length name ≡ nameMax + 1 = slice-length b 0 (blankBuffer (nameMax + 1)) u ∙ length-replicate {A = ℕ} (nameMax + 1) 0 in
-      let behind : drop (nameMax + 1) (blankBuffer 256) ≡ blankBuffer (256 - length name) = drop-blank (nameMax + 1) 256 (256 - length name) (omega arith) in
-      ex ∙ (λ i. infoNamed t (same i ++ behind i) (readAnswer b 8 v) (readBuffer b 8 v)) ∙ padded t name (readAnswer b 8 v) (readBuffer b 8 v)
+      let same : l ≡ name = el ∙ ap (λ f. sliceBuffer b 0 (blank nameMax) f) name-search
+      ∙ ap (λ (d : List ℕ). sliceBuffer b 0 d u) lent in
+      let long : length name ≡ nameMax + 1 = slice-length b 0 (blankBuffer (nameMax + 1)) u
+      ∙ length-replicate {A = ℕ} (nameMax + 1) 0 in
+      let behind : drop (nameMax + 1) (blankBuffer 256) ≡ blankBuffer (256 - length name) =
+      drop-blank (nameMax + 1) 256 (256 - length name) (omega arith) in
+      ex ∙ (λ i. infoNamed t (same i ++ behind i) (readAnswer b 8 v) (readBuffer b 8 v))
+      ∙ padded t name (readAnswer b 8 v) (readBuffer b 8 v)
       ∙ ap (λ y. infoFrom y name (readAnswer b 8 v) (readBuffer b 8 v)) (sym q ∙ name-answer)
 
 -- ---- `lfs_dir_getinfo`; fits is what `record_fits` answers
@@ -112,7 +130,8 @@ module _ (g : Geometry) (b0 b1 : List ℕ) (n0 n1 : ℕ) (dir : LfsMdir) (gdisk 
   abbrev taken : Bool
   taken = fits && leb 1 nameMax && leb nameMax 255 && leb id 1023
 
-  pub getinfo-refused : not taken ≡ true → (x : Informed) → x ≡ infoRefused Invalid → x ≡ getinfoOf g b0 b1 n0 n1 dir gdisk nameMax id
+  pub getinfo-refused : not taken ≡ true → (x : Informed) → x ≡ infoRefused Invalid
+      → x ≡ getinfoOf g b0 b1 n0 n1 dir gdisk nameMax id
   unfolding getinfoOf getinfoFits
   getinfo-refused h x ex = ex ∙ sym (rw (← e, not-true taken h))
 
@@ -121,8 +140,10 @@ module _ (g : Geometry) (b0 b1 : List ℕ) (n0 n1 : ℕ) (dir : LfsMdir) (gdisk 
     getinfo-inside =
         let p = both (fits && leb 1 nameMax && leb nameMax 255) (leb id 1023) (not-false taken h) in
         let q = both (fits && leb 1 nameMax) (leb nameMax 255) (p .0) in
-        let r = both fits (leb 1 nameMax) (q .0) in
-        (end-inside g (length b0) (length b1) n0 n1 dir (sym e ∙ r .0), (leb-true nameMax 255 (q .1), leb-true id 1023 (p .1)))
+        let r = both fits (leb 1 nameMax) (q .0) in (
+          end-inside g (length b0) (length b1) n0 n1 dir (sym e ∙ r .0),
+          (leb-true nameMax 255 (q .1), leb-true id 1023 (p .1)),
+        )
 
     pub getinfo-root : id ≡ 1023 → (x : Informed) → x ≡ infoRoot → x ≡ getinfoOf g b0 b1 n0 n1 dir gdisk nameMax id
     unfolding getinfoOf getinfoFits
@@ -130,7 +151,8 @@ module _ (g : Geometry) (b0 b1 : List ℕ) (n0 n1 : ℕ) (dir : LfsMdir) (gdisk 
 
     -- b is the block that is read
     pub getinfo-read : (id ≡ 1023 → ⊥) → (b : List ℕ) → b ≡ blockOf b0 b1 n0 dir → (x : Informed)
-        → x ≡ infoOf b nameMax (searched b dir gdisk nameMask (nameKey id nameMax)) (searched b dir gdisk structMask (structKey id))
+        → x ≡ infoOf b nameMax (searched b dir gdisk nameMask (nameKey id nameMax))
+        (searched b dir gdisk structMask (structKey id))
         → x ≡ getinfoOf g b0 b1 n0 n1 dir gdisk nameMax id
     unfolding getinfoOf getinfoFits
     getinfo-read n b eb x ex = ex ∙ sym (rw (← e, not-false taken h, ne-eqb id 1023 n, ← eb))

@@ -11,7 +11,8 @@ use Rattle.format.specs.Word.{plus32}
 use Rattle.format.specs.Tag.{mkTag, tagOf}
 use Rattle.format.specs.Gstate.{gstateXor}
 use Rattle.format.specs.Look.{Found, found}
-use Rattle.format.specs.Lookup.{recordFits, blockOf, searched, sliceEnd, sliceAnswer, sliceBuffer, blankBuffer, gstateIn, moveMask, moveKey, moveAnswer, moveState, getgstateOf, getgstateState}
+use Rattle.format.specs.Lookup.{recordFits, blockOf, searched, sliceEnd, sliceAnswer, sliceBuffer, blankBuffer}
+use Rattle.format.specs.Lookup.{gstateIn, moveMask, moveKey, moveAnswer, moveState, getgstateOf, getgstateState}
 use Rattle.format.specs.declared.Geometry.{Geometry}
 use Rattle.format.specs.declared.LfsMdir.{LfsMdir}
 use Rattle.format.specs.declared.LfsGstate.{LfsGstate}
@@ -28,12 +29,14 @@ use Rattle.lookup_search.specs.declared.Hit.the-variants.{At, Nothing}
 use Rattle.lookup_search.proofs.Slices.{of-nothing, of-hit}
 
 -- the tag that LFS_MKTAG makes of fields that fit
-pub tag-made : (type id size r : ℕ) → type < 2 ^ 12 → id < 2 ^ 10 → size < 2 ^ 10 → r ≡ mkTag type id size → r ≡ tagOf type id size
+pub tag-made : (type id size r : ℕ) → type < 2 ^ 12 → id < 2 ^ 10 → size < 2 ^ 10 → r ≡ mkTag type id size
+    → r ≡ tagOf type id size
 unfolding tagOf
 tag-made type id size r ht hi hs e = e ∙ mkTag-sum type id size ht hi hs
 
 -- which of two answers it was
-refused-is : (c : Bool) (x : ℕ) (a : Got) (r : Refusal) → a ≡ cond c (got.Found x) (got.Refused Corrupt) → a ≡ got.Refused r → (c ≡ false) × (r ≡ Corrupt)
+refused-is : (c : Bool) (x : ℕ) (a : Got) (r : Refusal) → a ≡ cond c (got.Found x) (got.Refused Corrupt)
+    → a ≡ got.Refused r → (c ≡ false) × (r ≡ Corrupt)
 refused-is true x a r e q = let z : _≡_ {A = ℕ} 0 1 = cc in absurd (omega arith)
 refused-is false x a r e q = (refl, cc)
 
@@ -42,23 +45,28 @@ found-is true x y a e q = refl
 found-is false x y a e q = let z : _≡_ {A = ℕ} 0 1 = cc in absurd (omega arith)
 
 -- a is the slice's answer at the entry t
-module _ (b : List ℕ) (t at diff : ℕ) (gstate : LfsGstate) (a : Got) (e : a ≡ sliceAnswer b 0 12 (found t at diff)) where
+module _ (b : List ℕ) (t at diff : ℕ) (gstate : LfsGstate) (a : Got)
+    (e : a ≡ sliceAnswer b 0 12 (found t at diff)) where
   abbrev inside : Bool
   inside = leb (sliceEnd t at 0 12) (length b)
 
   pub move-refused : (r : Refusal) → a ≡ got.Refused r
       → (altered.Refused r ≡ moveAnswer b (found t at diff)) × (gstate ≡ moveState b gstate (found t at diff))
-  move-refused r q = let f = refused-is inside (plus32 t diff) a r e q in (ap altered.Refused (f .1) ∙ sym (rw (f .0)), sym (rw (f .0)))
+  move-refused r q = let f = refused-is inside (plus32 t diff) a r e q in
+      (ap altered.Refused (f .1) ∙ sym (rw (f .0)), sym (rw (f .0)))
 
   -- d is the buffer, s the state in it, x the two XORed
-  pub move-found : (y : ℕ) → a ≡ got.Found y → (d : List ℕ) → d ≡ sliceBuffer b 0 (blankBuffer 12) (found t at diff) → (s x : LfsGstate) → s ≡ gstateIn d
-      → x ≡ gstateXor gstate s → (altered.Done ≡ moveAnswer b (found t at diff)) × (x ≡ moveState b gstate (found t at diff))
+  pub move-found : (y : ℕ) → a ≡ got.Found y → (d : List ℕ) → d ≡ sliceBuffer b 0 (blankBuffer 12) (found t at diff)
+      → (s x : LfsGstate) → s ≡ gstateIn d
+      → x ≡ gstateXor gstate s → (altered.Done ≡ moveAnswer b (found t at diff))
+      × (x ≡ moveState b gstate (found t at diff))
   move-found y q d ed s x es ex =
       let f = found-is inside (plus32 t diff) y a e q in
       (sym (rw f), ex ∙ ap (gstateXor gstate) (es ∙ ap gstateIn ed) ∙ sym (rw (f)))
 
 -- gm and gt are the mask and the key that LFS_MKTAG makes, h what the search answers
-module _ (b : List ℕ) (dir : LfsMdir) (gdisk gstate : LfsGstate) (gm gt : ℕ) (em : gm ≡ mkTag 0x7ff 0 0) (et : gt ≡ mkTag 0x7ff 0 12) (h : Hit)
+module _ (b : List ℕ) (dir : LfsMdir) (gdisk gstate : LfsGstate) (gm gt : ℕ) (em : gm ≡ mkTag 0x7ff 0 0)
+    (et : gt ≡ mkTag 0x7ff 0 12) (h : Hit)
     (e : foundAs h ≡ searched b dir gdisk gm gt) where
   abbrev u : Found
   u = searched b dir gdisk moveMask moveKey
@@ -70,22 +78,33 @@ module _ (b : List ℕ) (dir : LfsMdir) (gdisk gstate : LfsGstate) (gm gt : ℕ)
       e ∙ (λ i. searched b dir gdisk (m i) (k i))
 
   pub move-none : h ≡ Nothing → (altered.Done ≡ moveAnswer b u) × (gstate ≡ moveState b gstate u)
-  move-none q = (of-nothing h u move-search (λ f. moveAnswer b f) q, of-nothing h u move-search (λ f. moveState b gstate f) q)
+  move-none q = (
+    of-nothing h u move-search (λ f. moveAnswer b f) q,
+    of-nothing h u move-search (λ f. moveState b gstate f) q,
+  )
 
-  pub move-some : {t at diff : ℕ} → h ≡ At t at diff → (a : Altered) (x : LfsGstate) → a ≡ moveAnswer b (found t at diff) → x ≡ moveState b gstate (found t at diff)
+  pub move-some : {t at diff : ℕ} → h ≡ At t at diff → (a : Altered) (x : LfsGstate)
+      → a ≡ moveAnswer b (found t at diff) → x ≡ moveState b gstate (found t at diff)
       → (a ≡ moveAnswer b u) × (x ≡ moveState b gstate u)
-  move-some q a x ea ex = (ea ∙ of-hit h u move-search (λ f. moveAnswer b f) q, ex ∙ of-hit h u move-search (λ f. moveState b gstate f) q)
+  move-some q a x ea ex = (
+    ea ∙ of-hit h u move-search (λ f. moveAnswer b f) q,
+    ex ∙ of-hit h u move-search (λ f. moveState b gstate f) q,
+  )
 
 -- ---- `lfs_dir_getgstate`; fits is what `record_fits` answers
-module _ (g : Geometry) (b0 b1 : List ℕ) (n0 n1 : ℕ) (dir : LfsMdir) (gdisk gstate : LfsGstate) (fits : Bool) (e : fits ≡ recordFits g (length b0) (length b1) n0 n1 dir) where
+module _ (g : Geometry) (b0 b1 : List ℕ) (n0 n1 : ℕ) (dir : LfsMdir) (gdisk gstate : LfsGstate) (fits : Bool)
+    (e : fits ≡ recordFits g (length b0) (length b1) n0 n1 dir) where
   pub getgstate-refused : not fits ≡ true
-      → (altered.Refused Invalid ≡ getgstateOf g b0 b1 n0 n1 dir gdisk) × (gstate ≡ getgstateState g b0 b1 n0 n1 dir gdisk gstate)
+      → (altered.Refused Invalid ≡ getgstateOf g b0 b1 n0 n1 dir gdisk)
+      × (gstate ≡ getgstateState g b0 b1 n0 n1 dir gdisk gstate)
   unfolding getgstateOf getgstateState
   getgstate-refused h = let f = not-true fits h in (sym (rw (← e, f)), sym (rw (← e, f)))
 
   -- b is the block that is read
   pub getgstate-read : not fits ≡ false → (b : List ℕ) → b ≡ blockOf b0 b1 n0 dir → (a : Altered) (x : LfsGstate)
-      → a ≡ moveAnswer b (searched b dir gdisk moveMask moveKey) → x ≡ moveState b gstate (searched b dir gdisk moveMask moveKey)
+      → a ≡ moveAnswer b (searched b dir gdisk moveMask moveKey)
+      → x ≡ moveState b gstate (searched b dir gdisk moveMask moveKey)
       → (a ≡ getgstateOf g b0 b1 n0 n1 dir gdisk) × (x ≡ getgstateState g b0 b1 n0 n1 dir gdisk gstate)
   unfolding getgstateOf getgstateState
-  getgstate-read h b eb a x ea ex = let f = not-false fits h in (ea ∙ sym (rw (← e, f, ← eb)), ex ∙ sym (rw (← e, f, ← eb)))
+  getgstate-read h b eb a x ea ex = let f =
+      not-false fits h in (ea ∙ sym (rw (← e, f, ← eb)), ex ∙ sym (rw (← e, f, ← eb)))

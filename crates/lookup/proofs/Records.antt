@@ -16,7 +16,8 @@ pub both : (a b : Bool) → (a && b) ≡ true → (a ≡ true) × (b ≡ true)
 both true b e = (refl, e)
 both false b e = let z : _≡_ {A = ℕ} 0 1 = cc in absurd (omega arith)
 
-sizes : (g : Geometry) (l0 l1 n0 n1 : ℕ) → pairFits g l0 l1 n0 n1 ≡ true → (l0 ≡ g .«block_size») × (l1 ≡ g .«block_size»)
+sizes : (g : Geometry) (l0 l1 n0 n1 : ℕ) → pairFits g l0 l1 n0 n1 ≡ true
+    → (l0 ≡ g .«block_size») × (l1 ≡ g .«block_size»)
 unfolding pairFits
 sizes g l0 l1 n0 n1 h =
     let p = both (geometryFits g && eqb l0 (g .«block_size») && eqb l1 (g .«block_size»)) (not (eqb n0 n1)) h in
@@ -24,10 +25,12 @@ sizes g l0 l1 n0 n1 h =
     let r = both (geometryFits g) (eqb l0 (g .«block_size»)) (q .0) in
     (eqb-true l0 (g .«block_size») (r .1), eqb-true l1 (g .«block_size») (q .1))
 
-pub end-inside : (g : Geometry) (l0 l1 n0 n1 : ℕ) (dir : LfsMdir) → recordFits g l0 l1 n0 n1 dir ≡ true → (dir .off ≤ l0) × (dir .off ≤ l1)
+pub end-inside : (g : Geometry) (l0 l1 n0 n1 : ℕ) (dir : LfsMdir) → recordFits g l0 l1 n0 n1 dir ≡ true
+    → (dir .off ≤ l0) × (dir .off ≤ l1)
 unfolding recordFits
 end-inside g l0 l1 n0 n1 dir h =
-    let p = both (pairFits g l0 l1 n0 n1 && pairSync (dir .pair) (record { n0 = n0; n1 = n1 })) (leb (dir .off) (g .«block_size»)) h in
+    let p = both (pairFits g l0 l1 n0 n1 && pairSync (dir .pair) (record { n0 = n0; n1 = n1 }))
+    (leb (dir .off) (g .«block_size»)) h in
     let q = both (pairFits g l0 l1 n0 n1) (pairSync (dir .pair) (record { n0 = n0; n1 = n1 })) (p .0) in
     let s = sizes g l0 l1 n0 n1 (q .0) in
     let l = leb-true (dir .off) (g .«block_size») (p .1) in

@@ -11,4 +11,5 @@ use Rattle.format.specs.declared.Informed.{Informed}
 -- from the name's tag and buffer, and the answer and the buffer of the struct's lookup
 abbrev pub infoNamed : ℕ → List ℕ → Got → List ℕ → Informed
 infoNamed t name (got.Refused r) struct = infoRefused r
-infoNamed t name (got.Found u) struct = record { answer = altered.Done; info = record { kind = tagType3 t % 2 ^ 8; size = infoSize u struct; name = name } }
+infoNamed t name (got.Found u) struct =
+    record { answer = altered.Done; info = record { kind = tagType3 t % 2 ^ 8; size = infoSize u struct; name = name } }

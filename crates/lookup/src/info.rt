@@ -2,7 +2,8 @@
 ghost use mathlib.Core.Path.{_≡_};
 ghost use Prim.Native.Nat.{_≤_};
 ghost use lib.ListN.{length};
-ghost use Rattle.format.specs.Lookup.{infoRefused, infoRoot, infoSize, infoOf, readAnswer, readBuffer, searched, nameMask, nameKey, structMask, structKey};
+ghost use Rattle.format.specs.Lookup.{infoRefused, infoRoot, infoSize, infoOf, readAnswer, readBuffer, searched};
+ghost use Rattle.format.specs.Lookup.{nameMask, nameKey, structMask, structKey};
 ghost use Rattle.lookup.specs.Info.{infoNamed};
 use format::Altered;
 use format::Got;
@@ -41,7 +42,8 @@ pub fn root() -> Informed
     }
 }
 
-// The size of what a struct's tag and eight bytes tell: a CTZ list has it in its second word, an inline file in the tag.
+// The size of what a struct's tag and eight bytes tell: a CTZ list has it in its second word, an inline file in the
+// tag.
 fn size_of(t: u32, s: &[u8]) -> u32
     requires { ⌜ 8 ≤ length (now s) ⌝ }
     ensures { λ r. ⌜ r ≡ infoSize t (now (s .entry)) ⌝ }
@@ -59,7 +61,9 @@ fn size_of(t: u32, s: &[u8]) -> u32
 // The info of an entry whose name is read: t is the name's tag.
 fn named(b: &[u8], dir: LfsMdir, gdisk: LfsGstate, id: u32, t: u32, name: [u8; 256]) -> Informed
     requires { ⌜ (dir .off ≤ length (now b)) × (id ≤ 1023) ⌝ }
-    ensures { λ r. ⌜ r ≡ infoNamed t name (readAnswer (now (b .entry)) 8 (searched (now (b .entry)) dir gdisk structMask (structKey id))) (readBuffer (now (b .entry)) 8 (searched (now (b .entry)) dir gdisk structMask (structKey id))) ⌝ }
+    ensures { λ r. ⌜ r ≡ infoNamed t name
+        (readAnswer (now (b .entry)) 8 (searched (now (b .entry)) dir gdisk structMask (structKey id)))
+        (readBuffer (now (b .entry)) 8 (searched (now (b .entry)) dir gdisk structMask (structKey id))) ⌝ }
 {
     let mut s = [0u8; 8];
     let gmask = tag::lfs_mktag(TYPE1_MASK, NO_SLOT, 0);
@@ -83,7 +87,9 @@ fn named(b: &[u8], dir: LfsMdir, gdisk: LfsGstate, id: u32, t: u32, name: [u8; 2
 // The info of an entry. The name is read into the front of a buffer of zeros, so what is not read of it is 0.
 pub fn read(b: &[u8], dir: LfsMdir, gdisk: LfsGstate, name_max: u32, id: u32) -> Informed
     requires { ⌜ (dir .off ≤ length (now b)) × («name_max» ≤ 255) × (id ≤ 1023) ⌝ }
-    ensures { λ r. ⌜ r ≡ infoOf (now (b .entry)) «name_max» (searched (now (b .entry)) dir gdisk nameMask (nameKey id «name_max»)) (searched (now (b .entry)) dir gdisk structMask (structKey id)) ⌝ }
+    ensures { λ r. ⌜ r ≡ infoOf (now (b .entry)) «name_max»
+        (searched (now (b .entry)) dir gdisk nameMask (nameKey id «name_max»))
+        (searched (now (b .entry)) dir gdisk structMask (structKey id)) ⌝ }
 {
     let mut name = [0u8; 256];
     let size = name_max as usize + 1;

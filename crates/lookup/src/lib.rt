@@ -1,8 +1,9 @@
-// Lookups in a metadata pair: traverse.rs lfs_dir_getslice and lfs_dir_get, fetch.rs lfs_dir_getinfo and lfs_dir_getgstate. What the Rust reads
-// through `lfs` is here the two images with their numbers, the record that fetch gave, and the global state on disk. Any bytes, numbers and
-// records are answered; a refusal alters nothing.
+// Lookups in a metadata pair: traverse.rs lfs_dir_getslice and lfs_dir_get, fetch.rs lfs_dir_getinfo and
+// lfs_dir_getgstate. What the Rust reads through `lfs` is here the two images with their numbers, the record that fetch
+// gave, and the global state on disk. Any bytes, numbers and records are answered; a refusal alters nothing.
 ghost use mathlib.Core.Path.{_≡_};
-ghost use Rattle.format.specs.Lookup.{getsliceOf, getsliceBuffer, getOf, getBuffer, getgstateOf, getgstateState, getinfoOf};
+ghost use Rattle.format.specs.Lookup.{getsliceOf, getsliceBuffer, getOf, getBuffer, getgstateOf, getgstateState};
+ghost use Rattle.format.specs.Lookup.{getinfoOf};
 use format::Altered;
 use format::Geometry;
 use format::Got;
@@ -34,8 +35,10 @@ pub fn lfs_dir_getslice(
     goff: u32,
     buffer: &mut [u8],
 ) -> Got
-    ensures { λ r. ⌜ r ≡ getsliceOf g (now (b0 .entry)) (now (b1 .entry)) n0 n1 dir gdisk gmask gtag goff (now (buffer .entry)) ⌝ }
-    ensures { λ _. ⌜ now (buffer .exit) ≡ getsliceBuffer g (now (b0 .entry)) (now (b1 .entry)) n0 n1 dir gdisk gmask gtag goff (now (buffer .entry)) ⌝ }
+    ensures { λ r. ⌜ r ≡ getsliceOf g (now (b0 .entry)) (now (b1 .entry)) n0 n1 dir gdisk gmask gtag goff
+        (now (buffer .entry)) ⌝ }
+    ensures { λ _. ⌜ now (buffer .exit) ≡ getsliceBuffer g (now (b0 .entry)) (now (b1 .entry)) n0 n1 dir gdisk gmask
+        gtag goff (now (buffer .entry)) ⌝ }
 {
     let fits = domain::record_fits(g, b0.len(), b1.len(), n0, n1, dir);
     if !(fits & (buffer.len() <= LONGEST_BUFFER)) {
@@ -62,8 +65,10 @@ pub fn lfs_dir_get(
     gtag: u32,
     buffer: &mut [u8],
 ) -> Got
-    ensures { λ r. ⌜ r ≡ getOf g (now (b0 .entry)) (now (b1 .entry)) n0 n1 dir gdisk gmask gtag (now (buffer .entry)) ⌝ }
-    ensures { λ _. ⌜ now (buffer .exit) ≡ getBuffer g (now (b0 .entry)) (now (b1 .entry)) n0 n1 dir gdisk gmask gtag (now (buffer .entry)) ⌝ }
+    ensures { λ r. ⌜ r ≡ getOf g (now (b0 .entry)) (now (b1 .entry)) n0 n1 dir gdisk gmask gtag
+        (now (buffer .entry)) ⌝ }
+    ensures { λ _. ⌜ now (buffer .exit) ≡ getBuffer g (now (b0 .entry)) (now (b1 .entry)) n0 n1 dir gdisk gmask gtag
+        (now (buffer .entry)) ⌝ }
 {
     let size = tag::lfs_tag_size(gtag) as usize;
     if buffer.len() < size {
@@ -87,7 +92,8 @@ pub fn lfs_dir_get(
     )
 }
 
-// Per lfs.c lfs_dir_getinfo. The longest name read is a parameter, and the info comes back by value: all zero on a refusal.
+// Per lfs.c lfs_dir_getinfo. The longest name read is a parameter, and the info comes back by value: all zero on a
+// refusal.
 pub fn lfs_dir_getinfo(
     g: Geometry,
     b0: &[u8],
@@ -133,7 +139,8 @@ pub fn getgstate_of(
     gdisk: LfsGstate,
     gstate: LfsGstate,
 ) -> GotGstate
-    ensures { λ r. ⌜ (r .answer ≡ getgstateOf g (now (b0 .entry)) (now (b1 .entry)) n0 n1 dir gdisk) × (r .gstate ≡ getgstateState g (now (b0 .entry)) (now (b1 .entry)) n0 n1 dir gdisk gstate) ⌝ }
+    ensures { λ r. ⌜ (r .answer ≡ getgstateOf g (now (b0 .entry)) (now (b1 .entry)) n0 n1 dir gdisk)
+        × (r .gstate ≡ getgstateState g (now (b0 .entry)) (now (b1 .entry)) n0 n1 dir gdisk gstate) ⌝ }
 {
     if !domain::record_fits(g, b0.len(), b1.len(), n0, n1, dir) {
         return GotGstate {
@@ -149,7 +156,8 @@ pub fn getgstate_of(
     }
 }
 
-// Per lfs.c lfs_dir_getgstate: the move state of a pair XORed into a lent state, where it stands. Thin, over the function above.
+// Per lfs.c lfs_dir_getgstate: the move state of a pair XORed into a lent state, where it stands. Thin, over the
+// function above.
 pub fn lfs_dir_getgstate(
     g: Geometry,
     b0: &[u8],
@@ -160,7 +168,9 @@ pub fn lfs_dir_getgstate(
     gdisk: LfsGstate,
     gstate: &mut LfsGstate,
 ) -> Altered
-    ensures { λ r. ⌜ (r ≡ getgstateOf g (now (b0 .entry)) (now (b1 .entry)) n0 n1 dir gdisk) × (now (gstate .exit) ≡ getgstateState g (now (b0 .entry)) (now (b1 .entry)) n0 n1 dir gdisk (now (gstate .entry))) ⌝ }
+    ensures { λ r. ⌜ (r ≡ getgstateOf g (now (b0 .entry)) (now (b1 .entry)) n0 n1 dir gdisk)
+        × (now (gstate .exit) ≡ getgstateState g (now (b0 .entry)) (now (b1 .entry)) n0 n1 dir gdisk
+        (now (gstate .entry))) ⌝ }
 {
     let r = getgstate_of(g, b0, b1, n0, n1, dir, gdisk, *gstate);
     *gstate = r.gstate;

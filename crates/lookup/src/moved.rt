@@ -31,7 +31,8 @@ fn gstate_in(d: &[u8]) -> LfsGstate
 // The state with the move state XORed in that stands in the entry t at `at`.
 fn xored_at(b: &[u8], t: u32, at: usize, diff: u32, gstate: LfsGstate) -> GotGstate
     requires { ⌜ at ≤ length (now b) ⌝ }
-    ensures { λ r. ⌜ (r .answer ≡ moveAnswer (now (b .entry)) (found t at diff)) × (r .gstate ≡ moveState (now (b .entry)) gstate (found t at diff)) ⌝ }
+    ensures { λ r. ⌜ (r .answer ≡ moveAnswer (now (b .entry)) (found t at diff))
+        × (r .gstate ≡ moveState (now (b .entry)) gstate (found t at diff)) ⌝ }
 {
     let mut d = [0u8; 12];
     match lookup_search::slice::read_at(b, t, at, diff, 0, &mut d) {
@@ -52,7 +53,8 @@ fn xored_at(b: &[u8], t: u32, at: usize, diff: u32, gstate: LfsGstate) -> GotGst
 // The same of the newest move state; with none, all stays.
 pub fn read(b: &[u8], dir: LfsMdir, gdisk: LfsGstate, gstate: LfsGstate) -> GotGstate
     requires { ⌜ dir .off ≤ length (now b) ⌝ }
-    ensures { λ r. ⌜ (r .answer ≡ moveAnswer (now (b .entry)) (searched (now (b .entry)) dir gdisk moveMask moveKey)) × (r .gstate ≡ moveState (now (b .entry)) gstate (searched (now (b .entry)) dir gdisk moveMask moveKey)) ⌝ }
+    ensures { λ r. ⌜ (r .answer ≡ moveAnswer (now (b .entry)) (searched (now (b .entry)) dir gdisk moveMask moveKey))
+        × (r .gstate ≡ moveState (now (b .entry)) gstate (searched (now (b .entry)) dir gdisk moveMask moveKey)) ⌝ }
 {
     let gmask = tag::lfs_mktag(TYPE3_MASK, 0, 0);
     let gtag = tag::lfs_mktag(LFS_TYPE_MOVESTATE as u32, 0, 12);

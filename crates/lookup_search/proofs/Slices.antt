@@ -25,7 +25,8 @@ module _ (b : List ℕ) (t at diff goff : ℕ) (d : List ℕ) (s n : ℕ) (es : 
   ends = rw (en, es)
 
   pub slice-past : length b < at + 4 + goff + n
-      → (got.Refused Corrupt ≡ sliceAnswer b goff (length d) (found t at diff)) × (d ≡ sliceBuffer b goff d (found t at diff))
+      → (got.Refused Corrupt ≡ sliceAnswer b goff (length d) (found t at diff))
+      × (d ≡ sliceBuffer b goff d (found t at diff))
   slice-past h =
       let e = lt-leb (sliceEnd t at goff (length d)) (length b) (omega (arith, ends)) in
       (sym (rw e), sym (rw e))
@@ -38,13 +39,17 @@ module _ (b : List ℕ) (t at diff goff : ℕ) (d : List ℕ) (s n : ℕ) (es : 
       → l ≡ take (min (tagSize t) (length d)) (drop (at + 4 + goff) b) ++ replicate (length d - tagSize t) 0
   whole m l h em el =
       let x : List ℕ = take n (drop (at + 4 + goff) b) in
-      let ex : length x ≡ n = length-take-le n (drop (at + 4 + goff) b) (omega (arith, length-drop (at + 4 + goff) b)) in
+      let ex : length x ≡ n = length-take-le n (drop (at + 4 + goff) b)
+      (omega (arith, length-drop (at + 4 + goff) b)) in
       let long : length m ≡ length d = ap length em ∙ omega (arith, length-append x (drop n d), length-drop n d, en) in
       let front : take n m ≡ x = ap (take n) em ∙ take-at x (drop n d) n ex in
-      el ∙ ap (λ (y : List ℕ). y ++ replicate (length m - n) 0) front ∙ ap (λ (k : ℕ). x ++ replicate k 0) (ap (λ (k : ℕ). k - n) long ∙ rest)
-      ∙ ap (λ (k : ℕ). take k (drop (at + 4 + goff) b) ++ replicate (length d - tagSize t) 0) (en ∙ ap (λ (k : ℕ). min k (length d)) es)
+      el ∙ ap (λ (y : List ℕ). y ++ replicate (length m - n) 0) front
+      ∙ ap (λ (k : ℕ). x ++ replicate k 0) (ap (λ (k : ℕ). k - n) long ∙ rest)
+      ∙ ap (λ (k : ℕ). take k (drop (at + 4 + goff) b) ++ replicate (length d - tagSize t) 0)
+      (en ∙ ap (λ (k : ℕ). min k (length d)) es)
 
-  pub slice-in : at + 4 + goff + n ≤ length b → (r : ℕ) → r ≡ plus32 t diff → (m l : List ℕ) → m ≡ filled (drop (at + 4 + goff) b) d n → l ≡ zeroed n m
+  pub slice-in : at + 4 + goff + n ≤ length b → (r : ℕ) → r ≡ plus32 t diff → (m l : List ℕ)
+      → m ≡ filled (drop (at + 4 + goff) b) d n → l ≡ zeroed n m
       → (got.Found r ≡ sliceAnswer b goff (length d) (found t at diff)) × (l ≡ sliceBuffer b goff d (found t at diff))
   slice-in h r er m l em el =
       let e = le-leb (sliceEnd t at goff (length d)) (length b) (omega (arith, ends)) in
@@ -58,11 +63,18 @@ slice-length b goff d (found t at diff) = go (leb (sliceEnd t at goff (length d)
     x : List ℕ
     x = take (min (tagSize t) (length d)) (drop (sliceStart at goff) b)
 
-    go : (c : Bool) → leb (sliceEnd t at goff (length d)) (length b) ≡ c → length (cond c (x ++ replicate (length d - tagSize t) 0) d) ≡ length d
+    go : (c : Bool) → leb (sliceEnd t at goff (length d)) (length b) ≡ c
+        → length (cond c (x ++ replicate (length d - tagSize t) 0) d) ≡ length d
     go true e =
         let h : sliceEnd t at goff (length d) ≤ length b = leb-true (sliceEnd t at goff (length d)) (length b) e in
-        let ex : length x ≡ min (tagSize t) (length d) = length-take-le (min (tagSize t) (length d)) (drop (sliceStart at goff) b) (omega (arith, length-drop (sliceStart at goff) b)) in
-        omega (arith, length-append x (replicate (length d - tagSize t) 0), length-replicate {A = ℕ} (length d - tagSize t) 0)
+        let ex : length x ≡ min (tagSize t) (length d) = length-take-le (min (tagSize t) (length d))
+        (drop (sliceStart at goff) b) (omega (arith, length-drop (sliceStart at goff) b)) in
+        omega (
+          arith,
+          length-append x (replicate (length d - tagSize t) 0),
+          length-replicate {A =
+              ℕ} (length d - tagSize t) 0,
+        )
     go false e = refl
 
 -- ---- h is what the search answers, u what it should

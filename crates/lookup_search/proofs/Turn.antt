@@ -1,4 +1,5 @@
--- A turn of the walk back, in each of the ways that the code leaves it; and where a pending move lets it start. Assumes nothing.
+-- A turn of the walk back, in each of the ways that the code leaves it; and where a pending move lets it start. Assumes
+-- nothing.
 use mathlib.Core.Path.{_≡_, refl, sym, ap, _∙_}
 use mathlib.Core.Bool.{Bool, true, false, not, cond, _&&_}
 use mathlib.Core.List.{List, _∷_}
@@ -66,12 +67,14 @@ module _ (b : List ℕ) (dir : LfsMdir) (gdisk : LfsGstate) (mask key : ℕ) whe
   moved = tagId (gdisk .tag)
 
   pub starts : searched b dir gdisk mask key
-      ≡ cond (moves && eqb moved (tagId key)) noEntry (searchedFrom b dir mask key (cond (moves && ltb moved (tagId key)) (minus32 0 (2 ^ 10)) 0))
+      ≡ cond (moves && eqb moved (tagId key)) noEntry
+      (searchedFrom b dir mask key (cond (moves && ltb moved (tagId key)) (minus32 0 (2 ^ 10)) 0))
   unfolding searched
   starts = go moves (eqb moved (tagId key)) (ltb moved (tagId key))
     where
       go : (p e l : Bool)
-          → cond p (cond e noEntry (cond l (searchedFrom b dir mask key (minus32 0 (2 ^ 10))) (searchedFrom b dir mask key 0))) (searchedFrom b dir mask key 0)
+          → cond p (cond e noEntry (cond l (searchedFrom b dir mask key (minus32 0 (2 ^ 10)))
+          (searchedFrom b dir mask key 0))) (searchedFrom b dir mask key 0)
           ≡ cond (p && e) noEntry (searchedFrom b dir mask key (cond (p && l) (minus32 0 (2 ^ 10)) 0))
       go true true l = refl
       go true false true = refl
@@ -79,11 +82,13 @@ module _ (b : List ℕ) (dir : LfsMdir) (gdisk : LfsGstate) (mask key : ℕ) whe
       go false e l = refl
 
   -- i and j are the ids of the mask and the key, m that of the move, h whether it is here
-  module _ (i m j : ℕ) (h : Bool) (ei : i ≡ tagId mask) (eh : h ≡ gstateHasMoveHere gdisk (dir .pair)) (em : m ≡ moved) (ej : j ≡ tagId key) where
+  module _ (i m j : ℕ) (h : Bool) (ei : i ≡ tagId mask) (eh : h ≡ gstateHasMoveHere gdisk (dir .pair)) (em : m ≡ moved)
+      (ej : j ≡ tagId key) where
     pub start-moved : (not (eqb i 0) && h) && eqb m j ≡ true → noEntry ≡ searched b dir gdisk mask key
     start-moved q = sym (starts ∙ rw (← ei, ← eh, ← em, ← ej, q))
 
     -- d is the difference at the start, u what the walk answers
-    pub start-from : (not (eqb i 0) && h) && eqb m j ≡ false → (d : ℕ) → d ≡ cond ((not (eqb i 0) && h) && ltb m j) (minus32 0 (2 ^ 10)) 0
+    pub start-from : (not (eqb i 0) && h) && eqb m j ≡ false → (d : ℕ)
+        → d ≡ cond ((not (eqb i 0) && h) && ltb m j) (minus32 0 (2 ^ 10)) 0
         → (u : Found) → u ≡ searchedFrom b dir mask key d → u ≡ searched b dir gdisk mask key
     start-from q d ed u eu = eu ∙ sym (starts ∙ rw (← ei, ← eh, ← em, ← ej, q, ← ed))

@@ -1,6 +1,6 @@
-// The search of a lookup: the newest entry that a mask and a key match, met on the way back from the end of a block's committed log. This is
-// the loop of traverse.rs lfs_dir_getslice; what is done with the entry that it finds stands in crate `lookup`. The functions require that the
-// end is inside the block, and are for the crates of this repository.
+// The search of a lookup: the newest entry that a mask and a key match, met on the way back from the end of a block's
+// committed log. This is the loop of traverse.rs lfs_dir_getslice; what is done with the entry that it finds stands in
+// crate `lookup`. The functions require that the end is inside the block, and are for the crates of this repository.
 ghost use mathlib.Core.Path.{_≡_};
 ghost use mathlib.Core.Bool.{cond};
 ghost use Prim.Native.Nat.{_^_, _≤_};
@@ -48,8 +48,8 @@ fn splice_as_ids(tag: u32) -> u32
     std::num::wrapping_sub_u32(tag::splice_from_lowest(tag) * 0x400, 0x2_0000)
 }
 
-// The difference behind a tag: both are there before the choice, so that it compiles to a select. Where the splices of a log stand, no
-// branch could guess.
+// The difference behind a tag: both are there before the choice, so that it compiles to a select. Where the splices of
+// a log stand, no branch could guess.
 fn diff_after(spliced: bool, tag: u32, gdiff: u32) -> u32
     ensures { λ r. ⌜ r ≡ cond spliced (plus32 gdiff (asIds (tagSplice tag))) gdiff ⌝ }
 {
@@ -64,11 +64,12 @@ fn key_at(gtag: u32, gdiff: u32) -> u32
     std::num::wrapping_sub_u32(gtag, gdiff)
 }
 
-// The walk back, from an end, the tag that ends there, and a difference. A turn has no branch but the three that end it: what is rare, and
-// the match.
+// The walk back, from an end, the tag that ends there, and a difference. A turn has no branch but the three that end
+// it: what is rare, and the match.
 fn find_back(b: &[u8], end: usize, etag: u32, gmask: u32, gtag: u32, diff: u32) -> Hit
     requires { ⌜ end ≤ length (now b) ⌝ }
-    ensures { λ r. ⌜ (foundAs r ≡ wlook (hasIds gmask) gmask gtag diff (back (now (b .entry)) end etag)) × Inside end r ⌝ }
+    ensures { λ r. ⌜ (foundAs r ≡ wlook (hasIds gmask) gmask gtag diff (back (now (b .entry)) end etag))
+        × Inside end r ⌝ }
 {
     let ids = tag::lfs_tag_id(gmask) != 0;
     let mut off = end;

@@ -1,4 +1,5 @@
-// The slice of an entry: its bytes from an offset on, into a lent buffer. The block is one that a record was read from: its end is inside.
+// The slice of an entry: its bytes from an offset on, into a lent buffer. The block is one that a record was read from:
+// its end is inside.
 ghost use mathlib.Core.Path.{_≡_};
 ghost use mathlib.Core.List.{_++_};
 ghost use Prim.Native.Nat.{_+_, _-_, _≤_, min};
@@ -32,7 +33,8 @@ fn copy_in(b: &[u8], from: usize, n: usize, buffer: &mut [u8])
 // Zeros from n on.
 fn zero_rest(n: usize, buffer: &mut [u8])
     requires { ⌜ n ≤ length (now buffer) ⌝ }
-    ensures { λ _. ⌜ now (buffer .exit) ≡ take n (now (buffer .entry)) ++ replicate (length (now (buffer .entry)) - n) 0 ⌝ }
+    ensures { λ _. ⌜ now (buffer .exit) ≡ take n (now (buffer .entry)) ++ replicate (length (now (buffer .entry)) - n)
+        0 ⌝ }
 {
     let mut i = n;
     while i < buffer.len() {
@@ -68,8 +70,10 @@ pub fn read(
     buffer: &mut [u8],
 ) -> Got
     requires { ⌜ dir .off ≤ length (now b) ⌝ }
-    ensures { λ r. ⌜ r ≡ sliceAnswer (now (b .entry)) goff (length (now (buffer .entry))) (searched (now (b .entry)) dir gdisk gmask gtag) ⌝ }
-    ensures { λ _. ⌜ now (buffer .exit) ≡ sliceBuffer (now (b .entry)) goff (now (buffer .entry)) (searched (now (b .entry)) dir gdisk gmask gtag) ⌝ }
+    ensures { λ r. ⌜ r ≡ sliceAnswer (now (b .entry)) goff (length (now (buffer .entry)))
+        (searched (now (b .entry)) dir gdisk gmask gtag) ⌝ }
+    ensures { λ _. ⌜ now (buffer .exit) ≡ sliceBuffer (now (b .entry)) goff (now (buffer .entry))
+        (searched (now (b .entry)) dir gdisk gmask gtag) ⌝ }
 {
     match crate::newest(b, dir, gdisk, gmask, gtag) {
         Hit::Nothing => Got::Refused(Refusal::NoEntry),

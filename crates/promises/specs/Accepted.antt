@@ -1,5 +1,6 @@
--- Demand 2: "Commit and compaction are accepted exactly when document 01 says". The conditions, one by one, each the negation of one refusal; a call
--- is accepted exactly if all of them hold, and then with these entries and this check. Assumes nothing.
+-- Demand 2: "Commit and compaction are accepted exactly when document 01 says". The conditions, one by one, each the
+-- negation of one refusal; a call is accepted exactly if all of them hold, and then with these entries and this check.
+-- Assumes nothing.
 use mathlib.Core.Path.{_≡_, refl}
 use mathlib.Core.Logic.{_↔_}
 use mathlib.Core.Bool.{Bool, true, false, not}
@@ -17,8 +18,10 @@ use Rattle.format.specs.Regular.{Regular}
 use Rattle.format.specs.Commit.{Item, checkTag}
 use Rattle.format.specs.Stores.{coincides}
 use Rattle.format.specs.Entries.{itemsOf, good, judge}
-use Rattle.format.specs.Writer.{roundedEnd, checkSize, checkAt, commitFits, roomClean, blockAt, isSecond, accepted, placed, appended, verdictOf}
-use Rattle.format.specs.Compaction.{compactionItems, compactAccepted, compactCheckAt, placedAnew, compactable, compactVerdict}
+use Rattle.format.specs.Writer.{roundedEnd, checkSize, checkAt, commitFits, roomClean, blockAt, isSecond, accepted}
+use Rattle.format.specs.Writer.{placed, appended, verdictOf}
+use Rattle.format.specs.Compaction.{compactionItems, compactAccepted, compactCheckAt, placedAnew, compactable}
+use Rattle.format.specs.Compaction.{compactVerdict}
 use Rattle.format.specs.declared.Geometry.{Geometry}
 use Rattle.format.specs.declared.LfsMdir.{LfsMdir}
 use Rattle.format.specs.declared.Entry.{Entry}
@@ -55,11 +58,14 @@ module _ (g : Geometry) (b0 b1 : List ℕ) (n0 n1 count seed : ℕ) (entries : L
     pub check : size ≡ checkSize (g .«prog_size») (checkAt (log b) is)
 
 -- of a verdict that says the same
-alike : (g : Geometry) (b0 b1 : List ℕ) (n0 n1 count seed : ℕ) (entries : List Entry) (dat : List ℕ) (w v : Bool) (is js : List Item) (k l : ℕ) → w ≡ v → is ≡ js → k ≡ l
-    → CommitConditions g b0 b1 n0 n1 count seed entries dat w (blockAt w b0 b1) is k → CommitConditions g b0 b1 n0 n1 count seed entries dat v (blockAt v b0 b1) js l
+alike : (g : Geometry) (b0 b1 : List ℕ) (n0 n1 count seed : ℕ) (entries : List Entry) (dat : List ℕ) (w v : Bool)
+    (is js : List Item) (k l : ℕ) → w ≡ v → is ≡ js → k ≡ l
+    → CommitConditions g b0 b1 n0 n1 count seed entries dat w (blockAt w b0 b1) is k
+    → CommitConditions g b0 b1 n0 n1 count seed entries dat v (blockAt v b0 b1) js l
 alike g b0 b1 n0 n1 count seed entries dat w v is js k l e f h c = rw (← e, ← f, ← h) c
 
-module _ (g : Geometry) (b0 b1 : List ℕ) (n0 n1 count seed : ℕ) (entries : List Entry) (dat : List ℕ) (second : Bool) (is : List Item) (size : ℕ) where
+module _ (g : Geometry) (b0 b1 : List ℕ) (n0 n1 count seed : ℕ) (entries : List Entry) (dat : List ℕ) (second : Bool)
+    (is : List Item) (size : ℕ) where
   abbrev prog : ℕ
   prog = g .«prog_size»
 
@@ -67,9 +73,11 @@ module _ (g : Geometry) (b0 b1 : List ℕ) (n0 n1 count seed : ℕ) (entries : L
       → CommitConditions g b0 b1 n0 n1 count seed entries dat second (blockAt second b0 b1) is size
   unfolding verdictOf appended placed
   conditions h =
-      let p = past (not (commitFits g (length b0) (length b1) n0 n1 (length entries) (length dat))) Invalid _ second is size h in
+      let p = past (not (commitFits g (length b0) (length b1) n0 n1 (length entries) (length dat))) Invalid _ second is
+      size h in
       let f = found-then (fetchOf g b0 b1 n0 n1 count seed)
-      (λ m. appended prog (isSecond n0 m) (blockAt (isSecond n0 m) b0 b1) (log (blockAt (isSecond n0 m) b0 b1)) entries dat) second is size (p .1) in
+      (λ m. appended prog (isSecond n0 m) (blockAt (isSecond n0 m) b0 b1) (log (blockAt (isSecond n0 m) b0 b1)) entries
+      dat) second is size (p .1) in
       let w : Bool = isSecond n0 (f .m) in
       let b : List ℕ = blockAt (isSecond n0 (f .m)) b0 b1 in
       let I : List Item = itemsOf dat entries in
@@ -77,11 +85,13 @@ module _ (g : Geometry) (b0 b1 : List ℕ) (n0 n1 count seed : ℕ) (entries : L
       let j = good-then (judge dat 0 (countOf 0 (log b)) entries) _ second is size (q .1) in
       let r = past (ltb (length b) (roundedEnd prog (checkAt (log b) I))) NoSpace _ second is size (j .then) in
       let c = past (not (roomClean prog b (logEnd (log b)) (logEndTag (log b)))) Unclean _ second is size (r .1) in
-      let l = past (coincides allOnes (logEndTag (log b)) I (checkTag (checkSize prog (checkAt (log b) I)))) Coincidence _ second is size (c .1) in
+      let l = past (coincides allOnes (logEndTag (log b)) I (checkTag (checkSize prog (checkAt (log b) I)))) Coincidence
+      _ second is size (c .1) in
       let place : isSecond n0 (f .m) ≡ second = cc in
       let items : I ≡ is = cc in
       let check : checkSize prog (checkAt (log b) I) ≡ size = cc in
-      alike g b0 b1 n0 n1 count seed entries dat w second I is (checkSize prog (checkAt (log b) I)) size place items check
+      alike g b0 b1 n0 n1 count seed entries dat w second I is (checkSize prog (checkAt (log b) I)) size place items
+      check
       (record {
         fits = not-false _ (p .0);
         dir = f .m;
@@ -102,7 +112,18 @@ module _ (g : Geometry) (b0 b1 : List ℕ) (n0 n1 count seed : ℕ) (entries : L
   accepts : CommitConditions g b0 b1 n0 n1 count seed entries dat second (blockAt second b0 b1) is size
       → verdictOf g b0 b1 n0 n1 count seed entries dat ≡ accepted second is size
   unfolding verdictOf appended placed
-  accepts c = rw (c .fits, c .found, c .place, c .regular, c .judged, ← c .items, c .room, c .clean, ← c .check, c .lucky)
+  accepts c = rw (
+    c .fits,
+    c .found,
+    c .place,
+    c .regular,
+    c .judged,
+    ← c .items,
+    c .room,
+    c .clean,
+    ← c .check,
+    c .lucky,
+  )
 
   pub commit-accepted-exactly : (verdictOf g b0 b1 n0 n1 count seed entries dat ≡ accepted second is size)
       ↔ CommitConditions g b0 b1 n0 n1 count seed entries dat second (blockAt second b0 b1) is size
@@ -129,29 +150,35 @@ module _ (g : Geometry) (b0 b1 : List ℕ) (n0 n1 count seed : ℕ) where
     pub items : is ≡ compactionItems (log b)
     pub check : size ≡ checkSize (g .«prog_size») (compactCheckAt is)
 
-alike-anew : (g : Geometry) (b0 b1 : List ℕ) (n0 n1 count seed : ℕ) (w v : Bool) (r s : ℕ) (is js : List Item) (k l : ℕ) → w ≡ v → r ≡ s → is ≡ js → k ≡ l
-    → CompactConditions g b0 b1 n0 n1 count seed w (blockAt w b0 b1) r is k → CompactConditions g b0 b1 n0 n1 count seed v (blockAt v b0 b1) s js l
+alike-anew : (g : Geometry) (b0 b1 : List ℕ) (n0 n1 count seed : ℕ) (w v : Bool) (r s : ℕ) (is js : List Item) (k l : ℕ)
+    → w ≡ v → r ≡ s → is ≡ js → k ≡ l
+    → CompactConditions g b0 b1 n0 n1 count seed w (blockAt w b0 b1) r is k
+    → CompactConditions g b0 b1 n0 n1 count seed v (blockAt v b0 b1) s js l
 alike-anew g b0 b1 n0 n1 count seed w v r s is js k l e d f h c = rw (← e, ← d, ← f, ← h) c
 
-module _ (g : Geometry) (b0 b1 : List ℕ) (n0 n1 count seed : ℕ) (second : Bool) (rev : ℕ) (is : List Item) (size : ℕ) where
+module _ (g : Geometry) (b0 b1 : List ℕ) (n0 n1 count seed : ℕ) (second : Bool) (rev : ℕ) (is : List Item)
+    (size : ℕ) where
   compact-conditions : compactVerdict g b0 b1 n0 n1 count seed ≡ compactAccepted second rev is size
       → CompactConditions g b0 b1 n0 n1 count seed second (blockAt second b0 b1) rev is size
   unfolding compactVerdict compactable placedAnew
   compact-conditions h =
       let p : ℕ = g .«prog_size» in
       let f = anew.found-then p b0 b1 n0 (fetchOf g b0 b1 n0 n1 count seed) second rev is size h in
-      let t : compactable p (isSecond n0 (f .0)) (blockAt (isSecond n0 (f .0)) b0 b1) (log (blockAt (isSecond n0 (f .0)) b0 b1)) ≡ compactAccepted second rev is size = rw (f .2) at h in
+      let t : compactable p (isSecond n0 (f .0)) (blockAt (isSecond n0 (f .0)) b0 b1)
+      (log (blockAt (isSecond n0 (f .0)) b0 b1)) ≡ compactAccepted second rev is size = rw (f .2) at h in
       let b : List ℕ = blockAt (isSecond n0 (f .0)) b0 b1 in
       let I : List Item = compactionItems (log b) in
       let R : ℕ = plus32 (le32 b) 1 in
       let q = anew.past (not (Regular (log b))) Irregular _ second rev is size t in
       let r = anew.past (ltb (length b) (roundedEnd p (compactCheckAt I))) NoSpace _ second rev is size (q .1) in
-      let l = anew.past (coincides (crc allOnes (toLe32 R)) allOnes I (checkTag (checkSize p (compactCheckAt I)))) Coincidence _ second rev is size (r .1) in
+      let l = anew.past (coincides (crc allOnes (toLe32 R)) allOnes I (checkTag (checkSize p (compactCheckAt I))))
+      Coincidence _ second rev is size (r .1) in
       let place : isSecond n0 (f .0) ≡ second = cc in
       let next : R ≡ rev = cc in
       let items : I ≡ is = cc in
       let check : checkSize p (compactCheckAt I) ≡ size = cc in
-      alike-anew g b0 b1 n0 n1 count seed (isSecond n0 (f .0)) second R rev I is (checkSize p (compactCheckAt I)) size place next items check
+      alike-anew g b0 b1 n0 n1 count seed (isSecond n0 (f .0)) second R rev I is (checkSize p (compactCheckAt I)) size
+      place next items check
       (record {
         dir = f .0;
         read = f .1;

@@ -1,9 +1,9 @@
--- Demand 2: "the contracts decide": of any two results that a contract allows, equality is proved. Every clause of a public
--- contract is an equation: the answer, or what stands in a buffer, a state or an image when the call returns, is a
--- definition of `format` applied to what the call was given. So one law decides each of them. That is all there is to say
--- of fetch, the lookups, the listing, the audit, the words, the state's XOR and the other leaves. The four calls that write
--- cite `format`'s `CommitLeaves` and its like for what they leave, beside the equation of the answer: of those the law is
--- applied here. Assumes nothing.
+-- Demand 2: "the contracts decide": of any two results that a contract allows, equality is proved. Every clause of a
+-- public contract is an equation: the answer, or what stands in a buffer, a state or an image when the call returns, is
+-- a definition of `format` applied to what the call was given. So one law decides each of them. That is all there is to
+-- say of fetch, the lookups, the listing, the audit, the words, the state's XOR and the other leaves. The four calls
+-- that write cite `format`'s `CommitLeaves` and its like for what they leave, beside the equation of the answer: of
+-- those the law is applied here. Assumes nothing.
 use mathlib.Core.Path.{_≡_, sym, _∙_}
 use mathlib.Core.List.{List}
 use Prim.Native.Nat.{ℕ}

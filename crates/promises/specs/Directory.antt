@@ -1,6 +1,6 @@
--- The directory machine. "In a regular log, for ids below count and no pending move, lookup with these masks equals a simple directory machine: slots
--- inserted, removed, attributes set." `Shows` (format/specs/Stopped.antt) says it of `lfs_dir_getslice`'s own definition on the bytes, answer word
--- and buffer. Assumes nothing.
+-- The directory machine. "In a regular log, for ids below count and no pending move, lookup with these masks equals a
+-- simple directory machine: slots inserted, removed, attributes set." `Shows` (format/specs/Stopped.antt) says it of
+-- `lfs_dir_getslice`'s own definition on the bytes, answer word and buffer. Assumes nothing.
 use mathlib.Core.Path.{_≡_, refl}
 use mathlib.Core.Bool.{true}
 use mathlib.Core.List.{List}
@@ -17,8 +17,8 @@ use Rattle.format.specs.declared.LfsMdir.{LfsMdir}
 use Rattle.format.specs.declared.Fetched.the-variants.{Found}
 use Rattle.theory.specs.Stopped.Shown.{block-is, shows}
 
--- A pair that fetch finds, and whose log is regular, shows the machine of that log: the record's count is its number of slots, its tail is the
--- record's, and every directory lookup with the record answers what the machine has.
+-- A pair that fetch finds, and whose log is regular, shows the machine of that log: the record's count is its number of
+-- slots, its tail is the record's, and every directory lookup with the record answers what the machine has.
 pub directory-lookups : (g : Geometry) (b0 b1 : List ℕ) (n0 n1 count seed : ℕ) (dir : LfsMdir) (read : ℕ)
     → fetchOf g b0 b1 n0 n1 count seed ≡ Found dir read → Regular (log (blockOf b0 b1 n0 dir)) ≡ true
     → Shows g n0 n1 b0 b1 (machineOf (log (blockOf b0 b1 n0 dir)))

@@ -1,5 +1,6 @@
--- Demand 3 on document 01's listing pair, by computation: a commit of a new deadline for q212, and a compaction, each stopped after every number of
--- its stores. And that both are accepted, so that the theorems of Stopped.antt speak of them. Assumes nothing.
+-- Demand 3 on document 01's listing pair, by computation: a commit of a new deadline for q212, and a compaction, each
+-- stopped after every number of its stores. And that both are accepted, so that the theorems of Stopped.antt speak of
+-- them. Assumes nothing.
 use mathlib.Core.Path.{_≡_, refl}
 use mathlib.Core.Bool.{Bool, true, false, _&&_}
 use mathlib.Core.Option.{some}
@@ -25,8 +26,10 @@ use Rattle.format.specs.Commit.{commitBytes, written}
 use Rattle.format.specs.Stores.{erased, allErased, fill, entriesLength, appending, coincides, compactBytes, compacting}
 use Rattle.format.specs.Entries.{entryBody, judge, itemsOf}
 use Rattle.format.specs.Directory.{empty, upd, dir, apply, applyAll, act, acts, dirOf, moveOf}
-use Rattle.format.specs.Writer.{unlimited, roundedEnd, checkSize, commitFits, roomClean, placed, appended, accepted, verdictOf, Images, commitImages}
-use Rattle.format.specs.Compaction.{slotItems, dirItems, compactionItems, placedAnew, compactable, compactAccepted, compactVerdict, compactImages}
+use Rattle.format.specs.Writer.{unlimited, roundedEnd, checkSize, commitFits, roomClean, placed, appended, accepted}
+use Rattle.format.specs.Writer.{verdictOf, Images, commitImages}
+use Rattle.format.specs.Compaction.{slotItems, dirItems, compactionItems, placedAnew, compactable, compactAccepted}
+use Rattle.format.specs.Compaction.{compactVerdict, compactImages}
 use Rattle.format.specs.Machine.{machineOf, ran, asked, name, attribute}
 use Rattle.format.specs.Stopped.{Bytes, Stopped}
 use Rattle.format.specs.declared.Geometry.{Geometry}
@@ -40,12 +43,14 @@ use Rattle.promises.specs.Stopped.{commit-stopped, compact-stopped}
 abbrev geometry : Geometry
 geometry = record { «block_size» = 128; «prog_size» = 16 }
 
--- "first 128 bytes, revision 1, raw tags 0xbfefffff, 0x40000004 + "q212", 0x20000007 + "abc", 0x17500007 + 90 5f 01 00, 0x674ffc09, checksum,
--- then 0xff"; "second block all 0xff"
+-- "first 128 bytes, revision 1, raw tags 0xbfefffff, 0x40000004 + "q212", 0x20000007 + "abc", 0x17500007 + 90 5f 01 00,
+-- 0x674ffc09, checksum, then 0xff"; "second block all 0xff"
 abbrev first : List ℕ
 first =
-    (0x01 ∷ 0x00 ∷ 0x00 ∷ 0x00 ∷ 0xbf ∷ 0xef ∷ 0xff ∷ 0xff ∷ 0x40 ∷ 0x00 ∷ 0x00 ∷ 0x04 ∷ 0x71 ∷ 0x32 ∷ 0x31 ∷ 0x32 ∷ 0x20 ∷ 0x00 ∷ 0x00 ∷ 0x07
-    ∷ 0x61 ∷ 0x62 ∷ 0x63 ∷ 0x17 ∷ 0x50 ∷ 0x00 ∷ 0x07 ∷ 0x90 ∷ 0x5f ∷ 0x01 ∷ 0x00 ∷ 0x67 ∷ 0x4f ∷ 0xfc ∷ 0x09 ∷ 0x47 ∷ 0x38 ∷ 0xe4 ∷ 0x4d ∷ [])
+    (0x01 ∷ 0x00 ∷ 0x00 ∷ 0x00 ∷ 0xbf ∷ 0xef ∷ 0xff ∷ 0xff ∷ 0x40 ∷ 0x00 ∷ 0x00 ∷ 0x04 ∷ 0x71 ∷ 0x32 ∷ 0x31 ∷ 0x32
+    ∷ 0x20 ∷ 0x00 ∷ 0x00 ∷ 0x07
+    ∷ 0x61 ∷ 0x62 ∷ 0x63 ∷ 0x17 ∷ 0x50 ∷ 0x00 ∷ 0x07 ∷ 0x90 ∷ 0x5f ∷ 0x01 ∷ 0x00 ∷ 0x67 ∷ 0x4f ∷ 0xfc ∷ 0x09 ∷ 0x47
+    ∷ 0x38 ∷ 0xe4 ∷ 0x4d ∷ [])
     ++ erased 89
 
 abbrev second : List ℕ
@@ -64,7 +69,8 @@ day = 0x90 ∷ 0x5f ∷ 0x01 ∷ 0x00 ∷ []
 abbrev noMove : LfsGstate
 noMove = record { tag = 0; pair = record { n0 = 0; n1 = 0 } }
 
--- what a controller sees when it starts on two images: which block answers, its revision and end, and the deadline of slot 0
+-- what a controller sees when it starts on two images: which block answers, its revision and end, and the deadline of
+-- slot 0
 pub record Seen : Type 0 where
   pub block : ℕ
   pub rev : ℕ
@@ -77,7 +83,12 @@ nothing = record { block = 9; rev = 0; end = 0; due = [] }
 pub seenBy : List ℕ → List ℕ → Fetched → Seen
 seenBy i0 i1 (fetched.Refused r) = nothing
 seenBy i0 i1 (fetched.Found m s) =
-    record { block = m .pair .n0; rev = m .rev; end = m .off; due = getsliceBuffer geometry i0 i1 0 1 m noMove maskType3 (tagOf 0x374 0 0) 0 (replicate 4 0) }
+    record {
+      block = m .pair .n0;
+      rev = m .rev;
+      end = m .off;
+      due = getsliceBuffer geometry i0 i1 0 1 m noMove maskType3 (tagOf 0x374 0 0) 0 (replicate 4 0);
+    }
 
 abbrev seen : Images → Seen
 seen i = seenBy (i .b0) (i .b1) (fetchOf geometry (i .b0) (i .b1) 0 1 0 0)
@@ -92,22 +103,47 @@ upTo (suc n) = upTo n ++ (suc n ∷ [])
 -- 16 stores: after each of the first 15 the old deadline, after the last the new one
 pub commit-cut : map (λ n. seen (commitImages geometry first second 0 1 0 0 (deadline ∷ []) hour n)) (upTo 17)
     ≡ replicate 16 old ++ replicate 2 (record { block = 0; rev = 1; end = 64; due = hour })
-unfolding upTo seenBy commitImages verdictOf commitFits pairFits geometryFits fetchOf tooHigh view rank log committed walk walkFrom walkIn classOf readBehind bodyLength tagLength tagFlipped be32 le32 toBe32 toLe32 xor crc crcByte crcBits crcBit mdirOf erasedOf stoppedStraight span eventLength tagAfter countOf counted splitOf tailOf forwardOf seedOf appended Regular regularFrom ruleOf ruleHolds countAfter judge entryBody placed roundedEnd checkSize roomClean allErased coincides fill entriesLength tagOf appending commitBytes getsliceBuffer getsliceFits recordFits searched back backs wlook splicedAt asIds
+unfolding upTo seenBy commitImages verdictOf commitFits pairFits geometryFits fetchOf tooHigh view rank log committed
+    walk walkFrom walkIn classOf readBehind bodyLength tagLength tagFlipped be32 le32 toBe32 toLe32 xor crc crcByte
+    crcBits crcBit mdirOf erasedOf stoppedStraight span eventLength tagAfter countOf counted splitOf tailOf forwardOf
+    seedOf appended Regular regularFrom ruleOf ruleHolds countAfter judge entryBody placed roundedEnd checkSize
+    roomClean allErased coincides fill entriesLength tagOf appending commitBytes getsliceBuffer getsliceFits recordFits
+    searched back backs wlook splicedAt asIds
 commit-cut = refl
 
--- 40 stores, the first the erase: after each of the first 39 the old pair, after the last the second block with the next revision
+-- 40 stores, the first the erase: after each of the first 39 the old pair, after the last the second block with the
+-- next revision
 pub compaction-cut : map (λ n. seen (compactImages geometry first second 0 1 0 0 n)) (upTo 41)
     ≡ replicate 40 old ++ replicate 2 (record { block = 1; rev = 2; end = 48; due = day })
-unfolding upTo seenBy compactImages compactVerdict compactable placedAnew compacting compactBytes compactionItems dirItems slotItems dirOf dir acts act apply upd empty moveOf verdictOf commitFits pairFits geometryFits fetchOf tooHigh view rank log committed walk walkFrom walkIn classOf readBehind bodyLength tagLength tagFlipped be32 le32 toBe32 toLe32 xor crc crcByte crcBits crcBit mdirOf erasedOf stoppedStraight span eventLength tagAfter countOf counted splitOf tailOf forwardOf seedOf appended Regular regularFrom ruleOf ruleHolds countAfter judge entryBody placed roundedEnd checkSize roomClean allErased coincides fill entriesLength tagOf appending commitBytes getsliceBuffer getsliceFits recordFits searched back backs wlook splicedAt asIds
+unfolding upTo seenBy compactImages compactVerdict compactable placedAnew compacting compactBytes compactionItems
+    dirItems slotItems dirOf dir acts act apply upd empty moveOf verdictOf commitFits pairFits geometryFits fetchOf
+    tooHigh view rank log committed walk walkFrom walkIn classOf readBehind bodyLength tagLength tagFlipped be32 le32
+    toBe32 toLe32 xor crc crcByte crcBits crcBit mdirOf erasedOf stoppedStraight span eventLength tagAfter countOf
+    counted splitOf tailOf forwardOf seedOf appended Regular regularFrom ruleOf ruleHolds countAfter judge entryBody
+    placed roundedEnd checkSize roomClean allErased coincides fill entriesLength tagOf appending commitBytes
+    getsliceBuffer getsliceFits recordFits searched back backs wlook splicedAt asIds
 compaction-cut = refl
 
 -- both are accepted, so `commit-stopped` and `compact-stopped` speak of them
-pub takes-commit : verdictOf geometry first second 0 1 0 0 (deadline ∷ []) hour ≡ accepted false (itemsOf hour (deadline ∷ [])) 4
-unfolding verdictOf commitFits pairFits geometryFits fetchOf tooHigh view rank log committed walk walkFrom walkIn classOf readBehind bodyLength tagLength tagFlipped be32 le32 toBe32 toLe32 xor crc crcByte crcBits crcBit mdirOf erasedOf stoppedStraight span eventLength tagAfter countOf counted splitOf tailOf forwardOf seedOf appended Regular regularFrom ruleOf ruleHolds countAfter judge entryBody placed roundedEnd checkSize roomClean allErased coincides fill entriesLength tagOf appending commitBytes getsliceBuffer getsliceFits recordFits searched back backs wlook splicedAt asIds
+pub takes-commit : verdictOf geometry first second 0 1 0 0 (deadline ∷ []) hour
+    ≡ accepted false (itemsOf hour (deadline ∷ [])) 4
+unfolding verdictOf commitFits pairFits geometryFits fetchOf tooHigh view rank log committed walk walkFrom walkIn
+    classOf readBehind bodyLength tagLength tagFlipped be32 le32 toBe32 toLe32 xor crc crcByte crcBits crcBit mdirOf
+    erasedOf stoppedStraight span eventLength tagAfter countOf counted splitOf tailOf forwardOf seedOf appended Regular
+    regularFrom ruleOf ruleHolds countAfter judge entryBody placed roundedEnd checkSize roomClean allErased coincides
+    fill entriesLength tagOf appending commitBytes getsliceBuffer getsliceFits recordFits searched back backs wlook
+    splicedAt asIds
 takes-commit = refl
 
-pub takes-compaction : compactVerdict geometry first second 0 1 0 0 ≡ compactAccepted false 2 (compactionItems (log first)) 13
-unfolding compactVerdict compactable placedAnew compactionItems dirItems slotItems dirOf dir acts act apply upd empty moveOf verdictOf commitFits pairFits geometryFits fetchOf tooHigh view rank log committed walk walkFrom walkIn classOf readBehind bodyLength tagLength tagFlipped be32 le32 toBe32 toLe32 xor crc crcByte crcBits crcBit mdirOf erasedOf stoppedStraight span eventLength tagAfter countOf counted splitOf tailOf forwardOf seedOf appended Regular regularFrom ruleOf ruleHolds countAfter judge entryBody placed roundedEnd checkSize roomClean allErased coincides fill entriesLength tagOf appending commitBytes getsliceBuffer getsliceFits recordFits searched back backs wlook splicedAt asIds
+pub takes-compaction : compactVerdict geometry first second 0 1 0 0 ≡ compactAccepted false 2
+    (compactionItems (log first)) 13
+unfolding compactVerdict compactable placedAnew compactionItems dirItems slotItems dirOf dir acts act apply upd empty
+    moveOf verdictOf commitFits pairFits geometryFits fetchOf tooHigh view rank log committed walk walkFrom walkIn
+    classOf readBehind bodyLength tagLength tagFlipped be32 le32 toBe32 toLe32 xor crc crcByte crcBits crcBit mdirOf
+    erasedOf stoppedStraight span eventLength tagAfter countOf counted splitOf tailOf forwardOf seedOf appended Regular
+    regularFrom ruleOf ruleHolds countAfter judge entryBody placed roundedEnd checkSize roomClean allErased coincides
+    fill entriesLength tagOf appending commitBytes getsliceBuffer getsliceFits recordFits searched back backs wlook
+    splicedAt asIds
 takes-compaction = refl
 
 -- so of the commit: whatever n, the finished images or the old reading; and what the finished pair holds
@@ -116,12 +152,16 @@ pub commit-example : (n : ℕ)
     (commitImages geometry first second 0 1 0 0 (deadline ∷ []) hour n .b1)
     (commitImages geometry first second 0 1 0 0 (deadline ∷ []) hour unlimited)
     (machineOf (log first)) (ran (machineOf (log first)) (written (itemsOf hour (deadline ∷ [])) []))
-commit-example n = commit-stopped geometry first second 0 1 0 0 (deadline ∷ []) hour n false (itemsOf hour (deadline ∷ [])) 4 takes-commit
+commit-example n = commit-stopped geometry first second 0 1 0 0 (deadline ∷ []) hour n false
+    (itemsOf hour (deadline ∷ [])) 4 takes-commit
 
 -- which is the new deadline, and the name of before
-pub holds-the-hour : (asked (ran (machineOf (log first)) (written (itemsOf hour (deadline ∷ [])) [])) (attribute 0 0x74) ≡ some (record { type = 0x374; bytes = hour }))
-    × (asked (ran (machineOf (log first)) (written (itemsOf hour (deadline ∷ [])) [])) (name 0) ≡ some (record { type = 0x001; bytes = 0x71 ∷ 0x32 ∷ 0x31 ∷ 0x32 ∷ [] }))
-unfolding written dirOf dir acts act apply applyAll upd empty log committed walk walkFrom walkIn classOf readBehind bodyLength tagLength tagFlipped be32 le32 xor crc crcByte crcBits crcBit entryBody tagOf
+pub holds-the-hour : (asked (ran (machineOf (log first)) (written (itemsOf hour (deadline ∷ [])) [])) (attribute 0 0x74)
+    ≡ some (record { type = 0x374; bytes = hour }))
+    × (asked (ran (machineOf (log first)) (written (itemsOf hour (deadline ∷ [])) [])) (name 0)
+    ≡ some (record { type = 0x001; bytes = 0x71 ∷ 0x32 ∷ 0x31 ∷ 0x32 ∷ [] }))
+unfolding written dirOf dir acts act apply applyAll upd empty log committed walk walkFrom walkIn classOf readBehind
+    bodyLength tagLength tagFlipped be32 le32 xor crc crcByte crcBits crcBit entryBody tagOf
 holds-the-hour = (refl, refl)
 
 -- and of the compaction: the images are bytes, and the finished pair holds what the old one did
@@ -144,13 +184,19 @@ pub compaction-example : (n : ℕ)
     (compactImages geometry first second 0 1 0 0 n .b1) (compactImages geometry first second 0 1 0 0 unlimited)
     (machineOf (log first)) (machineOf (log first))
 compaction-example n =
-    compact-stopped geometry first second 0 1 0 0 n (bytes-of first (are-bytes .0)) (bytes-of second (are-bytes .1)) false 2 (compactionItems (log first)) 13 takes-compaction
+    compact-stopped geometry first second 0 1 0 0 n (bytes-of first (are-bytes .0)) (bytes-of second (are-bytes .1))
+    false 2 (compactionItems (log first)) 13 takes-compaction
 
 abbrev stopped : Images
 stopped = commitImages geometry first second 0 1 0 0 (deadline ∷ []) hour 10
 
--- A restart fetches from a seed of its own, and with the block count that it knows: stopped after ten stores, the pair is
--- found with the old end and the old deadline from the seed 7 and with two blocks.
+-- A restart fetches from a seed of its own, and with the block count that it knows: stopped after ten stores, the pair
+-- is found with the old end and the old deadline from the seed 7 and with two blocks.
 pub other-seed : seenBy (stopped .b0) (stopped .b1) (fetchOf geometry (stopped .b0) (stopped .b1) 0 1 2 7) ≡ old
-unfolding seenBy commitImages verdictOf commitFits pairFits geometryFits fetchOf tooHigh view rank log committed walk walkFrom walkIn classOf readBehind bodyLength tagLength tagFlipped be32 le32 toBe32 toLe32 xor crc crcByte crcBits crcBit mdirOf erasedOf stoppedStraight span eventLength tagAfter countOf counted splitOf tailOf forwardOf seedOf appended Regular regularFrom ruleOf ruleHolds countAfter judge entryBody placed roundedEnd checkSize roomClean allErased coincides fill entriesLength tagOf appending commitBytes getsliceBuffer getsliceFits recordFits searched back backs wlook splicedAt asIds
+unfolding seenBy commitImages verdictOf commitFits pairFits geometryFits fetchOf tooHigh view rank log committed walk
+    walkFrom walkIn classOf readBehind bodyLength tagLength tagFlipped be32 le32 toBe32 toLe32 xor crc crcByte crcBits
+    crcBit mdirOf erasedOf stoppedStraight span eventLength tagAfter countOf counted splitOf tailOf forwardOf seedOf
+    appended Regular regularFrom ruleOf ruleHolds countAfter judge entryBody placed roundedEnd checkSize roomClean
+    allErased coincides fill entriesLength tagOf appending commitBytes getsliceBuffer getsliceFits recordFits searched
+    back backs wlook splicedAt asIds
 other-seed = refl

@@ -1,13 +1,14 @@
--- Demand 3: "Stop an accepted commit or compaction after any number of its stores: fetch gives the finished directory if
--- the finished bytes are there, else the old one; only the old record's erased mark may differ." What that says is
--- `CommitStopped` and `CompactStopped` (format/specs/Stopped.antt), of a fetch from every seed and with every block count
--- that the two numbers pass; all four calls that write have it in their contracts. Assumes nothing.
+-- Demand 3: "Stop an accepted commit or compaction after any number of its stores: fetch gives the finished directory
+-- if the finished bytes are there, else the old one; only the old record's erased mark may differ." What that says is
+-- `CommitStopped` and `CompactStopped` (format/specs/Stopped.antt), of a fetch from every seed and with every block
+-- count that the two numbers pass; all four calls that write have it in their contracts. Assumes nothing.
 use mathlib.Core.Path.{_≡_, refl}
 use mathlib.Core.Bool.{Bool}
 use mathlib.Core.List.{List}
 use Prim.Native.Nat.{ℕ}
 use Rattle.format.specs.Commit.{Item}
-use Rattle.format.specs.Writer.{Verdict, refused, accepted, verdictOf, images, imagesAfter, unlimited, commitImages, commitOf}
+use Rattle.format.specs.Writer.{Verdict, refused, accepted, verdictOf, images, imagesAfter, unlimited, commitImages}
+use Rattle.format.specs.Writer.{commitOf}
 use Rattle.format.specs.Compaction.{CompactVerdict, compactRefused, compactAccepted, compactVerdict}
 use Rattle.format.specs.Compaction.{compactImagesAfter, compactImages, compactOf}
 use Rattle.format.specs.Stopped.{Bytes, CommitStopped, CompactStopped}
@@ -24,7 +25,8 @@ module _ (g : Geometry) (b0 b1 : List ℕ) (n0 n1 count seed : ℕ) where
   -- every pair, every accepted commit, every n
   pub commit-stopped : (entries : List Entry) (dat : List ℕ) (n : ℕ)
       → CommitStopped g b0 b1 n0 n1 count seed entries dat
-      (commitImages g b0 b1 n0 n1 count seed entries dat n .b0) (commitImages g b0 b1 n0 n1 count seed entries dat n .b1)
+      (commitImages g b0 b1 n0 n1 count seed entries dat n .b0)
+      (commitImages g b0 b1 n0 n1 count seed entries dat n .b1)
   commit-stopped = stopped-commit g b0 b1 n0 n1 count seed
 
   -- every pair of bytes, every accepted compaction, every n

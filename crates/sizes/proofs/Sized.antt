@@ -35,7 +35,13 @@ module _ (g : Geometry) where
       let e2 = both (leb 4 p && leb p 512 && leb 128 s) (leb s 32_768) (e1 .0) in
       let e3 = both (leb 4 p && leb p 512) (leb 128 s) (e2 .0) in
       let e4 = both (leb 4 p) (leb p 512) (e3 .0) in
-      record { prog-low = leb-true _ _ (e4 .0); prog-high = leb-true _ _ (e4 .1); block-low = leb-true _ _ (e3 .1); block-high = leb-true _ _ (e2 .1); multiple = eqb-true _ _ (e1 .1) }
+      record {
+        prog-low = leb-true _ _ (e4 .0);
+        prog-high = leb-true _ _ (e4 .1);
+        block-low = leb-true _ _ (e3 .1);
+        block-high = leb-true _ _ (e2 .1);
+        multiple = eqb-true _ _ (e1 .1);
+      }
 
   pub sized : (length0 length1 n0 n1 : ℕ) → pairFits g length0 length1 n0 n1 ≡ true → Sized g length0 length1
   unfolding pairFits

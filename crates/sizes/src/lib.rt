@@ -1,5 +1,5 @@
-// Document 01's domain: which sizes and block numbers a call accepts. Fetch, lookups and the writer make these tests before they read a block.
-// Every function takes any numbers.
+// Document 01's domain: which sizes and block numbers a call accepts. Fetch, lookups and the writer make these tests
+// before they read a block. Every function takes any numbers.
 ghost use mathlib.Core.Path.{_≡_};
 ghost use Rattle.format.specs.Fetch.{geometryFits, pairFits, tooHigh};
 use format::Geometry;

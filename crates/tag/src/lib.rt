@@ -2,7 +2,8 @@
 // Fields are taken by `/` and `%` of powers of two, which compile to the shifts and masks of the C.
 ghost use mathlib.Core.Path.{_≡_};
 ghost use Prim.Native.Nat.{_^_, _<_};
-ghost use Rattle.format.specs.Tag.{tagValid, tagType1, tagType2, tagType3, tagChunk, tagSplice, tagId, tagSize, tagDelete, tagLength, mkTag, mkTagIf};
+ghost use Rattle.format.specs.Tag.{tagValid, tagType1, tagType2, tagType3, tagChunk, tagSplice, tagId, tagSize};
+ghost use Rattle.format.specs.Tag.{tagDelete, tagLength, mkTag, mkTagIf};
 ghost use Rattle.tag.specs.Splice.{fromLowest};
 use format::types::LFS_FROM_NOOP;
 use format::types::REMOVAL;

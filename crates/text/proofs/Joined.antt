@@ -1,4 +1,5 @@
--- What is put joins: a byte, parts one behind the other, and a loop over bytes of which each is shown in its own way. Assumes nothing.
+-- What is put joins: a byte, parts one behind the other, and a loop over bytes of which each is shown in its own way.
+-- Assumes nothing.
 use mathlib.Core.Path.{_≡_, refl, sym, ap, _∙_}
 use mathlib.Core.List.{List, [], _∷_, _++_}
 use Prim.Native.Nat.{ℕ, _+_, _%_, _^_, _≤_, _<_}
@@ -8,7 +9,8 @@ use lib.Seq.{drop-cons, set-out}
 use Rattle.text.specs.Put.{Text, text, putOf, putsOf}
 
 -- ---- one byte: n is the length behind it
-pub put-past : (out : List ℕ) (at x n : ℕ) → n ≡ (at + 1) % 2 ^ 32 → length out ≤ at → text n out ≡ putOf (text at out) x
+pub put-past : (out : List ℕ) (at x n : ℕ) → n ≡ (at + 1) % 2 ^ 32 → length out ≤ at
+    → text n out ≡ putOf (text at out) x
 unfolding putOf
 put-past out at x n en h = rw (en, set-out out at x h)
 
@@ -36,11 +38,15 @@ join s t u xs ys et eu = eu ∙ ap (λ (z : Text). putsOf z ys) et ∙ puts-app 
 
 -- ---- a loop over bytes: f shows one of them, F all; a is where all of them end
 module _ (F : List ℕ → List ℕ) (f : ℕ → List ℕ) (bytes : List ℕ) where
-  pub each-more : ((b : ℕ) (bs : List ℕ) → F (b ∷ bs) ≡ f b ++ F bs) → (i : ℕ) (a s r : Text) → i < length bytes → a ≡ putsOf s (F (drop i bytes)) → r ≡ putsOf s (f (getD bytes i 0))
+  pub each-more : ((b : ℕ) (bs : List ℕ) → F (b ∷ bs) ≡ f b ++ F bs) → (i : ℕ) (a s r : Text) → i < length bytes
+      → a ≡ putsOf s (F (drop i bytes)) → r ≡ putsOf s (f (getD bytes i 0))
       → a ≡ putsOf r (F (drop (i + 1) bytes))
   each-more law i a s r h ea er =
-      ea ∙ ap (λ (l : List ℕ). putsOf s (F l)) (drop-cons bytes i 0 h ∙ rw (add-one i)) ∙ ap (putsOf s) (law (getD bytes i 0) (drop (i + 1) bytes))
-      ∙ sym (puts-app (f (getD bytes i 0)) (F (drop (i + 1) bytes)) s) ∙ ap (λ (z : Text). putsOf z (F (drop (i + 1) bytes))) (sym er)
+      ea ∙ ap (λ (l : List ℕ). putsOf s (F l)) (drop-cons bytes i 0 h ∙ rw (add-one i))
+      ∙ ap (putsOf s) (law (getD bytes i 0) (drop (i + 1) bytes))
+      ∙ sym (puts-app (f (getD bytes i 0)) (F (drop (i + 1) bytes)) s)
+      ∙ ap (λ (z : Text). putsOf z (F (drop (i + 1) bytes))) (sym er)
 
   pub each-done : F [] ≡ [] → (i : ℕ) (a s : Text) → length bytes ≤ i → a ≡ putsOf s (F (drop i bytes)) → s ≡ a
-  each-done law i a s h ea = puts-none s ∙ ap (putsOf s) (sym law ∙ ap F (sym (drop-of-length-le bytes {i = i} h))) ∙ sym ea
+  each-done law i a s h ea = puts-none s ∙ ap (putsOf s) (sym law ∙ ap F (sym (drop-of-length-le bytes {i = i} h)))
+      ∙ sym ea

@@ -6,7 +6,8 @@ use Prim.Native.Nat.{ℕ, zero, suc, _+_, _-_, _/_, _%_, _^_, _≤_, _<_}
 use native.Mathlib.Omega.{arith}
 use lib.Dec.{leb, eqb}
 use borrow.Author.Tests.{lt-ltb, le-ltb}
-use Rattle.format.specs.Listing.{ascii, decimalDigit, hexDigit, decimalIn, decimal, hexByte, hexBytes, hexType, isPlain, nameByte, nameBytes, numberLine}
+use Rattle.format.specs.Listing.{ascii, decimalDigit, hexDigit, decimalIn, decimal, hexByte, hexBytes, hexType, isPlain}
+use Rattle.format.specs.Listing.{nameByte, nameBytes, numberLine}
 use Rattle.text.specs.Put.{Text, putOf, putsOf}
 use Rattle.text.proofs.Joined.{puts-none, puts-one, join}
 
@@ -27,13 +28,16 @@ decimal-none s k n h = rw h (puts-none s)
 next-digits : (k : ℕ) → (k ≡ 0 → ⊥) → k ≡ suc (k - 1)
 next-digits k h = omega arith
 
-pub decimal-last : (s r : Text) (k n : ℕ) → (k ≡ 0 → ⊥) → n < 10 → r ≡ putOf s (decimalDigit n) → r ≡ putsOf s (decimalIn k n)
+pub decimal-last : (s r : Text) (k n : ℕ) → (k ≡ 0 → ⊥) → n < 10 → r ≡ putOf s (decimalDigit n)
+    → r ≡ putsOf s (decimalIn k n)
 unfolding decimalIn
 decimal-last s r k n h l er = rw (next-digits k h, lt-ltb n 10 l) (puts-one s r (decimalDigit n) er)
 
-pub decimal-more : (s t r : Text) (k n : ℕ) → (k ≡ 0 → ⊥) → 10 ≤ n → t ≡ putsOf s (decimalIn (k - 1) (n / 10)) → r ≡ putOf t (decimalDigit n) → r ≡ putsOf s (decimalIn k n)
+pub decimal-more : (s t r : Text) (k n : ℕ) → (k ≡ 0 → ⊥) → 10 ≤ n → t ≡ putsOf s (decimalIn (k - 1) (n / 10))
+    → r ≡ putOf t (decimalDigit n) → r ≡ putsOf s (decimalIn k n)
 unfolding decimalIn
-decimal-more s t r k n h l et er = join s t r (decimalIn (k - 1) (n / 10)) (decimalDigit n ∷ []) et (puts-one t r (decimalDigit n) er) ∙ ap (putsOf s) (whole k h)
+decimal-more s t r k n h l et er = join s t r (decimalIn (k - 1) (n / 10)) (decimalDigit n ∷ []) et
+    (puts-one t r (decimalDigit n) er) ∙ ap (putsOf s) (whole k h)
   where
     whole : (j : ℕ) → (j ≡ 0 → ⊥) → decimalIn (j - 1) (n / 10) ++ (decimalDigit n ∷ []) ≡ decimalIn j n
     whole zero p = absurd (p refl)
@@ -67,18 +71,23 @@ pub name-plain : (s r : Text) (b : ℕ) (x : Bool) → x ≡ isPlain b → x ≡
 unfolding nameByte
 name-plain s r b x ex h er = rw (sym ex ∙ h) (puts-one s r b er)
 
-pub name-escaped : (s t r : Text) (b : ℕ) (x : Bool) → x ≡ isPlain b → x ≡ false → t ≡ putsOf s (ascii "\\x") → r ≡ putsOf t (hexByte b) → r ≡ putsOf s (nameByte b)
+pub name-escaped : (s t r : Text) (b : ℕ) (x : Bool) → x ≡ isPlain b → x ≡ false → t ≡ putsOf s (ascii "\\x")
+    → r ≡ putsOf t (hexByte b) → r ≡ putsOf s (nameByte b)
 unfolding nameByte
 name-escaped s t r b x ex h et er = rw (sym ex ∙ h) (join s t r (ascii "\\x") (hexByte b) et er)
 
 -- ---- digits together; x, y and z are what `hex_digit` answers
-pub hex-two : (s r : Text) (b x y : ℕ) → x ≡ hexDigit (b / 2 ^ 4) → y ≡ hexDigit b → r ≡ putsOf s (x ∷ y ∷ []) → r ≡ putsOf s (hexByte b)
+pub hex-two : (s r : Text) (b x y : ℕ) → x ≡ hexDigit (b / 2 ^ 4) → y ≡ hexDigit b → r ≡ putsOf s (x ∷ y ∷ [])
+    → r ≡ putsOf s (hexByte b)
 hex-two s r b x y ex ey er = er ∙ λ i. putsOf s (ex i ∷ ey i ∷ [])
 
-pub hex-three : (s r : Text) (t x y z : ℕ) → x ≡ hexDigit (t / 2 ^ 8) → y ≡ hexDigit (t / 2 ^ 4) → z ≡ hexDigit t → r ≡ putsOf s (x ∷ y ∷ z ∷ []) → r ≡ putsOf s (hexType t)
+pub hex-three : (s r : Text) (t x y z : ℕ) → x ≡ hexDigit (t / 2 ^ 8) → y ≡ hexDigit (t / 2 ^ 4) → z ≡ hexDigit t
+    → r ≡ putsOf s (x ∷ y ∷ z ∷ []) → r ≡ putsOf s (hexType t)
 hex-three s r t x y z ex ey ez er = er ∙ λ i. putsOf s (ex i ∷ ey i ∷ ez i ∷ [])
 
 -- ---- a line
-pub number-done : (s t u r : Text) (label : List ℕ) (n : ℕ) → t ≡ putsOf s label → u ≡ putsOf t (decimal n) → r ≡ putsOf u (ascii "\n") → r ≡ putsOf s (numberLine label n)
+pub number-done : (s t u r : Text) (label : List ℕ) (n : ℕ) → t ≡ putsOf s label → u ≡ putsOf t (decimal n)
+    → r ≡ putsOf u (ascii "\n") → r ≡ putsOf s (numberLine label n)
 unfolding numberLine
-number-done s t u r label n et eu er = join s t r label (decimal n ++ ascii "\n") et (join t u r (decimal n) (ascii "\n") eu er)
+number-done s t u r label n et eu er = join s t r label (decimal n ++ ascii "\n") et
+    (join t u r (decimal n) (ascii "\n") eu er)

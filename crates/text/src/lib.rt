@@ -1,8 +1,9 @@
-// Text put into a lent buffer, byte by byte, as far as there is room: bytes, numbers in decimal and in hex, names with their escapes. Each function
-// takes the length of the text so far and answers the length with its own part, also where the buffer is full. The length wraps at 2^32; no
-// listing is so long (crate `text_listing` proves it).
+// Text put into a lent buffer, byte by byte, as far as there is room: bytes, numbers in decimal and in hex, names with
+// their escapes. Each function takes the length of the text so far and answers the length with its own part, also where
+// the buffer is full. The length wraps at 2^32; no listing is so long (crate `text_listing` proves it).
 ghost use mathlib.Core.Path.{_≡_};
-ghost use Rattle.format.specs.Listing.{decimalIn, decimal, hexDigit, hexByte, hexBytes, hexType, isPlain, nameByte, nameBytes, numberLine};
+ghost use Rattle.format.specs.Listing.{decimalIn, decimal, hexDigit, hexByte, hexBytes, hexType, isPlain, nameByte};
+ghost use Rattle.format.specs.Listing.{nameBytes, numberLine};
 ghost use Rattle.text.specs.Put.{text, putOf, putsOf};
 
 // One byte.
@@ -126,7 +127,8 @@ pub fn name_bytes(out: &mut [u8], at: u32, bytes: &[u8]) -> u32
 
 // A label, a number behind it, and the end of the line.
 pub fn number_line(out: &mut [u8], at: u32, label: &[u8], n: u32) -> u32
-    ensures { λ r. ⌜ text r (now (out .exit)) ≡ putsOf (text at (now (out .entry))) (numberLine (now (label .entry)) n) ⌝ }
+    ensures { λ r. ⌜ text r (now (out .exit)) ≡ putsOf (text at (now (out .entry)))
+        (numberLine (now (label .entry)) n) ⌝ }
 {
     let end = puts(out, at, label);
     let end = decimal(out, end, n);

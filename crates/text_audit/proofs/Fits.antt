@@ -10,30 +10,40 @@ use Rattle.format.specs.Log.{log}
 use Rattle.format.specs.Regular.{Regular}
 use Rattle.format.specs.Directory.{Load, Slot, dirOf}
 use Rattle.format.specs.Listing.{ascii, decimal, nameBytes, numberLine, refusedLine, fetchInput}
-use Rattle.format.specs.Audit.{lacksDeadline, lacksPayload, nameOrDash, lackLine, auditLine, auditLines, tally, totalLines, slotsAudit, blockAudit, auditOf}
+use Rattle.format.specs.Audit.{lacksDeadline, lacksPayload, nameOrDash, lackLine, auditLine, auditLines, tally}
+use Rattle.format.specs.Audit.{totalLines, slotsAudit, blockAudit, auditOf}
 use Rattle.format.specs.declared.LfsMdir.{LfsMdir}
 use Rattle.format.specs.declared.Refusal.the-variants.{Irregular}
 use Rattle.theory.specs.Blocks.SlotItems.{OkSlot, OkSlots, ok-dirOf}
 use Rattle.theory.specs.Commit.Tested.{regular-loads}
 use Rattle.theory.specs.Compact.AcceptedVerdict.{slots-few}
-use Rattle.text_listing.proofs.Fits.{decimal-short, name-length, number-short, refused-short, Short, slot-loads, fetched-short}
+use Rattle.text_listing.proofs.Fits.{decimal-short, name-length, number-short, refused-short, Short, slot-loads}
+use Rattle.text_listing.proofs.Fits.{fetched-short}
 
 name-short : (o : Option Load) → Short o → length (nameOrDash o) ≤ 4_088
 unfolding nameOrDash
 name-short none h = omega arith
 name-short (some v) h = omega (arith, name-length (v .bytes))
 
-lack-short : (id : ℕ) (o : Option Load) (what : List ℕ) → Short o → length what ≤ 13 → length (lackLine id o what) ≤ 4_117
+lack-short : (id : ℕ) (o : Option Load) (what : List ℕ) → Short o → length what ≤ 13
+    → length (lackLine id o what) ≤ 4_117
 unfolding lackLine
 lack-short id o what h k =
     let N : List ℕ = nameOrDash o ++ what in
-    omega (arith, length-append (decimal id) (ascii " " ++ N), length-append (nameOrDash o) what, decimal-short 10 id, name-short o h)
+    omega (
+      arith,
+      length-append (decimal id) (ascii " " ++ N),
+      length-append (nameOrDash o) what,
+      decimal-short 10 id,
+      name-short o h,
+    )
 
 line-short : (id : ℕ) (s : Slot) → OkSlot s → length (auditLine id s) ≤ 4_117
 unfolding auditLine
 line-short id s ok = go (lacksDeadline s) (lacksPayload s)
   where
-    go : (x y : Bool) → length (cond x (lackLine id (s 0) (ascii " no deadline\n")) (cond y (lackLine id (s 0) (ascii " no payload\n")) [])) ≤ 4_117
+    go : (x y : Bool) → length (cond x (lackLine id (s 0) (ascii " no deadline\n"))
+        (cond y (lackLine id (s 0) (ascii " no payload\n")) [])) ≤ 4_117
     go true y = lack-short id (s 0) (ascii " no deadline\n") (slot-loads s ok 0) (omega arith)
     go false true = lack-short id (s 0) (ascii " no payload\n") (slot-loads s ok 0) (omega arith)
     go false false = omega arith
@@ -41,27 +51,53 @@ line-short id s ok = go (lacksDeadline s) (lacksPayload s)
 lines-short : (D : List Slot) (id : ℕ) → OkSlots D → length (auditLines id D) ≤ length D * 4_117
 unfolding auditLines
 lines-short [] id h = omega arith
-lines-short (s ∷ D) id h = omega (arith, length-append (auditLine id s) (auditLines (suc id) D), line-short id s (h .0), lines-short D (suc id) (h .1))
+lines-short (s ∷ D) id h =
+    omega (
+      arith,
+      length-append (auditLine id s) (auditLines (suc id) D),
+      line-short id s (h .0),
+      lines-short D (suc id) (h .1),
+    )
 
 totals-short : (d p n : ℕ) → length (totalLines d p n) ≤ 89
 unfolding totalLines
 totals-short d p n =
     let P : List ℕ = numberLine (ascii "deadline without payload ") p ++ numberLine (ascii "slots ") n in
-    let e : length P ≤ 53 = omega (arith, length-append (numberLine (ascii "deadline without payload ") p) (numberLine (ascii "slots ") n), number-short (ascii "deadline without payload ") p, number-short (ascii "slots ") n) in
-    omega (arith, length-append (numberLine (ascii "payload without deadline ") d) P, number-short (ascii "payload without deadline ") d, e)
+    let e : length P ≤ 53 = omega (
+      arith,
+      length-append (numberLine (ascii "deadline without payload ") p) (numberLine (ascii "slots ") n),
+      number-short (ascii "deadline without payload ") p,
+      number-short (ascii "slots ") n,
+    ) in
+    omega (
+      arith,
+      length-append (numberLine (ascii "payload without deadline ") d) P,
+      number-short (ascii "payload without deadline ") d,
+      e,
+    )
 
 slots-short : (D : List Slot) → OkSlots D → length (slotsAudit D) ≤ length D * 4_117 + 89
 unfolding slotsAudit
 slots-short D h =
     let T : List ℕ = totalLines (tally lacksDeadline D) (tally lacksPayload D) (length D) in
-    omega (arith, length-append (auditLines 0 D) T, lines-short D 0 h, totals-short (tally lacksDeadline D) (tally lacksPayload D) (length D))
+    omega (
+      arith,
+      length-append (auditLines 0 D) T,
+      lines-short D 0 h,
+      totals-short (tally lacksDeadline D) (tally lacksPayload D) (length D),
+    )
 
 block-short : (m : LfsMdir) (b : List ℕ) → length (blockAudit m b) < 2 ^ 32
 unfolding blockAudit
 block-short m b = go (Regular (log b)) refl
   where
-    go : (x : Bool) → Regular (log b) ≡ x → length (cond x (slotsAudit (dirOf (log b))) (refusedLine Irregular)) < 2 ^ 32
-    go true e = omega (arith, slots-short (dirOf (log b)) (ok-dirOf (log b) (regular-loads b (log b) refl e)), slots-few b e)
+    go : (x : Bool) → Regular (log b) ≡ x → length (cond x (slotsAudit (dirOf (log b))) (refusedLine Irregular)) < 2 ^
+        32
+    go true e = omega (
+      arith,
+      slots-short (dirOf (log b)) (ok-dirOf (log b) (regular-loads b (log b) refl e)),
+      slots-few b e,
+    )
     go false e = omega (arith, refused-short Irregular)
 
 pub audit-short : (input : List ℕ) → length (auditOf input) < 2 ^ 32

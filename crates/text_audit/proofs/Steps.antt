@@ -13,7 +13,8 @@ use Rattle.format.specs.Log.{log}
 use Rattle.format.specs.Regular.{Regular}
 use Rattle.format.specs.Directory.{classes, Load, Slot, empty, dirOf}
 use Rattle.format.specs.Listing.{ascii, numberLine, refusedLine}
-use Rattle.format.specs.Audit.{isInstruction, isPayload, isDeadline, deadlineClass, lacksDeadline, lacksPayload, lackLine, auditLine, auditLines, tally, totalLines, slotsAudit, blockAudit}
+use Rattle.format.specs.Audit.{isInstruction, isPayload, isDeadline, deadlineClass, lacksDeadline, lacksPayload}
+use Rattle.format.specs.Audit.{lackLine, auditLine, auditLines, tally, totalLines, slotsAudit, blockAudit}
 use Rattle.format.specs.declared.LfsMdir.{LfsMdir}
 use Rattle.format.specs.declared.Refusal.the-variants.{Irregular}
 use Rattle.text.specs.Put.{Text, text, putsOf}
@@ -25,7 +26,8 @@ use Rattle.text_audit.specs.Audited.{Told, Few, SlotAudited, SlotsAudite
 use Rattle.text_audit.specs.declared.Audit.{Audit}
 
 -- ---- what the three seats tell: x instruction, y payload, z deadline
-module _ (b seats : List ℕ) (i : AllInside b seats) (x y z : Bool) (ex : Told isInstruction (getD seats 0 0) x) (ey : Told isPayload (getD seats 1 0) y)
+module _ (b seats : List ℕ) (i : AllInside b seats) (x y z : Bool) (ex : Told isInstruction (getD seats 0 0) x)
+    (ey : Told isPayload (getD seats 1 0) y)
     (ez : Told isDeadline (getD seats deadlineClass 0) z) where
   pub tells-deadline : x && (y && not z) ≡ lacksDeadline (slotIn b seats)
   unfolding lacksDeadline
@@ -50,7 +52,8 @@ lacks-one s h = one-lacks (isInstruction (s 0)) (isPayload (s 1)) (isDeadline (s
 -- ---- a slot: x and y are what the code tests, n is where its line ends
 module _ (a : Audit) (out out′ : List ℕ) (n id : ℕ) (s : Slot) (x : Bool) (ex : x ≡ lacksDeadline s) where
   pub slot-no-deadline : x ≡ true → text n out′ ≡ putsOf (text (a .at) out) (lackLine id (s 0) (ascii " no deadline\n"))
-      → SlotAudited a out (record { at = n; «no_deadline» = a .«no_deadline» + 1; «no_payload» = a .«no_payload» }) out′ id s
+      → SlotAudited a out (record { at = n; «no_deadline» = a .«no_deadline» + 1; «no_payload» = a .«no_payload» }) out′
+      id s
   unfolding auditLine
   slot-no-deadline h e =
       let d : lacksDeadline s ≡ true = sym ex ∙ h in
@@ -58,7 +61,8 @@ module _ (a : Audit) (out out′ : List ℕ) (n id : ℕ) (s : Slot) (x : Bool) 
 
   module _ (y : Bool) (ey : y ≡ lacksPayload s) (g : x ≡ false) where
     pub slot-no-payload : y ≡ true → text n out′ ≡ putsOf (text (a .at) out) (lackLine id (s 0) (ascii " no payload\n"))
-        → SlotAudited a out (record { at = n; «no_deadline» = a .«no_deadline»; «no_payload» = a .«no_payload» + 1 }) out′ id s
+        → SlotAudited a out (record { at = n; «no_deadline» = a .«no_deadline»; «no_payload» = a .«no_payload» + 1 })
+        out′ id s
     unfolding auditLine
     slot-no-payload h e =
         let d : lacksDeadline s ≡ false = sym ex ∙ g in
@@ -70,7 +74,11 @@ module _ (a : Audit) (out out′ : List ℕ) (n id : ℕ) (s : Slot) (x : Bool) 
     slot-whole h =
         let d : lacksDeadline s ≡ false = sym ex ∙ g in
         let p : lacksPayload s ≡ false = sym ey ∙ h in
-        record { line = rw (d, p) (puts-none (text (a .at) out)); deadline = rw d (omega arith); payload = rw p (omega arith) }
+        record {
+          line = rw (d, p) (puts-none (text (a .at) out));
+          deadline = rw d (omega arith);
+          payload = rw p (omega arith);
+        }
 
 -- ---- slots that hold the same lack the same
 abbrev Same : Slot → Slot → Type 0
@@ -106,32 +114,45 @@ pub record Running (out : List ℕ) (D : List Slot) (id : ℕ) (a : Audit) (out�
   pub payload : tally lacksPayload D ≡ a .«no_payload» + tally lacksPayload (drop id D)
   pub few : (a .«no_deadline» ≤ id) × (a .«no_payload» ≤ id)
 
-pub run-starts : (out : List ℕ) (D : List Slot) → Running out D 0 (record { at = 0; «no_deadline» = 0; «no_payload» = 0 }) out
-run-starts out D = record { lines = refl; deadline = from (tally lacksDeadline D); payload = from (tally lacksPayload D); few = (omega arith, omega arith) }
+pub run-starts : (out : List ℕ) (D : List Slot)
+    → Running out D 0 (record { at = 0; «no_deadline» = 0; «no_payload» = 0 }) out
+run-starts out D = record {
+  lines = refl;
+  deadline = from (tally lacksDeadline D);
+  payload = from (tally lacksPayload D);
+  few = (omega arith, omega arith);
+}
   where
     from : (n : ℕ) → n ≡ 0 + n
     from n = omega arith
 
-pub run-few : (out : List ℕ) (D : List Slot) (id : ℕ) (a : Audit) (out′ : List ℕ) → id < 2 ^ 16 → Running out D id a out′ → Few a
+pub run-few : (out : List ℕ) (D : List Slot) (id : ℕ) (a : Audit) (out′ : List ℕ) → id < 2 ^ 16
+    → Running out D id a out′ → Few a
 run-few out D id a out′ h w = record { deadline = omega (arith, w .few .0); payload = omega (arith, w .few .1) }
 
 one : (b : Bool) → cond b 1 0 ≤ 1
 one true = omega arith
 one false = omega arith
 
-tally-next : (is : Slot → Bool) → ((s t : Slot) → Same s t → is s ≡ is t) → (D : List Slot) (id : ℕ) (s : Slot) → id < length D → Same s (getD D id empty)
+tally-next : (is : Slot → Bool) → ((s t : Slot) → Same s t → is s ≡ is t) → (D : List Slot) (id : ℕ) (s : Slot)
+    → id < length D → Same s (getD D id empty)
     → tally is (drop id D) ≡ cond (is s) 1 0 + tally is (drop (id + 1) D)
 unfolding tally
 tally-next is law D id s h same = rw (add-one id, law s (getD D id empty) same) (ap (tally is) (drop-cons D id empty h))
 
 module _ (out : List ℕ) (D : List Slot) (id : ℕ) (a : Audit) (now : List ℕ) (w : Running out D id a now) where
-  pub run-next : (r : Audit) (after : List ℕ) (s : Slot) → id < length D → Same s (getD D id empty) → SlotAudited a now r after id s → Running out D (id + 1) r after
+  pub run-next : (r : Audit) (after : List ℕ) (s : Slot) → id < length D → Same s (getD D id empty)
+      → SlotAudited a now r after id s → Running out D (id + 1) r after
   run-next r after s h same z =
       record {
-        lines = slots-next auditLines auditLine shown (putsOf (text 0 out) (auditLines 0 D)) (text (a .at) now) (text (r .at) after) D id s h same (w .lines) (z .line);
+        lines = slots-next auditLines auditLine shown (putsOf (text 0 out) (auditLines 0 D)) (text (a .at) now)
+            (text (r .at) after) D id s h same (w .lines) (z .line);
         deadline = omega (arith, w .deadline, z .deadline, tally-next lacksDeadline deadline-same D id s h same);
         payload = omega (arith, w .payload, z .payload, tally-next lacksPayload payload-same D id s h same);
-        few = (omega (arith, w .few .0, z .deadline, one (lacksDeadline s)), omega (arith, w .few .1, z .payload, one (lacksPayload s)));
+        few = (
+          omega (arith, w .few .0, z .deadline, one (lacksDeadline s)),
+          omega (arith, w .few .1, z .payload, one (lacksPayload s)),
+        );
       }
 
   none-left : (is : Slot → Bool) → length D ≤ id → tally is (drop id D) ≡ 0
@@ -141,13 +162,15 @@ module _ (out : List ℕ) (D : List Slot) (id : ℕ) (a : Audit) (now : List ℕ
   pub run-done : length D ≤ id → SlotsAudited out a now D
   run-done h =
       record {
-        lines = slots-done auditLines auditLine shown (putsOf (text 0 out) (auditLines 0 D)) (text (a .at) now) D id h (w .lines);
+        lines = slots-done auditLines auditLine shown (putsOf (text 0 out) (auditLines 0 D)) (text (a .at) now) D id h
+            (w .lines);
         deadline = omega (arith, w .deadline, none-left lacksDeadline h);
         payload = omega (arith, w .payload, none-left lacksPayload h);
       }
 
 -- ---- three lines
-pub totals-done : (d p n : ℕ) (s t u r : Text) → t ≡ putsOf s (numberLine (ascii "payload without deadline ") d) → u ≡ putsOf t (numberLine (ascii "deadline without payload ") p)
+pub totals-done : (d p n : ℕ) (s t u r : Text) → t ≡ putsOf s (numberLine (ascii "payload without deadline ") d)
+    → u ≡ putsOf t (numberLine (ascii "deadline without payload ") p)
     → r ≡ putsOf u (numberLine (ascii "slots ") n) → r ≡ putsOf s (totalLines d p n)
 unfolding totalLines
 totals-done d p n s t u r et eu er =
@@ -161,11 +184,15 @@ module _ (b : List ℕ) (m : LfsMdir) (r : Text) (x : Bool) (ex : x ≡ Regular 
   unfolding blockAudit
   block-irregular s h er = rw (sym ex ∙ not-true x h) er
 
-  pub block-audited : (out : List ℕ) (a : Audit) (now : List ℕ) → not x ≡ false → Slots b (m .off) (m .etag) (m .count) → SlotsAudited out a now (dirOf (log b))
-      → r ≡ putsOf (text (a .at) now) (totalLines (a .«no_deadline») (a .«no_payload») (m .count)) → r ≡ putsOf (text 0 out) (blockAudit m b)
+  pub block-audited : (out : List ℕ) (a : Audit) (now : List ℕ) → not x ≡ false → Slots b (m .off) (m .etag) (m .count)
+      → SlotsAudited out a now (dirOf (log b))
+      → r ≡ putsOf (text (a .at) now) (totalLines (a .«no_deadline») (a .«no_payload») (m .count))
+      → r ≡ putsOf (text 0 out) (blockAudit m b)
   unfolding blockAudit slotsAudit
   block-audited out a now h w z er =
       let D : List Slot = dirOf (log b) in
       let T : List ℕ = totalLines (tally lacksDeadline D) (tally lacksPayload D) (length D) in
-      let same : totalLines (a .«no_deadline») (a .«no_payload») (m .count) ≡ T = rw (z .deadline, z .payload, w .count′) in
-      rw (sym ex ∙ not-false x h) (join (text 0 out) (text (a .at) now) r (auditLines 0 D) T (z .lines) (er ∙ ap (putsOf (text (a .at) now)) same))
+      let same : totalLines (a .«no_deadline») (a .«no_payload») (m .count) ≡ T =
+      rw (z .deadline, z .payload, w .count′) in
+      rw (sym ex ∙ not-false x h) (join (text 0 out) (text (a .at) now) r (auditLines 0 D) T (z .lines)
+      (er ∙ ap (putsOf (text (a .at) now)) same))

@@ -1,4 +1,5 @@
--- What stands at a seat tells whether a slot is an instruction, has a payload, has a deadline; and its name is shown. Assumes nothing.
+-- What stands at a seat tells whether a slot is an instruction, has a payload, has a deadline; and its name is shown.
+-- Assumes nothing.
 use mathlib.Core.Path.{_≡_, refl, sym, ap, _∙_}
 use mathlib.Core.Bool.{Bool, true, false, not, _&&_, _||_}
 use mathlib.Core.Option.{Option}
@@ -37,14 +38,17 @@ module _ (v : ℕ) (p : Held) (st : Stands v p) where
   unfolding isPayload
   payload-missing h b i = ap isPayload (missing b v p st h)
 
-  pub instruction-named : not (p .held) ≡ false → Told isInstruction v (not (eqb (p .kind) 0x002) && not (eqb (p .kind) 0x0ff))
+  pub instruction-named : not (p .held) ≡ false
+      → Told isInstruction v (not (eqb (p .kind) 0x002) && not (eqb (p .kind) 0x0ff))
   unfolding isInstruction
   instruction-named h b i = ap isInstruction (there b v p st h)
 
-  pub payload-there : not (p .held) ≡ false → Told isPayload v (eqb (p .kind) 0x202 || (eqb (p .kind) 0x201 && ltb (p .from) (p .to)))
+  pub payload-there : not (p .held) ≡ false
+      → Told isPayload v (eqb (p .kind) 0x202 || (eqb (p .kind) 0x201 && ltb (p .from) (p .to)))
   unfolding isPayload
   payload-there h b i =
-      ap (λ (z : Bool). eqb (p .kind) 0x202 || (eqb (p .kind) 0x201 && z)) (more-than-none (p .from) (p .to) ∙ ap (ltb 0) (sym (bytes-length b v p st i)))
+      ap (λ (z : Bool). eqb (p .kind) 0x202 || (eqb (p .kind) 0x201 && z))
+      (more-than-none (p .from) (p .to) ∙ ap (ltb 0) (sym (bytes-length b v p st i)))
       ∙ ap isPayload (there b v p st h)
 
   pub deadline-held : Told isDeadline v (p .held)
@@ -61,15 +65,18 @@ module _ (v : ℕ) (p : Held) (st : Stands v p) where
     unfolding nameOrDash
     dash-shown h er = er ∙ ap (λ (l : Option Load). putsOf s (nameOrDash l)) (missing b v p st h)
 
-    pub name-shown : not (p .held) ≡ false → r ≡ putsOf s (nameBytes (take (p .to - p .from) (drop (p .from) b))) → r ≡ putsOf s (nameOrDash (loadIn b v))
+    pub name-shown : not (p .held) ≡ false → r ≡ putsOf s (nameBytes (take (p .to - p .from) (drop (p .from) b)))
+        → r ≡ putsOf s (nameOrDash (loadIn b v))
     unfolding nameOrDash
     name-shown h er = er ∙ ap (λ (l : Option Load). putsOf s (nameOrDash l)) (there b v p st h)
 
 -- ---- a line: its parts, one behind the other
-pub lack-done : (id : ℕ) (name : Option Load) (what : List ℕ) (s t1 t2 t3 t4 r : Text) → t1 ≡ putsOf s (ascii "slot ") → t2 ≡ putsOf t1 (decimal id) → t3 ≡ putsOf t2 (ascii " ")
+pub lack-done : (id : ℕ) (name : Option Load) (what : List ℕ) (s t1 t2 t3 t4 r : Text) → t1 ≡ putsOf s (ascii "slot ")
+    → t2 ≡ putsOf t1 (decimal id) → t3 ≡ putsOf t2 (ascii " ")
     → t4 ≡ putsOf t3 (nameOrDash name) → r ≡ putsOf t4 what → r ≡ putsOf s (lackLine id name what)
 unfolding lackLine
 lack-done id name what s t1 t2 t3 t4 r e1 e2 e3 e4 er =
     let N : List ℕ = nameOrDash name ++ what in
     join s t1 r (ascii "slot ") (decimal id ++ (ascii " " ++ N)) e1
-    (join t1 t2 r (decimal id) (ascii " " ++ N) e2 (join t2 t3 r (ascii " ") N e3 (join t3 t4 r (nameOrDash name) what e4 er)))
+    (join t1 t2 r (decimal id) (ascii " " ++ N) e2
+    (join t2 t3 r (ascii " ") N e3 (join t3 t4 r (nameOrDash name) what e4 er)))

@@ -1,12 +1,14 @@
-// The audit of a pair's instructions: each slot with a payload and no deadline, or a deadline and no payload, and how many there are of both; or the
-// refusal. The text is written to a lent buffer as far as there is room; the answer is the length of the whole text. Any bytes may be audited.
+// The audit of a pair's instructions: each slot with a payload and no deadline, or a deadline and no payload, and how
+// many there are of both; or the refusal. The text is written to a lent buffer as far as there is room; the answer is
+// the length of the whole text. Any bytes may be audited.
 ghost use mathlib.Core.Path.{_≡_};
 ghost use Prim.Native.Nat.{_<_};
 ghost use lib.ListN.{length};
 ghost use Rattle.format.specs.Log.{log};
 ghost use Rattle.format.specs.Directory.{dirOf};
 ghost use Rattle.format.specs.Listing.{writtenTo};
-ghost use Rattle.format.specs.Audit.{isInstruction, isPayload, isDeadline, lackLine, nameOrDash, totalLines, blockAudit, auditOf};
+ghost use Rattle.format.specs.Audit.{isInstruction, isPayload, isDeadline, lackLine, nameOrDash, totalLines};
+ghost use Rattle.format.specs.Audit.{blockAudit, auditOf};
 ghost use Rattle.text.specs.Put.{text, putsOf};
 ghost use Rattle.compact_slot.specs.Seat.{loadIn, Inside};
 ghost use Rattle.compact_slot.specs.Slots.{Slots, slotIn};
@@ -20,7 +22,8 @@ use format::types::*;
 // The class of the deadline, the user attribute 0x74: a name and a struct come before.
 const DEADLINE: usize = 2 + 0x74;
 
-// How far the audit is: the length of the text so far, and how many instructions lack a deadline and how many a payload.
+// How far the audit is: the length of the text so far, and how many instructions lack a deadline and how many a
+// payload.
 pub struct Audit {
     pub at: u32,
     pub no_deadline: u32,
@@ -60,7 +63,8 @@ fn is_deadline(attribute: u64) -> bool
 // "The name as in the listing; `-` where there is none."
 fn name_or_dash(out: &mut [u8], at: u32, b: &[u8], name: u64) -> u32
     requires { ⌜ Inside (now b) name ⌝ }
-    ensures { λ r. ⌜ text r (now (out .exit)) ≡ putsOf (text at (now (out .entry))) (nameOrDash (loadIn (now (b .entry)) name)) ⌝ }
+    ensures { λ r. ⌜ text r (now (out .exit)) ≡ putsOf (text at (now (out .entry)))
+        (nameOrDash (loadIn (now (b .entry)) name)) ⌝ }
 {
     let p = text_listing::part(name);
     if !p.held {
@@ -74,7 +78,8 @@ fn name_or_dash(out: &mut [u8], at: u32, b: &[u8], name: u64) -> u32
 // The line of a slot: its id, its name, and what it lacks.
 fn lack_line(out: &mut [u8], at: u32, b: &[u8], id: u32, name: u64, what: &[u8]) -> u32
     requires { ⌜ Inside (now b) name ⌝ }
-    ensures { λ r. ⌜ text r (now (out .exit)) ≡ putsOf (text at (now (out .entry))) (lackLine id (loadIn (now (b .entry)) name) (now (what .entry))) ⌝ }
+    ensures { λ r. ⌜ text r (now (out .exit)) ≡ putsOf (text at (now (out .entry)))
+        (lackLine id (loadIn (now (b .entry)) name) (now (what .entry))) ⌝ }
 {
     let n = text::puts(out, at, b"slot ");
     let n = text::decimal(out, n, id);
@@ -87,7 +92,8 @@ fn lack_line(out: &mut [u8], at: u32, b: &[u8], id: u32, name: u64, what: &[u8])
 fn slot_audit(out: &mut [u8], a: Audit, b: &[u8], id: u32, seats: &[u64; 258]) -> Audit
     requires { ⌜ AllInside (now b) (now seats) ⌝ }
     requires { ⌜ Few a ⌝ }
-    ensures { λ r. ⌜ SlotAudited a (now (out .entry)) r (now (out .exit)) id (slotIn (now (b .entry)) (now (seats .entry))) ⌝ }
+    ensures { λ r. ⌜ SlotAudited a (now (out .entry)) r (now (out .exit)) id
+        (slotIn (now (b .entry)) (now (seats .entry))) ⌝ }
 {
     let at = a.at;
     let no_deadline = a.no_deadline;
@@ -135,7 +141,8 @@ fn slot_audits(out: &mut [u8], b: &[u8], end: usize, etag: u32, count: u32) -> A
 
 // "Behind them three lines": the two counts, and the number of slots.
 fn total_lines(out: &mut [u8], a: Audit, count: u32) -> u32
-    ensures { λ r. ⌜ text r (now (out .exit)) ≡ putsOf (text (a .at) (now (out .entry))) (totalLines (a .«no_deadline») (a .«no_payload») count) ⌝ }
+    ensures { λ r. ⌜ text r (now (out .exit)) ≡ putsOf (text (a .at) (now (out .entry)))
+        (totalLines (a .«no_deadline») (a .«no_payload») count) ⌝ }
 {
     let n = text::number_line(out, a.at, b"payload without deadline ", a.no_deadline);
     let n = text::number_line(out, n, b"deadline without payload ", a.no_payload);

@@ -10,7 +10,8 @@ use lib.Seq.{drop-drop, length-take-le}
 use borrow.Author.Tests.{eq-eqb, eqb-false, not-true, not-false}
 use Rattle.format.specs.Tag.{tagType3, tagSize, removalSize, tagDelete, tagLength}
 use Rattle.format.specs.Directory.{Load}
-use Rattle.format.specs.Listing.{ascii, decimal, hexType, hexBytes, nameBytes, numberLine, nameFields, structFields, attrData, attrLine}
+use Rattle.format.specs.Listing.{ascii, decimal, hexType, hexBytes, nameBytes, numberLine, nameFields, structFields}
+use Rattle.format.specs.Listing.{attrData, attrLine}
 use Rattle.format.proofs.Tags.{length-size}
 use Rattle.text.specs.Put.{Text, putsOf}
 use Rattle.text.proofs.Joined.{puts-none, join}
@@ -52,7 +53,12 @@ module _ (v : ℕ) where
           rw (load-made b v n (sym ex ∙ h), k, ey, drop-drop 4 (seatPlace v) b)
 
       pub stands-made : Stands v p
-      stands-made = record { is = stands-is; order = omega arith; short = omega arith; inside = λ b i. omega (arith, size) }
+      stands-made = record {
+        is = stands-is;
+        order = omega arith;
+        short = omega arith;
+        inside = λ b i. omega (arith, size);
+      }
 
 -- ---- what stands at it, p, in the block b
 module _ (b : List ℕ) (v : ℕ) (p : Held) (st : Stands v p) where
@@ -60,21 +66,26 @@ module _ (b : List ℕ) (v : ℕ) (p : Held) (st : Stands v p) where
   bytes = take (p .to - p .from) (drop (p .from) b)
 
   pub missing : not (p .held) ≡ true → none ≡ loadIn b v
-  missing h = ap (λ (z : Bool). cond z (some (record { type = p .kind; bytes = bytes })) none) (sym (not-true (p .held) h)) ∙ st .is b
+  missing h = ap (λ (z : Bool). cond z (some (record { type = p .kind; bytes = bytes })) none)
+      (sym (not-true (p .held) h)) ∙ st .is b
 
   pub there : not (p .held) ≡ false → some (record { type = p .kind; bytes = bytes }) ≡ loadIn b v
-  there h = ap (λ (z : Bool). cond z (some (record { type = p .kind; bytes = bytes })) none) (sym (not-false (p .held) h)) ∙ st .is b
+  there h = ap (λ (z : Bool). cond z (some (record { type = p .kind; bytes = bytes })) none)
+      (sym (not-false (p .held) h)) ∙ st .is b
 
   pub bytes-length : Inside b v → length bytes ≡ p .to - p .from
-  bytes-length i = length-take-le (p .to - p .from) (drop (p .from) b) (rw (length-drop (p .from) b) (omega (arith, st .inside b i, st .order)))
+  bytes-length i = length-take-le (p .to - p .from) (drop (p .from) b)
+      (rw (length-drop (p .from) b) (omega (arith, st .inside b i, st .order)))
 
 -- ---- and the fields that show it
 module _ (b : List ℕ) (v : ℕ) (p : Held) (st : Stands v p) (s : Text) where
-  pub name-missing : not (p .held) ≡ true → (r : Text) → r ≡ putsOf s (ascii " - -") → r ≡ putsOf s (nameFields (loadIn b v))
+  pub name-missing : not (p .held) ≡ true → (r : Text) → r ≡ putsOf s (ascii " - -")
+      → r ≡ putsOf s (nameFields (loadIn b v))
   unfolding nameFields
   name-missing h r er = er ∙ ap (λ (l : Option Load). putsOf s (nameFields l)) (missing b v p st h)
 
-  pub struct-missing : not (p .held) ≡ true → (r : Text) → r ≡ putsOf s (ascii " - -\n") → r ≡ putsOf s (structFields (loadIn b v))
+  pub struct-missing : not (p .held) ≡ true → (r : Text) → r ≡ putsOf s (ascii " - -\n")
+      → r ≡ putsOf s (structFields (loadIn b v))
   unfolding structFields
   struct-missing h r er = er ∙ ap (λ (l : Option Load). putsOf s (structFields l)) (missing b v p st h)
 
@@ -83,7 +94,8 @@ module _ (b : List ℕ) (v : ℕ) (p : Held) (st : Stands v p) (s : Text) where
   attr-missing h id = puts-none s ∙ ap (λ (l : Option Load). putsOf s (attrLine id l)) (missing b v p st h)
 
   module _ (h : not (p .held) ≡ false) where
-    pub name-shown : (t1 t2 t3 r : Text) → t1 ≡ putsOf s (ascii " ") → t2 ≡ putsOf t1 (hexType (p .kind)) → t3 ≡ putsOf t2 (ascii " ") → r ≡ putsOf t3 (nameBytes (bytes b v p st))
+    pub name-shown : (t1 t2 t3 r : Text) → t1 ≡ putsOf s (ascii " ") → t2 ≡ putsOf t1 (hexType (p .kind))
+        → t3 ≡ putsOf t2 (ascii " ") → r ≡ putsOf t3 (nameBytes (bytes b v p st))
         → r ≡ putsOf s (nameFields (loadIn b v))
     unfolding nameFields
     name-shown t1 t2 t3 r e1 e2 e3 er =
@@ -92,16 +104,20 @@ module _ (b : List ℕ) (v : ℕ) (p : Held) (st : Stands v p) (s : Text) where
         (join t2 t3 r (ascii " ") (nameBytes (bytes b v p st)) e3 er))
         ∙ ap (λ (l : Option Load). putsOf s (nameFields l)) (there b v p st h)
 
-    pub struct-shown : Inside b v → (t1 t2 r : Text) → t1 ≡ putsOf s (ascii " ") → t2 ≡ putsOf t1 (hexType (p .kind)) → r ≡ putsOf t2 (numberLine (ascii " ") (p .to - p .from))
+    pub struct-shown : Inside b v → (t1 t2 r : Text) → t1 ≡ putsOf s (ascii " ") → t2 ≡ putsOf t1 (hexType (p .kind))
+        → r ≡ putsOf t2 (numberLine (ascii " ") (p .to - p .from))
         → r ≡ putsOf s (structFields (loadIn b v))
     unfolding structFields
     struct-shown i t1 t2 r e1 e2 er =
         join s t1 r (ascii " ") (hexType (p .kind) ++ numberLine (ascii " ") (length (bytes b v p st))) e1
-        (join t1 t2 r (hexType (p .kind)) (numberLine (ascii " ") (length (bytes b v p st))) e2 (er ∙ ap (λ (n : ℕ). putsOf t2 (numberLine (ascii " ") n)) (sym (bytes-length b v p st i))))
+        (join t1 t2 r (hexType (p .kind)) (numberLine (ascii " ") (length (bytes b v p st))) e2
+        (er ∙ ap (λ (n : ℕ). putsOf t2 (numberLine (ascii " ") n)) (sym (bytes-length b v p st i))))
         ∙ ap (λ (l : Option Load). putsOf s (structFields l)) (there b v p st h)
 
-    pub attr-shown : (id : ℕ) (t1 t2 t3 t4 t5 t6 r : Text) → t1 ≡ putsOf s (ascii "attr ") → t2 ≡ putsOf t1 (decimal id) → t3 ≡ putsOf t2 (ascii " ")
-        → t4 ≡ putsOf t3 (hexType (p .kind)) → t5 ≡ putsOf t4 (ascii " ") → t6 ≡ putsOf t5 (attrData (bytes b v p st)) → r ≡ putsOf t6 (ascii "\n")
+    pub attr-shown : (id : ℕ) (t1 t2 t3 t4 t5 t6 r : Text) → t1 ≡ putsOf s (ascii "attr ") → t2 ≡ putsOf t1 (decimal id)
+        → t3 ≡ putsOf t2 (ascii " ")
+        → t4 ≡ putsOf t3 (hexType (p .kind)) → t5 ≡ putsOf t4 (ascii " ") → t6 ≡ putsOf t5 (attrData (bytes b v p st))
+        → r ≡ putsOf t6 (ascii "\n")
         → r ≡ putsOf s (attrLine id (loadIn b v))
     unfolding attrLine
     attr-shown id t1 t2 t3 t4 t5 t6 r e1 e2 e3 e4 e5 e6 er =

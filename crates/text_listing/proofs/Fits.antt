@@ -1,4 +1,5 @@
--- No listing is as long as 2^32 bytes: what a regular log holds is short, and there are at most 1,023 slots. Assumes nothing.
+-- No listing is as long as 2^32 bytes: what a regular log holds is short, and there are at most 1,023 slots. Assumes
+-- nothing.
 use mathlib.Core.Path.{_≡_, refl}
 use mathlib.Core.Bool.{Bool, true, false, cond, _||_}
 use mathlib.Core.Option.{Option, none, some}
@@ -15,7 +16,10 @@ use Rattle.format.specs.Regular.{Regular}
 use Rattle.format.specs.Directory.{Load, Slot, dirOf}
 use Rattle.format.specs.Writer.{blockAt, isSecond}
 use Rattle.format.specs.Compaction.{isNoTail}
-use Rattle.format.specs.Listing.{ascii, decimalDigit, decimalIn, decimal, hexByte, hexBytes, hexType, isPlain, nameByte, nameBytes, numberLine, tailKind, tailLine, erasedLine, recordLines, nameFields, structFields, slotLine, attrData, attrLine, attrLines, slotLines, integer, refusedLine, dirLines, blockText, fetchInput, fetchedText, listingOf}
+use Rattle.format.specs.Listing.{ascii, decimalDigit, decimalIn, decimal, hexByte, hexBytes, hexType, isPlain, nameByte}
+use Rattle.format.specs.Listing.{nameBytes, numberLine, tailKind, tailLine, erasedLine, recordLines, nameFields}
+use Rattle.format.specs.Listing.{structFields, slotLine, attrData, attrLine, attrLines, slotLines, integer, refusedLine}
+use Rattle.format.specs.Listing.{dirLines, blockText, fetchInput, fetchedText, listingOf}
 use Rattle.format.specs.declared.LfsPair.{LfsPair}
 use Rattle.format.specs.declared.LfsMdir.{LfsMdir}
 use Rattle.format.specs.declared.Refusal.{Refusal}
@@ -32,7 +36,8 @@ unfolding decimalIn
 decimal-short zero n = omega arith
 decimal-short (suc k) n = go (ltb n 10) (decimal-short k (n / 10))
   where
-    go : (b : Bool) → length (decimalIn k (n / 10)) ≤ k → length (cond b (decimalDigit n ∷ []) (decimalIn k (n / 10) ++ (decimalDigit n ∷ []))) ≤ suc k
+    go : (b : Bool) → length (decimalIn k (n / 10)) ≤ k
+        → length (cond b (decimalDigit n ∷ []) (decimalIn k (n / 10) ++ (decimalDigit n ∷ []))) ≤ suc k
     go true h = omega arith
     go false h = omega (arith, length-append (decimalIn k (n / 10)) (decimalDigit n ∷ []))
 
@@ -57,17 +62,33 @@ name-length (b ∷ l) = omega (arith, length-append (nameByte b) (nameBytes l), 
 pub number-short : (label : List ℕ) (n : ℕ) → length (numberLine label n) ≤ length label + 11
 unfolding numberLine
 number-short label n =
-    omega (arith, length-append label (decimal n ++ ascii "\n"), length-append (decimal n) (ascii "\n"), decimal-short 10 n)
+    omega (
+      arith,
+      length-append label (decimal n ++ ascii "\n"),
+      length-append (decimal n) (ascii "\n"),
+      decimal-short 10 n,
+    )
 
 -- ---- the record
 tail-short : (split : Bool) (p : LfsPair) → length (tailLine split p) ≤ 32
 unfolding tailLine
 tail-short split p = go (isNoTail split p) split
   where
-    go : (x s : Bool) → length (cond x (ascii "tail none\n") (tailKind s ++ (decimal (p .n0) ++ numberLine (ascii " ") (p .n1)))) ≤ 32
+    go : (x s : Bool) → length
+        (cond x (ascii "tail none\n") (tailKind s ++ (decimal (p .n0) ++ numberLine (ascii " ") (p .n1)))) ≤ 32
     go true s = omega arith
-    go false true = omega (arith, length-append (decimal (p .n0)) (numberLine (ascii " ") (p .n1)), decimal-short 10 (p .n0), number-short (ascii " ") (p .n1))
-    go false false = omega (arith, length-append (decimal (p .n0)) (numberLine (ascii " ") (p .n1)), decimal-short 10 (p .n0), number-short (ascii " ") (p .n1))
+    go false true = omega (
+      arith,
+      length-append (decimal (p .n0)) (numberLine (ascii " ") (p .n1)),
+      decimal-short 10 (p .n0),
+      number-short (ascii " ") (p .n1),
+    )
+    go false false = omega (
+      arith,
+      length-append (decimal (p .n0)) (numberLine (ascii " ") (p .n1)),
+      decimal-short 10 (p .n0),
+      number-short (ascii " ") (p .n1),
+    )
 
 erased-short : (e : Bool) → length (erasedLine e) ≤ 11
 unfolding erasedLine
@@ -81,10 +102,26 @@ record-short m =
     let C : List ℕ = numberLine (ascii "count ") (m .count) ++ E in
     let O : List ℕ = numberLine (ascii "end ") (m .off) ++ C in
     let B : List ℕ = numberLine (ascii "block ") (m .pair .n0) ++ O in
-    let e : length E ≤ 43 = omega (arith, length-append (tailLine (m .split) (m .tail)) (erasedLine (m .erased)), tail-short (m .split) (m .tail), erased-short (m .erased)) in
-    let c : length C ≤ 60 = omega (arith, length-append (numberLine (ascii "count ") (m .count)) E, number-short (ascii "count ") (m .count), e) in
-    let o : length O ≤ 75 = omega (arith, length-append (numberLine (ascii "end ") (m .off)) C, number-short (ascii "end ") (m .off), c) in
-    let b : length B ≤ 92 = omega (arith, length-append (numberLine (ascii "block ") (m .pair .n0)) O, number-short (ascii "block ") (m .pair .n0), o) in
+    let e : length E ≤ 43 = omega (
+      arith,
+      length-append (tailLine (m .split) (m .tail)) (erasedLine (m .erased)),
+      tail-short (m .split) (m .tail),
+      erased-short (m .erased),
+    ) in
+    let c : length C ≤ 60 = omega (
+      arith,
+      length-append (numberLine (ascii "count ") (m .count)) E,
+      number-short (ascii "count ") (m .count),
+      e,
+    ) in
+    let o : length O ≤ 75 = omega
+    (arith, length-append (numberLine (ascii "end ") (m .off)) C, number-short (ascii "end ") (m .off), c) in
+    let b : length B ≤ 92 = omega (
+      arith,
+      length-append (numberLine (ascii "block ") (m .pair .n0)) O,
+      number-short (ascii "block ") (m .pair .n0),
+      o,
+    ) in
     omega (arith, length-append (numberLine (ascii "rev ") (m .rev)) B, number-short (ascii "rev ") (m .rev), b)
 
 integer-short : (z : ℤ) → length (integer z) ≤ 11
@@ -120,7 +157,13 @@ attr-short id none h = omega arith
 attr-short id (some v) h =
     let D : List ℕ = attrData (v .bytes) ++ ascii "\n" in
     let T : List ℕ = ascii " " ++ (hexType (v .type) ++ (ascii " " ++ D)) in
-    omega (arith, length-append (decimal id) T, length-append (attrData (v .bytes)) (ascii "\n"), decimal-short 10 id, data-short (v .bytes) h)
+    omega (
+      arith,
+      length-append (decimal id) T,
+      length-append (attrData (v .bytes)) (ascii "\n"),
+      decimal-short 10 id,
+      data-short (v .bytes) h,
+    )
 
 pub slot-loads : (s : Slot) → OkSlot s → (c : ℕ) → Short (s c)
 slot-loads s ok c = go (s c) refl
@@ -133,13 +176,25 @@ slot-short : (id : ℕ) (s : Slot) → OkSlot s → length (slotLine id s) ≤ 4
 unfolding slotLine
 slot-short id s ok =
     let F : List ℕ = nameFields (s 0) ++ structFields (s 1) in
-    omega (arith, length-append (decimal id) F, length-append (nameFields (s 0)) (structFields (s 1)), decimal-short 10 id, name-fields-short (s 0) (slot-loads s ok 0), struct-fields-short (s 1))
+    omega (
+      arith,
+      length-append (decimal id) F,
+      length-append (nameFields (s 0)) (structFields (s 1)),
+      decimal-short 10 id,
+      name-fields-short (s 0) (slot-loads s ok 0),
+      struct-fields-short (s 1),
+    )
 
 attrs-short : (n c id : ℕ) (s : Slot) → OkSlot s → length (attrLines n c id s) ≤ n * 2_070
 unfolding attrLines
 attrs-short zero c id s ok = omega arith
 attrs-short (suc n) c id s ok =
-    omega (arith, length-append (attrLine id (s c)) (attrLines n (suc c) id s), attr-short id (s c) (slot-loads s ok c), attrs-short n (suc c) id s ok)
+    omega (
+      arith,
+      length-append (attrLine id (s c)) (attrLines n (suc c) id s),
+      attr-short id (s c) (slot-loads s ok c),
+      attrs-short n (suc c) id s ok,
+    )
 
 slots-short : (D : List Slot) (id : ℕ) → OkSlots D → length (slotLines id D) ≤ length D * 534_044
 unfolding slotLines
@@ -147,15 +202,27 @@ slots-short [] id h = omega arith
 slots-short (s ∷ D) id h =
     let A : List ℕ = attrLines (2 ^ 8) 2 id s in
     let R : List ℕ = slotLines (suc id) D in
-    omega (arith, length-append (slotLine id s) (A ++ R), length-append A R, slot-short id s (h .0), attrs-short (2 ^ 8) 2 id s (h .0), slots-short D (suc id) (h .1))
+    omega (
+      arith,
+      length-append (slotLine id s) (A ++ R),
+      length-append A R,
+      slot-short id s (h .0),
+      attrs-short (2 ^ 8) 2 id s (h .0),
+      slots-short D (suc id) (h .1),
+    )
 
 -- ---- the whole text
 dir-short : (b : List ℕ) → length (dirLines b) ≤ 546_327_012
 unfolding dirLines
 dir-short b = go (Regular (log b)) refl
   where
-    go : (x : Bool) → Regular (log b) ≡ x → length (cond x (slotLines 0 (dirOf (log b))) (refusedLine Irregular)) ≤ 546_327_012
-    go true e = omega (arith, slots-short (dirOf (log b)) 0 (ok-dirOf (log b) (regular-loads b (log b) refl e)), slots-few b e)
+    go : (x : Bool) → Regular (log b) ≡ x → length (cond x (slotLines 0 (dirOf (log b))) (refusedLine Irregular))
+        ≤ 546_327_012
+    go true e = omega (
+      arith,
+      slots-short (dirOf (log b)) 0 (ok-dirOf (log b) (regular-loads b (log b) refl e)),
+      slots-few b e,
+    )
     go false e = omega (arith, refused-short Irregular)
 
 block-short : (m : LfsMdir) (b : List ℕ) → length (blockText m b) ≤ 546_327_132
@@ -163,9 +230,11 @@ unfolding blockText
 block-short m b = omega (arith, length-append (recordLines m) (dirLines b), record-short m, dir-short b)
 
 -- a text is short if what is said of each block is
-pub fetched-short : (shows : LfsMdir → List ℕ → List ℕ) → ((m : LfsMdir) (b : List ℕ) → length (shows m b) < 2 ^ 32) → (input : List ℕ) (f : Fetched) → length (fetchedText shows input f) < 2 ^ 32
+pub fetched-short : (shows : LfsMdir → List ℕ → List ℕ) → ((m : LfsMdir) (b : List ℕ) → length (shows m b) < 2 ^ 32)
+    → (input : List ℕ) (f : Fetched) → length (fetchedText shows input f) < 2 ^ 32
 fetched-short shows h input (fetched.Refused r) = omega (arith, refused-short r)
-fetched-short shows h input (fetched.Found m s) = h m (blockAt (isSecond 0 m) (take (length input / 2) input) (drop (length input / 2) input))
+fetched-short shows h input (fetched.Found m s) =
+    h m (blockAt (isSecond 0 m) (take (length input / 2) input) (drop (length input / 2) input))
 
 pub listing-short : (input : List ℕ) → length (listingOf input) < 2 ^ 32
 listing-short input = fetched-short blockText (λ m b. omega (arith, block-short m b)) input (fetchInput input)

@@ -1,4 +1,5 @@
--- The loops over a slot's user attributes and over the slots: what is left to show, from where the text stands. Assumes nothing.
+-- The loops over a slot's user attributes and over the slots: what is left to show, from where the text stands. Assumes
+-- nothing.
 use mathlib.Core.Path.{_≡_, refl, sym, ap, ap₂, _∙_}
 use mathlib.Core.Option.{Option}
 use mathlib.Core.List.{List, [], _∷_, _++_, append-assoc}
@@ -14,32 +15,39 @@ use Rattle.text.proofs.Joined.{puts-app, puts-none, join}
 use Rattle.text_listing.specs.Listed.{slotText}
 
 -- ---- one class more: a is where all classes end, r stands behind class c
-class-next : (c id : ℕ) (s : Slot) → c < classes → attrLines (classes - c) c id s ≡ attrLine id (s c) ++ attrLines (classes - (c + 1)) (c + 1) id s
+class-next : (c id : ℕ) (s : Slot) → c < classes → attrLines (classes - c) c id s ≡ attrLine id (s c)
+    ++ attrLines (classes - (c + 1)) (c + 1) id s
 unfolding attrLines
 class-next c id s h =
     let e : classes - c ≡ suc (classes - (c + 1)) = omega arith in
     rw (e, add-one c)
 
-pub attrs-more : (a s r : Text) (c id : ℕ) (slot : Slot) → c < classes → a ≡ putsOf s (attrLines (classes - c) c id slot) → r ≡ putsOf s (attrLine id (slot c))
+pub attrs-more : (a s r : Text) (c id : ℕ) (slot : Slot) → c < classes
+    → a ≡ putsOf s (attrLines (classes - c) c id slot) → r ≡ putsOf s (attrLine id (slot c))
     → a ≡ putsOf r (attrLines (classes - (c + 1)) (c + 1) id slot)
 attrs-more a s r c id slot h ea er =
     let R : List ℕ = attrLines (classes - (c + 1)) (c + 1) id slot in
-    ea ∙ ap (putsOf s) (class-next c id slot h) ∙ sym (puts-app (attrLine id (slot c)) R s) ∙ ap (λ (z : Text). putsOf z R) (sym er)
+    ea ∙ ap (putsOf s) (class-next c id slot h) ∙ sym (puts-app (attrLine id (slot c)) R s)
+    ∙ ap (λ (z : Text). putsOf z R) (sym er)
 
-pub attrs-done : (a s : Text) (c id : ℕ) (slot : Slot) → classes ≤ c → a ≡ putsOf s (attrLines (classes - c) c id slot) → s ≡ a
+pub attrs-done : (a s : Text) (c id : ℕ) (slot : Slot) → classes ≤ c → a ≡ putsOf s (attrLines (classes - c) c id slot)
+    → s ≡ a
 unfolding attrLines
 attrs-done a s c id slot h ea =
     let e : classes - c ≡ 0 = omega arith in
     puts-none s ∙ sym (ea ∙ rw e)
 
 -- ---- a slot: its line, and behind it its user attributes
-pub slot-done : (s t1 t2 t3 t4 r : Text) (id : ℕ) (slot : Slot) → t1 ≡ putsOf s (ascii "slot ") → t2 ≡ putsOf t1 (decimal id) → t3 ≡ putsOf t2 (nameFields (slot 0))
-    → t4 ≡ putsOf t3 (structFields (slot 1)) → r ≡ putsOf t4 (attrLines (2 ^ 8) 2 id slot) → r ≡ putsOf s (slotText id slot)
+pub slot-done : (s t1 t2 t3 t4 r : Text) (id : ℕ) (slot : Slot) → t1 ≡ putsOf s (ascii "slot ")
+    → t2 ≡ putsOf t1 (decimal id) → t3 ≡ putsOf t2 (nameFields (slot 0))
+    → t4 ≡ putsOf t3 (structFields (slot 1)) → r ≡ putsOf t4 (attrLines (2 ^ 8) 2 id slot)
+    → r ≡ putsOf s (slotText id slot)
 unfolding slotLine
 slot-done s t1 t2 t3 t4 r id slot e1 e2 e3 e4 er =
     let F : List ℕ = nameFields (slot 0) ++ structFields (slot 1) in
     join s t4 r (ascii "slot " ++ (decimal id ++ F)) (attrLines (2 ^ 8) 2 id slot)
-    (join s t1 t4 (ascii "slot ") (decimal id ++ F) e1 (join t1 t2 t4 (decimal id) F e2 (join t2 t3 t4 (nameFields (slot 0)) (structFields (slot 1)) e3 e4)))
+    (join s t1 t4 (ascii "slot ") (decimal id ++ F) e1
+    (join t1 t2 t4 (decimal id) F e2 (join t2 t3 t4 (nameFields (slot 0)) (structFields (slot 1)) e3 e4)))
     er
 
 -- ---- a loop over slots: f shows one of them, F all from an id on
@@ -50,7 +58,8 @@ pub record Shown (F : ℕ → List Slot → List ℕ) (f : ℕ → Slot → List
 
 module _ (F : ℕ → List Slot → List ℕ) (f : ℕ → Slot → List ℕ) (law : Shown F f) where
   -- one slot more: a is where all slots end, r stands behind the slot id, whose seats hold what the directory has there
-  pub slots-next : (a s r : Text) (D : List Slot) (id : ℕ) (slot : Slot) → id < length D → ((k : ℕ) → k < classes → slot k ≡ getD D id empty k)
+  pub slots-next : (a s r : Text) (D : List Slot) (id : ℕ) (slot : Slot) → id < length D
+      → ((k : ℕ) → k < classes → slot k ≡ getD D id empty k)
       → a ≡ putsOf s (F id (drop id D)) → r ≡ putsOf s (f id slot) → a ≡ putsOf r (F (id + 1) (drop (id + 1) D))
   slots-next a s r D id slot h same ea er =
       let R : List ℕ = F (id + 1) (drop (id + 1) D) in
@@ -61,19 +70,22 @@ module _ (F : ℕ → List Slot → List ℕ) (f : ℕ → Slot → List ℕ) (l
       ea ∙ ap (putsOf s) e ∙ sym (puts-app (f id slot) R s) ∙ ap (λ (z : Text). putsOf z R) (sym er)
 
   pub slots-done : (a s : Text) (D : List Slot) (id : ℕ) → length D ≤ id → a ≡ putsOf s (F id (drop id D)) → s ≡ a
-  slots-done a s D id h ea = puts-none s ∙ sym (ea ∙ ap (putsOf s) (ap (F id) (drop-of-length-le D {i = id} h) ∙ law .none id))
+  slots-done a s D id h ea = puts-none s
+      ∙ sym (ea ∙ ap (putsOf s) (ap (F id) (drop-of-length-le D {i = id} h) ∙ law .none id))
 
 -- ---- slots that hold the same are shown the same
 attrs-same : (n c id : ℕ) (s t : Slot) → ((k : ℕ) → k < c + n → s k ≡ t k) → attrLines n c id s ≡ attrLines n c id t
 unfolding attrLines
 attrs-same zero c id s t h = refl
 attrs-same (suc n) c id s t h =
-    ap₂ (λ (x : Option Load) (y : List ℕ). attrLine id x ++ y) (h c (omega arith)) (attrs-same n (suc c) id s t (λ k l. h k (omega arith)))
+    ap₂ (λ (x : Option Load) (y : List ℕ). attrLine id x ++ y) (h c (omega arith))
+    (attrs-same n (suc c) id s t (λ k l. h k (omega arith)))
 
 text-same : (id : ℕ) (s t : Slot) → ((k : ℕ) → k < classes → s k ≡ t k) → slotText id s ≡ slotText id t
 unfolding slotLine
 text-same id s t h =
-    ap₂ _++_ (ap₂ (λ (x y : Option Load). ascii "slot " ++ (decimal id ++ (nameFields x ++ structFields y))) (h 0 (omega arith)) (h 1 (omega arith)))
+    ap₂ _++_ (ap₂ (λ (x y : Option Load). ascii "slot " ++ (decimal id ++ (nameFields x ++ structFields y)))
+    (h 0 (omega arith)) (h 1 (omega arith)))
     (attrs-same (2 ^ 8) 2 id s t (λ k l. h k (omega arith)))
 
 lines-next : (id : ℕ) (s : Slot) (D : List Slot) → slotLines id (s ∷ D) ≡ slotText id s ++ slotLines (suc id) D

@@ -16,7 +16,8 @@ use Rattle.format.specs.Regular.{Regular}
 use Rattle.format.specs.Directory.{dirOf}
 use Rattle.format.specs.Writer.{blockAt, isSecond}
 use Rattle.format.specs.Compaction.{isNoTail}
-use Rattle.format.specs.Listing.{ascii, decimal, numberLine, tailKind, tailLine, erasedLine, recordLines, slotLines, refusedLine, dirLines, blockText, inputGeometry, fetchInput, fetchedText}
+use Rattle.format.specs.Listing.{ascii, decimal, numberLine, tailKind, tailLine, erasedLine, recordLines, slotLines}
+use Rattle.format.specs.Listing.{refusedLine, dirLines, blockText, inputGeometry, fetchInput, fetchedText}
 use Rattle.format.specs.declared.LfsPair.{LfsPair}
 use Rattle.format.specs.declared.LfsMdir.{LfsMdir}
 use Rattle.format.specs.declared.Refusal.{Refusal}
@@ -31,22 +32,27 @@ use Rattle.text.proofs.Joined.{join}
 use Rattle.text_listing.specs.Listed.{Listable, Numbers}
 
 -- ---- the record
-pub kind-hard : (s r : Text) (split : Bool) → split ≡ true → r ≡ putsOf s (ascii "tail hard ") → r ≡ putsOf s (tailKind split)
+pub kind-hard : (s r : Text) (split : Bool) → split ≡ true → r ≡ putsOf s (ascii "tail hard ")
+    → r ≡ putsOf s (tailKind split)
 kind-hard s r split h er = rw h er
 
-pub kind-soft : (s r : Text) (split : Bool) → split ≡ false → r ≡ putsOf s (ascii "tail soft ") → r ≡ putsOf s (tailKind split)
+pub kind-soft : (s r : Text) (split : Bool) → split ≡ false → r ≡ putsOf s (ascii "tail soft ")
+    → r ≡ putsOf s (tailKind split)
 kind-soft s r split h er = rw h er
 
-pub tail-none : (s r : Text) (split : Bool) (p : LfsPair) → isNoTail split p ≡ true → r ≡ putsOf s (ascii "tail none\n") → r ≡ putsOf s (tailLine split p)
+pub tail-none : (s r : Text) (split : Bool) (p : LfsPair) → isNoTail split p ≡ true → r ≡ putsOf s (ascii "tail none\n")
+    → r ≡ putsOf s (tailLine split p)
 unfolding tailLine
 tail-none s r split p h er = rw h er
 
-pub tail-shown : (s t u r : Text) (split : Bool) (p : LfsPair) → isNoTail split p ≡ false → t ≡ putsOf s (tailKind split) → u ≡ putsOf t (decimal (p .n0))
+pub tail-shown : (s t u r : Text) (split : Bool) (p : LfsPair) → isNoTail split p ≡ false
+    → t ≡ putsOf s (tailKind split) → u ≡ putsOf t (decimal (p .n0))
     → r ≡ putsOf u (numberLine (ascii " ") (p .n1)) → r ≡ putsOf s (tailLine split p)
 unfolding tailLine
 tail-shown s t u r split p h et eu er =
     rw h
-    (join s t r (tailKind split) (decimal (p .n0) ++ numberLine (ascii " ") (p .n1)) et (join t u r (decimal (p .n0)) (numberLine (ascii " ") (p .n1)) eu er))
+    (join s t r (tailKind split) (decimal (p .n0) ++ numberLine (ascii " ") (p .n1)) et
+    (join t u r (decimal (p .n0)) (numberLine (ascii " ") (p .n1)) eu er))
 
 pub erased-yes : (s r : Text) (e : Bool) → e ≡ true → r ≡ putsOf s (ascii "erased yes\n") → r ≡ putsOf s (erasedLine e)
 unfolding erasedLine
@@ -56,8 +62,10 @@ pub erased-no : (s r : Text) (e : Bool) → e ≡ false → r ≡ putsOf s (asci
 unfolding erasedLine
 erased-no s r e h er = rw h er
 
-pub record-done : (s t1 t2 t3 t4 t5 r : Text) (m : LfsMdir) → t1 ≡ putsOf s (numberLine (ascii "rev ") (m .rev)) → t2 ≡ putsOf t1 (numberLine (ascii "block ") (m .pair .n0))
-    → t3 ≡ putsOf t2 (numberLine (ascii "end ") (m .off)) → t4 ≡ putsOf t3 (numberLine (ascii "count ") (m .count)) → t5 ≡ putsOf t4 (tailLine (m .split) (m .tail))
+pub record-done : (s t1 t2 t3 t4 t5 r : Text) (m : LfsMdir) → t1 ≡ putsOf s (numberLine (ascii "rev ") (m .rev))
+    → t2 ≡ putsOf t1 (numberLine (ascii "block ") (m .pair .n0))
+    → t3 ≡ putsOf t2 (numberLine (ascii "end ") (m .off)) → t4 ≡ putsOf t3 (numberLine (ascii "count ") (m .count))
+    → t5 ≡ putsOf t4 (tailLine (m .split) (m .tail))
     → r ≡ putsOf t5 (erasedLine (m .erased)) → r ≡ putsOf s (recordLines m)
 unfolding recordLines
 record-done s t1 t2 t3 t4 t5 r m e1 e2 e3 e4 e5 er =
@@ -67,31 +75,47 @@ record-done s t1 t2 t3 t4 t5 r m e1 e2 e3 e4 e5 er =
     join s t1 r (numberLine (ascii "rev ") (m .rev)) (numberLine (ascii "block ") (m .pair .n0) ++ O) e1
     (join t1 t2 r (numberLine (ascii "block ") (m .pair .n0)) O e2
     (join t2 t3 r (numberLine (ascii "end ") (m .off)) C e3
-    (join t3 t4 r (numberLine (ascii "count ") (m .count)) E e4 (join t4 t5 r (tailLine (m .split) (m .tail)) (erasedLine (m .erased)) e5 er))))
+    (join t3 t4 r (numberLine (ascii "count ") (m .count)) E e4
+    (join t4 t5 r (tailLine (m .split) (m .tail)) (erasedLine (m .erased)) e5 er))))
 
 -- ---- a refusal; n is its number without the sign
-refused-line : (x : Refusal) (n : ℕ) → refusalNumber x ≡ negℤ (pos n) → 0 < n → numberLine (ascii "refused -") n ≡ refusedLine x
+refused-line : (x : Refusal) (n : ℕ) → refusalNumber x ≡ negℤ (pos n) → 0 < n
+    → numberLine (ascii "refused -") n ≡ refusedLine x
 unfolding numberLine refusedLine
 refused-line x zero e h = absurd (omega arith)
 refused-line x (suc k) e h = rw e
 
-pub refused-done : (s r : Text) (x : Refusal) (n : ℕ) → Numbers x n → r ≡ putsOf s (numberLine (ascii "refused -") n) → r ≡ putsOf s (refusedLine x)
+pub refused-done : (s r : Text) (x : Refusal) (n : ℕ) → Numbers x n → r ≡ putsOf s (numberLine (ascii "refused -") n)
+    → r ≡ putsOf s (refusedLine x)
 refused-done s r x n w er = er ∙ ap (putsOf s) (refused-line x n (w .is) (w .some))
 
 -- ---- a block and its record; x is what the test of regularity answers
-module _ (b : List ℕ) (m : LfsMdir) (s t r : Text) (x : Bool) (ex : x ≡ Regular (log b)) (et : t ≡ putsOf s (recordLines m)) where
+module _ (b : List ℕ) (m : LfsMdir) (s t r : Text) (x : Bool) (ex : x ≡ Regular (log b))
+    (et : t ≡ putsOf s (recordLines m)) where
   pub block-irregular : not x ≡ true → r ≡ putsOf t (refusedLine Irregular) → r ≡ putsOf s (blockText m b)
   unfolding blockText dirLines
-  block-irregular h er = join s t r (recordLines m) (refusedLine Irregular) et er ∙ ap (λ (z : Bool). putsOf s (recordLines m ++ cond z (slotLines 0 (dirOf (log b))) (refusedLine Irregular))) (sym (not-true x h) ∙ ex)
+  block-irregular h er = join s t r (recordLines m) (refusedLine Irregular) et er
+      ∙ ap (λ (z : Bool). putsOf s (recordLines m ++ cond z (slotLines 0 (dirOf (log b))) (refusedLine Irregular)))
+      (sym (not-true x h) ∙ ex)
 
   pub block-regular : not x ≡ false → r ≡ putsOf t (slotLines 0 (dirOf (log b))) → r ≡ putsOf s (blockText m b)
   unfolding blockText dirLines
-  block-regular h er = join s t r (recordLines m) (slotLines 0 (dirOf (log b))) et er ∙ ap (λ (z : Bool). putsOf s (recordLines m ++ cond z (slotLines 0 (dirOf (log b))) (refusedLine Irregular))) (sym (not-false x h) ∙ ex)
+  block-regular h er = join s t r (recordLines m) (slotLines 0 (dirOf (log b))) et er
+      ∙ ap (λ (z : Bool). putsOf s (recordLines m ++ cond z (slotLines 0 (dirOf (log b))) (refusedLine Irregular)))
+      (sym (not-false x h) ∙ ex)
 
-pub block-slots : (b : List ℕ) (m : LfsMdir) (x : Bool) → Listable b m → x ≡ Regular (log b) → not x ≡ false → Slots b (m .off) (m .etag) (m .count)
+pub block-slots : (b : List ℕ) (m : LfsMdir) (x : Bool) → Listable b m → x ≡ Regular (log b) → not x ≡ false
+    → Slots b (m .off) (m .etag) (m .count)
 block-slots b m x w ex h =
     let regular : Regular (log b) ≡ true = sym ex ∙ not-false x h in
-    record { word = w .word; most = w .most; regular = regular; ends = w .ends; endTag = w .endTag; count′ = w .count′ ∙ slots-counted b regular }
+    record {
+      word = w .word;
+      most = w .most;
+      regular = regular;
+      ends = w .ends;
+      endTag = w .endTag;
+      count′ = w .count′ ∙ slots-counted b regular;
+    }
 
 -- ---- the two parts that the code cuts
 cut-front : (n : ℕ) (l : List ℕ) → take (n - 0) (drop 0 l) ≡ take n l
@@ -132,11 +156,13 @@ module _ (input : List ℕ) where
     unfolding fetchInput
     input-long h = rw (ne-eqb (length input % 2) 1 even, lt-ltb 65_536 (length input) h)
 
-    pub input-fetched : length input ≤ 65_536 → (r : Fetched) → r ≡ fetchOf (inputGeometry half) front rest 0 1 0 0 → r ≡ fetchInput input
+    pub input-fetched : length input ≤ 65_536 → (r : Fetched) → r ≡ fetchOf (inputGeometry half) front rest 0 1 0 0
+        → r ≡ fetchInput input
     unfolding fetchInput
     input-fetched h r er =
         rw (ne-eqb (length input % 2) 1 even, le-ltb 65_536 (length input) h)
-        (er ∙ ap₂ (λ (x y : List ℕ). fetchOf (inputGeometry half) x y 0 1 0 0) (cut-front half input) (cut-back half input))
+        (er ∙ ap₂ (λ (x y : List ℕ). fetchOf (inputGeometry half) x y 0 1 0 0) (cut-front half input)
+        (cut-back half input))
 
   -- what is found is found by fetch
   found-fetched : (m : LfsMdir) (k : ℕ) → fetched.Found m k ≡ fetchInput input → fetched.Found m k ≡ fetched′
@@ -149,10 +175,12 @@ module _ (input : List ℕ) where
 
   -- ---- the text, by what fetch answered; `shows` is what is said of a record and its block
   module _ (shows : LfsMdir → List ℕ → List ℕ) (s r : Text) where
-    pub shown-refused : (x : Refusal) → fetched.Refused x ≡ fetchInput input → r ≡ putsOf s (refusedLine x) → r ≡ putsOf s (fetchedText shows input (fetchInput input))
+    pub shown-refused : (x : Refusal) → fetched.Refused x ≡ fetchInput input → r ≡ putsOf s (refusedLine x)
+        → r ≡ putsOf s (fetchedText shows input (fetchInput input))
     shown-refused x f er = rw (← f) er
 
-    shown-found : (m : LfsMdir) (k : ℕ) → fetched.Found m k ≡ fetchInput input → (w : Bool) → isSecond 0 m ≡ w → r ≡ putsOf s (shows m (blockAt w b0 b1)) → r ≡ putsOf s (fetchedText shows input (fetchInput input))
+    shown-found : (m : LfsMdir) (k : ℕ) → fetched.Found m k ≡ fetchInput input → (w : Bool) → isSecond 0 m ≡ w
+        → r ≡ putsOf s (shows m (blockAt w b0 b1)) → r ≡ putsOf s (fetchedText shows input (fetchInput input))
     shown-found m k f w e er = rw (← f, e) er
 
   module _ (m : LfsMdir) (k : ℕ) (f : fetched.Found m k ≡ fetchInput input) where
@@ -183,8 +211,10 @@ module _ (input : List ℕ) where
       pub first-listable : Listable front m
       first-listable = rw (cut-front half input) (listable false is-first)
 
-      pub shown-first : (shows : LfsMdir → List ℕ → List ℕ) (s r : Text) → r ≡ putsOf s (shows m front) → r ≡ putsOf s (fetchedText shows input (fetchInput input))
-      shown-first shows s r er = shown-found shows s r m k f false is-first (er ∙ ap (λ (b : List ℕ). putsOf s (shows m b)) (cut-front half input))
+      pub shown-first : (shows : LfsMdir → List ℕ → List ℕ) (s r : Text) → r ≡ putsOf s (shows m front)
+          → r ≡ putsOf s (fetchedText shows input (fetchInput input))
+      shown-first shows s r er = shown-found shows s r m k f false is-first
+          (er ∙ ap (λ (b : List ℕ). putsOf s (shows m b)) (cut-front half input))
 
     -- the second block answers
     module _ (h : m .pair .n0 ≡ 0 → ⊥) where
@@ -194,5 +224,7 @@ module _ (input : List ℕ) where
       pub second-listable : Listable rest m
       second-listable = rw (cut-back half input) (listable true is-second)
 
-      pub shown-second : (shows : LfsMdir → List ℕ → List ℕ) (s r : Text) → r ≡ putsOf s (shows m rest) → r ≡ putsOf s (fetchedText shows input (fetchInput input))
-      shown-second shows s r er = shown-found shows s r m k f true is-second (er ∙ ap (λ (b : List ℕ). putsOf s (shows m b)) (cut-back half input))
+      pub shown-second : (shows : LfsMdir → List ℕ → List ℕ) (s r : Text) → r ≡ putsOf s (shows m rest)
+          → r ≡ putsOf s (fetchedText shows input (fetchInput input))
+      shown-second shows s r er = shown-found shows s r m k f true is-second
+          (er ∙ ap (λ (b : List ℕ). putsOf s (shows m b)) (cut-back half input))

@@ -1,11 +1,14 @@
-// The listing of a metadata pair: document 01's text of the record, the slots and their user attributes, or of the refusal. It is written to a lent
-// buffer as far as there is room; the answer is the length of the whole text. Any bytes may be listed.
+// The listing of a metadata pair: document 01's text of the record, the slots and their user attributes, or of the
+// refusal. It is written to a lent buffer as far as there is room; the answer is the length of the whole text. Any
+// bytes may be listed.
 ghost use mathlib.Core.Path.{_≡_};
 ghost use Prim.Native.Nat.{_^_};
 ghost use lib.ListN.{length};
 ghost use Rattle.format.specs.Log.{log};
 ghost use Rattle.format.specs.Directory.{dirOf};
-ghost use Rattle.format.specs.Listing.{tailKind, tailLine, erasedLine, recordLines, nameFields, structFields, attrData, attrLine, attrLines, slotLines, refusedLine, blockText, fetchInput, listingOf, writtenTo};
+ghost use Rattle.format.specs.Listing.{tailKind, tailLine, erasedLine, recordLines, nameFields, structFields, attrData};
+ghost use Rattle.format.specs.Listing.{attrLine, attrLines, slotLines, refusedLine, blockText, fetchInput, listingOf};
+ghost use Rattle.format.specs.Listing.{writtenTo};
 ghost use Rattle.text.specs.Put.{text, putsOf};
 ghost use Rattle.compact_slot.specs.Seat.{loadIn, Inside};
 ghost use Rattle.compact_slot.specs.Slots.{Slots, slotIn};
@@ -57,7 +60,8 @@ pub fn part(seat: u64) -> Held
 // "id, name type, name, ..; a missing part prints `-` per field"
 fn name_fields(out: &mut [u8], at: u32, b: &[u8], seat: u64) -> u32
     requires { ⌜ Inside (now b) seat ⌝ }
-    ensures { λ r. ⌜ text r (now (out .exit)) ≡ putsOf (text at (now (out .entry))) (nameFields (loadIn (now (b .entry)) seat)) ⌝ }
+    ensures { λ r. ⌜ text r (now (out .exit)) ≡ putsOf (text at (now (out .entry)))
+        (nameFields (loadIn (now (b .entry)) seat)) ⌝ }
 {
     let p = part(seat);
     if !p.held {
@@ -74,7 +78,8 @@ fn name_fields(out: &mut [u8], at: u32, b: &[u8], seat: u64) -> u32
 // ".. struct type, struct length"
 fn struct_fields(out: &mut [u8], at: u32, b: &[u8], seat: u64) -> u32
     requires { ⌜ Inside (now b) seat ⌝ }
-    ensures { λ r. ⌜ text r (now (out .exit)) ≡ putsOf (text at (now (out .entry))) (structFields (loadIn (now (b .entry)) seat)) ⌝ }
+    ensures { λ r. ⌜ text r (now (out .exit)) ≡ putsOf (text at (now (out .entry)))
+        (structFields (loadIn (now (b .entry)) seat)) ⌝ }
 {
     let p = part(seat);
     if !p.held {
@@ -99,7 +104,8 @@ fn attr_data(out: &mut [u8], at: u32, bytes: &[u8]) -> u32
 // "Attr, behind its slot: id, type, data hex"; nothing where nothing stands at the seat.
 fn attr_line(out: &mut [u8], at: u32, b: &[u8], id: u32, seat: u64) -> u32
     requires { ⌜ Inside (now b) seat ⌝ }
-    ensures { λ r. ⌜ text r (now (out .exit)) ≡ putsOf (text at (now (out .entry))) (attrLine id (loadIn (now (b .entry)) seat)) ⌝ }
+    ensures { λ r. ⌜ text r (now (out .exit)) ≡ putsOf (text at (now (out .entry)))
+        (attrLine id (loadIn (now (b .entry)) seat)) ⌝ }
 {
     let p = part(seat);
     if !p.held {
@@ -119,7 +125,8 @@ fn attr_line(out: &mut [u8], at: u32, b: &[u8], id: u32, seat: u64) -> u32
 // The user attributes of a slot, ".. rising".
 fn attr_lines(out: &mut [u8], at: u32, b: &[u8], id: u32, seats: &[u64; 258]) -> u32
     requires { ⌜ AllInside (now b) (now seats) ⌝ }
-    ensures { λ r. ⌜ text r (now (out .exit)) ≡ putsOf (text at (now (out .entry))) (attrLines (2 ^ 8) 2 id (slotIn (now (b .entry)) (now (seats .entry)))) ⌝ }
+    ensures { λ r. ⌜ text r (now (out .exit)) ≡ putsOf (text at (now (out .entry)))
+        (attrLines (2 ^ 8) 2 id (slotIn (now (b .entry)) (now (seats .entry)))) ⌝ }
 {
     let mut n = at;
     let mut class = ATTRIBUTES;
@@ -133,7 +140,8 @@ fn attr_lines(out: &mut [u8], at: u32, b: &[u8], id: u32, seats: &[u64; 258]) ->
 // A slot: its line, and its user attributes behind it.
 fn slot_text(out: &mut [u8], at: u32, b: &[u8], id: u32, seats: &[u64; 258]) -> u32
     requires { ⌜ AllInside (now b) (now seats) ⌝ }
-    ensures { λ r. ⌜ text r (now (out .exit)) ≡ putsOf (text at (now (out .entry))) (slotText id (slotIn (now (b .entry)) (now (seats .entry)))) ⌝ }
+    ensures { λ r. ⌜ text r (now (out .exit)) ≡ putsOf (text at (now (out .entry)))
+        (slotText id (slotIn (now (b .entry)) (now (seats .entry)))) ⌝ }
 {
     let n = text::puts(out, at, b"slot ");
     let n = text::decimal(out, n, id);
@@ -145,7 +153,8 @@ fn slot_text(out: &mut [u8], at: u32, b: &[u8], id: u32, seats: &[u64; 258]) -> 
 // All slots of the log that ends at `end` with the tag `etag`.
 fn slot_lines(out: &mut [u8], at: u32, b: &[u8], end: usize, etag: u32, count: u32) -> u32
     requires { ⌜ Slots (now b) end etag count ⌝ }
-    ensures { λ r. ⌜ text r (now (out .exit)) ≡ putsOf (text at (now (out .entry))) (slotLines 0 (dirOf (log (now (b .entry))))) ⌝ }
+    ensures { λ r. ⌜ text r (now (out .exit)) ≡ putsOf (text at (now (out .entry)))
+        (slotLines 0 (dirOf (log (now (b .entry))))) ⌝ }
 {
     let mut n = at;
     let mut id: u32 = 0;
@@ -241,8 +250,8 @@ fn block_text(out: &mut [u8], b: &[u8], m: LfsMdir) -> u32
     slot_lines(out, n, b, m.off as usize, m.etag, m.count as u32)
 }
 
-// What fetch answers for both images, one behind the other: "block size is half the length, program size 16, numbers 0 and 1, block count 0, seed 0;
-// an odd length or one above 65,536 is -22".
+// What fetch answers for both images, one behind the other: "block size is half the length, program size 16, numbers 0
+// and 1, block count 0, seed 0; an odd length or one above 65,536 is -22".
 pub fn fetch_input(input: &[u8]) -> Fetched
     ensures { λ r. ⌜ r ≡ fetchInput (now (input .entry)) ⌝ }
 {

@@ -1,5 +1,5 @@
--- The lookups: the number of slots; masks; the key and the difference; on the bytes of a block; the move state; at offset
--- 0; a slot's classes.
+-- The lookups: the number of slots; masks; the key and the difference; on the bytes of a block; the move state; at
+-- offset 0; a slot's classes.
 pub mod SlotCount
 pub mod Masks
 pub mod ByMask

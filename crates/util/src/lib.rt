@@ -1,5 +1,6 @@
-// Small arithmetic and pairs: util.rs, lfs_util.h and lfs.c's lfs_pair_*. Every function takes any numbers. Of util.rs, lfs_npw2, lfs_ctz and
-// lfs_popc stand in crate `bits`, words in bytes (lfs_fromle32, ..) in crate `word`; the path helpers are left out.
+// Small arithmetic and pairs: util.rs, lfs_util.h and lfs.c's lfs_pair_*. Every function takes any numbers. Of util.rs,
+// lfs_npw2, lfs_ctz and lfs_popc stand in crate `bits`, words in bytes (lfs_fromle32, ..) in crate `word`; the path
+// helpers are left out.
 ghost use mathlib.Core.Path.{_≡_};
 ghost use Prim.Native.Nat.{min, max};
 ghost use Rattle.format.specs.Count.{scmp};
@@ -43,7 +44,8 @@ pub fn lfs_alignup(a: u32, alignment: u32) -> Word
     lfs_aligndown(std::num::wrapping_sub_u32(above, 1), alignment)
 }
 
-// Per lfs_util.h lfs_scmp: a - b, wrapping, read as signed. A cast would have to fit, so the upper half is counted down from -1.
+// Per lfs_util.h lfs_scmp: a - b, wrapping, read as signed. A cast would have to fit, so the upper half is counted down
+// from -1.
 pub fn lfs_scmp(a: u32, b: u32) -> i32
     ensures { λ r. ⌜ r ≡ scmp a b ⌝ }
 {

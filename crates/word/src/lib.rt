@@ -1,5 +1,6 @@
-// Words of 32 bits in bytes: what util.rs has as lfs_fromle32, lfs_tole32, lfs_frombe32 and lfs_tobe32 over a pointer cast is here a read or a
-// store of four bytes at an offset of a slice. Any slice and offset; what passes the end is refused, and a refused store alters nothing.
+// Words of 32 bits in bytes: what util.rs has as lfs_fromle32, lfs_tole32, lfs_frombe32 and lfs_tobe32 over a pointer
+// cast is here a read or a store of four bytes at an offset of a slice. Any slice and offset; what passes the end is
+// refused, and a refused store alters nothing.
 ghost use mathlib.Core.Path.{_≡_};
 ghost use Rattle.format.specs.Word.{toLe32, toBe32};
 ghost use Rattle.format.specs.Bytes.{inside, le32At, be32At, putAnswer, putLe32, putBe32};
@@ -7,7 +8,8 @@ use format::Altered;
 use format::Refusal;
 use format::Word;
 
-// The same at an offset that the caller knows to be inside. They have a `requires`, and are for the crates of this repository.
+// The same at an offset that the caller knows to be inside. They have a `requires`, and are for the crates of this
+// repository.
 pub mod within;
 
 // The four bytes of a word, lowest first.

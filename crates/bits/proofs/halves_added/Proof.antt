@@ -8,7 +8,11 @@ use Rattle.bits.proofs.halves_added.Statement.{statement}
 use Rattle.bits.proofs.halves_added.Tie as tie
 
 add-result : tie.Need-add-result
-add-result c = omega (arith, and-le-r (c .args .y) (c .args .mask), and-le-r (c .args .y / 2 ^ c .args .k) (c .args .mask))
+add-result c = omega (
+  arith,
+  and-le-r (c .args .y) (c .args .mask),
+  and-le-r (c .args .y / 2 ^ c .args .k) (c .args .mask),
+)
 
 returns : tie.Need-returns
 unfolding halvesAdded

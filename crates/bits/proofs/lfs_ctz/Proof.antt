@@ -15,7 +15,8 @@ returns c =
     let sum = c .before .wrapping-add-u32 in
     let neg = c .before .before .wrapping-sub-u32 in
     let start = c .before .before .before in
-    ap (λ (x : ℕ). x - 1) (c .lfs-npw2 .ensures ∙ ap npw2 (sum .ensures)) ∙ ctz-is (start .args .a) (neg .result) (start .fits .a .fits) (omega (arith, neg .ok)) (neg .ensures)
+    ap (λ (x : ℕ). x - 1) (c .lfs-npw2 .ensures ∙ ap npw2 (sum .ensures))
+    ∙ ctz-is (start .args .a) (neg .result) (start .fits .a .fits) (omega (arith, neg .ok)) (neg .ensures)
 
 pub lfs-ctz-spec : {M : Type 1} → statement M
 lfs-ctz-spec =

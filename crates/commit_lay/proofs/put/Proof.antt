@@ -8,10 +8,13 @@ returns : tie.Need-returns
 returns c = put-none (c .before .args .run) (c .before .args .b .now) (c .before .args .x) (c .if1 .taken)
 
 returns-2 : tie.Need-returns-2
-returns-2 c = put-past (c .before .before .args .run) (c .before .before .args .b .now) (c .before .before .args .x) (c .before .if1 .left) (c .if2 .taken)
+returns-2 c = put-past (c .before .before .args .run) (c .before .before .args .b .now) (c .before .before .args .x)
+    (c .before .if1 .left) (c .if2 .taken)
 
 returns-3 : tie.Need-returns-3
-returns-3 c = put-one (c .before .before .args .run) (c .before .before .args .b .now) (c .before .before .args .x) (c .before .if1 .left) (c .if2 .left)
+returns-3 c = put-one (c .before .before .args .run) (c .before .before .args .b .now) (c .before .before .args .x)
+    (c .before .if1 .left) (c .if2 .left)
 
 pub put-spec : {M : Type 1} → statement M
-put-spec = tie.close (tie.spec returns returns-2 (λ c. search needs) (λ c. search needs) (λ c. search needs) (λ c. search needs) returns-3)
+put-spec = tie.close (tie.spec returns returns-2 (λ c. search needs) (λ c. search needs) (λ c. search needs)
+    (λ c. search needs) returns-3)

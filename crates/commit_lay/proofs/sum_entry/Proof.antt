@@ -5,9 +5,11 @@ use Rattle.commit_lay.proofs.sum_entry.Statement.{statement}
 use Rattle.commit_lay.proofs.sum_entry.Tie as tie
 
 returns : tie.Need-returns
-returns c = entry-summed _ _ _ _ _ (c .before .before .before .body .ensures) _ _ _ (c .before .before .sum-be32 .ensures) (c .lfs-crc .ensures)
+returns c = entry-summed _ _ _ _ _ (c .before .before .before .body .ensures) _ _ _
+    (c .before .before .sum-be32 .ensures) (c .lfs-crc .ensures)
 
 pub sum-entry-spec : {M : Type 1} → statement M
 sum-entry-spec =
     tie.close
-    (tie.spec (λ c κs. search needs) (λ c κs. search needs) (λ c. search needs) (λ c. search needs) (λ c. search needs) (λ c κs. search needs) returns)
+    (tie.spec (λ c κs. search needs) (λ c κs. search needs) (λ c. search needs) (λ c. search needs) (λ c. search needs)
+    (λ c κs. search needs) returns)

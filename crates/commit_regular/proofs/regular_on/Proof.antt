@@ -1,4 +1,5 @@
--- `regular::regular_on` meets its contract. The loop keeps what the rules leave of the walk from here; the block's rest shrinks. Assumes nothing.
+-- `regular::regular_on` meets its contract. The loop keeps what the rules leave of the walk from here; the block's rest
+-- shrinks. Assumes nothing.
 use borrow.Author.Needs.{needs}
 use mathlib.Core.Path.{_≡_, refl, sym, _∙_}
 use Prim.Native.Nat.{_-_}
@@ -21,24 +22,33 @@ loop-holds : tie.Need-loop-holds Inv-loop μ-loop
 loop-holds c = refl
 
 loop-less : tie.Need-loop-less Inv-loop μ-loop
-loop-less c = let m = entry-moved _ _ (sym (c .before .before .before .before .next .ensures) ∙ c .before .before .tag .given .1) in omega arith
+loop-less c = let m = entry-moved _ _ (sym (c .before .before .before .before .next .ensures)
+    ∙ c .before .before .tag .given .1) in omega arith
 
 loop-again : tie.Need-loop-again Inv-loop μ-loop
-loop-again c = turn-entry _ _ _ _ (c .before .before .before .before .before .loop .inv) _ (sym (c .before .before .before .before .next .ensures) ∙ c .before .before .tag .given .1) (c .entry .ensures)
+loop-again c = turn-entry _ _ _ _ (c .before .before .before .before .before .loop .inv) _
+    (sym (c .before .before .before .before .next .ensures) ∙ c .before .before .tag .given .1) (c .entry .ensures)
 
 loop-less-2 : tie.Need-loop-less-2 Inv-loop μ-loop
-loop-less-2 c = let m = check-moved _ _ (sym (c .before .before .before .before .before .next .ensures) ∙ c .before .before .before .behind .given .1) in omega arith
+loop-less-2 c = let m = check-moved _ _ (sym (c .before .before .before .before .before .next .ensures)
+    ∙ c .before .before .before .behind .given .1) in omega arith
 
 loop-again-2 : tie.Need-loop-again-2 Inv-loop μ-loop
-loop-again-2 c = turn-check _ _ _ _ (c .before .before .before .before .before .before .loop .inv) _ _ (sym (c .before .before .before .before .before .next .ensures) ∙ c .before .before .before .behind .given .1) (c .before .lfs-tag-size .ensures) (c .check .ensures)
+loop-again-2 c = turn-check _ _ _ _ (c .before .before .before .before .before .before .loop .inv) _ _
+    (sym (c .before .before .before .before .before .next .ensures) ∙ c .before .before .before .behind .given .1)
+    (c .before .lfs-tag-size .ensures) (c .check .ensures)
 
 returns : tie.Need-returns Inv-loop μ-loop
-returns c = turn-invalid _ _ _ _ (c .before .before .before .loop .inv) (sym (c .before .before .next .ensures) ∙ c .enum-told .given .1)
+returns c = turn-invalid _ _ _ _ (c .before .before .before .loop .inv) (sym (c .before .before .next .ensures)
+    ∙ c .enum-told .given .1)
 
 returns-2 : tie.Need-returns-2 Inv-loop μ-loop
-returns-2 c = turn-past _ _ _ _ (c .before .before .before .loop .inv) (sym (c .before .before .next .ensures) ∙ c .enum-told2 .given .1)
+returns-2 c = turn-past _ _ _ _ (c .before .before .before .loop .inv) (sym (c .before .before .next .ensures)
+    ∙ c .enum-told2 .given .1)
 
 pub regular-on-spec : {M : Type 1} → statement M
 regular-on-spec =
     tie.close
-    (tie.spec Inv-loop μ-loop loop-holds (λ c κs. search needs) (λ c. search needs) (λ c κs. search needs) loop-less loop-again (λ c. search needs) (λ c κs. search needs) (λ c κs. search needs) loop-less-2 loop-again-2 (λ c. search needs) returns (λ c. search needs) returns-2)
+    (tie.spec Inv-loop μ-loop loop-holds (λ c κs. search needs) (λ c. search needs) (λ c κs. search needs) loop-less
+    loop-again (λ c. search needs) (λ c κs. search needs) (λ c κs. search needs) loop-less-2 loop-again-2
+    (λ c. search needs) returns (λ c. search needs) returns-2)

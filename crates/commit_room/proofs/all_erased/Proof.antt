@@ -1,4 +1,5 @@
--- `room::all_erased` meets its contract. The loop keeps whether the rest from here on is erased; the rest shrinks. Assumes nothing.
+-- `room::all_erased` meets its contract. The loop keeps whether the rest from here on is erased; the rest shrinks.
+-- Assumes nothing.
 use borrow.Author.Needs.{needs}
 use mathlib.Core.Path.{_≡_, refl, sym, _∙_}
 use Prim.Native.Nat.{_-_}
@@ -19,7 +20,8 @@ loop-holds : tie.Need-loop-holds Inv-loop μ-loop
 loop-holds c = refl
 
 returns : tie.Need-returns Inv-loop μ-loop
-returns c = sym (c .before .before .before .loop .inv ∙ erased-off _ _ (c .before .before .loop-test .taken) (c .if1 .taken))
+returns c = sym (c .before .before .before .loop .inv ∙ erased-off _ _ (c .before .before .loop-test .taken)
+    (c .if1 .taken))
 
 loop-again : tie.Need-loop-again Inv-loop μ-loop
 loop-again c = c .before .before .before .loop .inv ∙ erased-on _ _ (c .before .before .loop-test .taken) (c .if1 .left)
@@ -30,4 +32,5 @@ returns-2 c = sym (c .before .loop .inv ∙ erased-end _ _ (c .loop-test .left))
 pub all-erased-spec : {M : Type 1} → statement M
 all-erased-spec =
     tie.close
-    (tie.spec Inv-loop μ-loop loop-holds (λ c. search needs) returns (λ c. search needs) (λ c. omega arith) loop-again returns-2)
+    (tie.spec Inv-loop μ-loop loop-holds (λ c. search needs) returns (λ c. search needs) (λ c. omega arith) loop-again
+    returns-2)

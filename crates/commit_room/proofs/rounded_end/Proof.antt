@@ -12,4 +12,5 @@ returns : tie.Need-returns
 returns c = end-is (c .args .prog) (c .args .at) (c .pre)
 
 pub rounded-end-spec : {M : Type 1} → statement M
-rounded-end-spec = tie.close (tie.spec (λ c. search needs) (λ c. search needs) (λ c. search needs) (λ c. search needs) sub-result returns)
+rounded-end-spec = tie.close (tie.spec (λ c. search needs) (λ c. search needs) (λ c. search needs) (λ c. search needs)
+    sub-result returns)

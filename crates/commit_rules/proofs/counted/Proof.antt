@@ -8,10 +8,12 @@ use Rattle.commit_rules.proofs.counted.Statement.{statement}
 use Rattle.commit_rules.proofs.counted.Tie as tie
 
 count-after-requires : tie.Need-count-after-requires
-count-after-requires c κs = count-fits (ruleAs (c .before .before .rule-of .result)) (c .before .before .before .args .count) _ _ (omega arith) (sym (c .before .rule-holds .ensures) ∙ c .if1 .taken)
+count-after-requires c κs = count-fits (ruleAs (c .before .before .rule-of .result))
+    (c .before .before .before .args .count) _ _ (omega arith) (sym (c .before .rule-holds .ensures) ∙ c .if1 .taken)
 
 returns : tie.Need-returns
-returns c = passes _ _ _ _ _ _ (c .before .before .before .rule-of .ensures) _ (c .before .before .rule-holds .ensures) _ (c .before .if1 .taken) (c .count-after .ensures)
+returns c = passes _ _ _ _ _ _ (c .before .before .before .rule-of .ensures) _ (c .before .before .rule-holds .ensures)
+    _ (c .before .if1 .taken) (c .count-after .ensures)
 
 returns-2 : tie.Need-returns-2
 returns-2 c = fails _ _ _ _ _ _ (c .before .before .rule-of .ensures) _ (c .before .rule-holds .ensures) (c .if1 .left)

@@ -6,24 +6,90 @@ use Rattle.commit_steps.proofs.begin.Statement.{statement}
 use Rattle.commit_steps.proofs.begin.Tie as tie
 
 returns : tie.Need-returns
-returns c = begins-broken (c .before .before .before .before .before .before .args .g) (c .before .before .before .before .before .before .args .b0 .now) (c .before .before .before .before .before .before .args .b1 .now) (c .before .before .before .before .before .before .args .n0) (c .before .before .before .before .before .before .args .n1) (c .before .before .before .before .before .before .args .block-count) (c .before .before .before .before .before .before .args .seed) (c .before .before .before .before .before .before .args .entries) (c .before .before .before .before .before .before .args .dat .now) _ (c .before .before .pair-fits .ensures) _ (c .before .if1 .taken) (c .refused .ensures)
+returns c = begins-broken (c .before .before .before .before .before .before .args .g)
+    (c .before .before .before .before .before .before .args .b0 .now)
+    (c .before .before .before .before .before .before .args .b1 .now)
+    (c .before .before .before .before .before .before .args .n0)
+    (c .before .before .before .before .before .before .args .n1)
+    (c .before .before .before .before .before .before .args .block-count)
+    (c .before .before .before .before .before .before .args .seed)
+    (c .before .before .before .before .before .before .args .entries)
+    (c .before .before .before .before .before .before .args .dat .now) _ (c .before .before .pair-fits .ensures) _
+    (c .before .if1 .taken) (c .refused .ensures)
 
 start-requires : tie.Need-start-requires
-start-requires c κs = fits-four (c .before .before .before .before .before .before .before .before .before .before .before .args .g) (c .before .before .before .before .before .before .before .before .before .before .before .args .b0 .now) (c .before .before .before .before .before .before .before .before .before .before .before .args .b1 .now) (c .before .before .before .before .before .before .before .before .before .before .before .args .n0) (c .before .before .before .before .before .before .before .before .before .before .before .args .n1) (c .before .before .before .before .before .before .before .before .before .before .before .args .block-count) (c .before .before .before .before .before .before .before .before .before .before .before .args .seed) (c .before .before .before .before .before .before .before .before .before .before .before .args .entries) (c .before .before .before .before .before .before .before .before .before .before .before .args .dat .now) _ (c .before .before .before .before .before .before .before .pair-fits .ensures) (c .before .before .before .before .before .before .if1 .left) .0
+start-requires c κs = fits-four (c .before .before .before .before .before .before .before .before .before .before
+    .before .args .g) (c .before .before .before .before .before .before .before .before .before .before .before .args
+    .b0 .now) (c .before .before .before .before .before .before .before .before .before .before .before .args .b1 .now)
+    (c .before .before .before .before .before .before .before .before .before .before .before .args .n0)
+    (c .before .before .before .before .before .before .before .before .before .before .before .args .n1)
+    (c .before .before .before .before .before .before .before .before .before .before .before .args .block-count)
+    (c .before .before .before .before .before .before .before .before .before .before .before .args .seed)
+    (c .before .before .before .before .before .before .before .before .before .before .before .args .entries)
+    (c .before .before .before .before .before .before .before .before .before .before .before .args .dat .now) _
+    (c .before .before .before .before .before .before .before .pair-fits .ensures)
+    (c .before .before .before .before .before .before .if1 .left) .0
 
 start-requires-2 : tie.Need-start-requires-2
-start-requires-2 c κs = fits-four (c .before .before .before .before .before .before .before .before .before .before .before .args .g) (c .before .before .before .before .before .before .before .before .before .before .before .args .b0 .now) (c .before .before .before .before .before .before .before .before .before .before .before .args .b1 .now) (c .before .before .before .before .before .before .before .before .before .before .before .args .n0) (c .before .before .before .before .before .before .before .before .before .before .before .args .n1) (c .before .before .before .before .before .before .before .before .before .before .before .args .block-count) (c .before .before .before .before .before .before .before .before .before .before .before .args .seed) (c .before .before .before .before .before .before .before .before .before .before .before .args .entries) (c .before .before .before .before .before .before .before .before .before .before .before .args .dat .now) _ (c .before .before .before .before .before .before .before .pair-fits .ensures) (c .before .before .before .before .before .before .if1 .left) .1
+start-requires-2 c κs = fits-four (c .before .before .before .before .before .before .before .before .before .before
+    .before .args .g) (c .before .before .before .before .before .before .before .before .before .before .before .args
+    .b0 .now) (c .before .before .before .before .before .before .before .before .before .before .before .args .b1 .now)
+    (c .before .before .before .before .before .before .before .before .before .before .before .args .n0)
+    (c .before .before .before .before .before .before .before .before .before .before .before .args .n1)
+    (c .before .before .before .before .before .before .before .before .before .before .before .args .block-count)
+    (c .before .before .before .before .before .before .before .before .before .before .before .args .seed)
+    (c .before .before .before .before .before .before .before .before .before .before .before .args .entries)
+    (c .before .before .before .before .before .before .before .before .before .before .before .args .dat .now) _
+    (c .before .before .before .before .before .before .before .pair-fits .ensures)
+    (c .before .before .before .before .before .before .if1 .left) .1
 
 returns-2 : tie.Need-returns-2
-returns-2 c = begins-refused (c .before .before .before .before .before .before .before .before .before .before .args .g) (c .before .before .before .before .before .before .before .before .before .before .args .b0 .now) (c .before .before .before .before .before .before .before .before .before .before .args .b1 .now) (c .before .before .before .before .before .before .before .before .before .before .args .n0) (c .before .before .before .before .before .before .before .before .before .before .args .n1) (c .before .before .before .before .before .before .before .before .before .before .args .block-count) (c .before .before .before .before .before .before .before .before .before .before .args .seed) (c .before .before .before .before .before .before .before .before .before .before .args .entries) (c .before .before .before .before .before .before .before .before .before .before .args .dat .now) _ (c .before .before .before .before .before .before .pair-fits .ensures) (c .before .before .before .before .before .if1 .left) _ _ (sym (c .before .before .before .before .lfs-dir-fetch .ensures) ∙ c .before .before .r .given .1) (c .refused2 .ensures)
+returns-2 c = begins-refused (c .before .before .before .before .before .before .before .before .before .before .args
+    .g) (c .before .before .before .before .before .before .before .before .before .before .args .b0 .now)
+    (c .before .before .before .before .before .before .before .before .before .before .args .b1 .now)
+    (c .before .before .before .before .before .before .before .before .before .before .args .n0)
+    (c .before .before .before .before .before .before .before .before .before .before .args .n1)
+    (c .before .before .before .before .before .before .before .before .before .before .args .block-count)
+    (c .before .before .before .before .before .before .before .before .before .before .args .seed)
+    (c .before .before .before .before .before .before .before .before .before .before .args .entries)
+    (c .before .before .before .before .before .before .before .before .before .before .args .dat .now) _
+    (c .before .before .before .before .before .before .pair-fits .ensures)
+    (c .before .before .before .before .before .if1 .left) _ _
+    (sym (c .before .before .before .before .lfs-dir-fetch .ensures) ∙ c .before .before .r .given .1)
+    (c .refused2 .ensures)
 
 returns-3 : tie.Need-returns-3
-returns-3 c = begins-first (c .before .before .before .before .before .before .before .before .before .before .before .before .args .g) (c .before .before .before .before .before .before .before .before .before .before .before .before .args .b0 .now) (c .before .before .before .before .before .before .before .before .before .before .before .before .args .b1 .now) (c .before .before .before .before .before .before .before .before .before .before .before .before .args .n0) (c .before .before .before .before .before .before .before .before .before .before .before .before .args .n1) (c .before .before .before .before .before .before .before .before .before .before .before .before .args .block-count) (c .before .before .before .before .before .before .before .before .before .before .before .before .args .seed) (c .before .before .before .before .before .before .before .before .before .before .before .before .args .entries) (c .before .before .before .before .before .before .before .before .before .before .before .before .args .dat .now) _ (c .before .before .before .before .before .before .before .before .pair-fits .ensures) (c .before .before .before .before .before .before .before .if1 .left) _ _ (sym (c .before .before .before .before .before .before .lfs-dir-fetch .ensures) ∙ c .before .before .before .before .m .given .1) _ (c .before .if2 .taken) (c .start .ensures)
+returns-3 c = begins-first (c .before .before .before .before .before .before .before .before .before .before .before
+    .before .args .g) (c .before .before .before .before .before .before .before .before .before .before .before .before
+    .args .b0 .now) (c .before .before .before .before .before .before .before .before .before .before .before .before
+    .args .b1 .now) (c .before .before .before .before .before .before .before .before .before .before .before .before
+    .args .n0) (c .before .before .before .before .before .before .before .before .before .before .before .before .args
+    .n1) (c .before .before .before .before .before .before .before .before .before .before .before .before .args
+    .block-count) (c .before .before .before .before .before .before .before .before .before .before .before .before
+    .args .seed) (c .before .before .before .before .before .before .before .before .before .before .before .before
+    .args .entries) (c .before .before .before .before .before .before .before .before .before .before .before .before
+    .args .dat .now) _ (c .before .before .before .before .before .before .before .before .pair-fits .ensures)
+    (c .before .before .before .before .before .before .before .if1 .left) _ _
+    (sym (c .before .before .before .before .before .before .lfs-dir-fetch .ensures)
+    ∙ c .before .before .before .before .m .given .1) _ (c .before .if2 .taken) (c .start .ensures)
 
 returns-4 : tie.Need-returns-4
-returns-4 c = begins-second (c .before .before .before .before .before .before .before .before .before .before .before .before .args .g) (c .before .before .before .before .before .before .before .before .before .before .before .before .args .b0 .now) (c .before .before .before .before .before .before .before .before .before .before .before .before .args .b1 .now) (c .before .before .before .before .before .before .before .before .before .before .before .before .args .n0) (c .before .before .before .before .before .before .before .before .before .before .before .before .args .n1) (c .before .before .before .before .before .before .before .before .before .before .before .before .args .block-count) (c .before .before .before .before .before .before .before .before .before .before .before .before .args .seed) (c .before .before .before .before .before .before .before .before .before .before .before .before .args .entries) (c .before .before .before .before .before .before .before .before .before .before .before .before .args .dat .now) _ (c .before .before .before .before .before .before .before .before .pair-fits .ensures) (c .before .before .before .before .before .before .before .if1 .left) _ _ (sym (c .before .before .before .before .before .before .lfs-dir-fetch .ensures) ∙ c .before .before .before .before .m .given .1) _ (c .before .if2 .left) (c .start2 .ensures)
+returns-4 c = begins-second (c .before .before .before .before .before .before .before .before .before .before .before
+    .before .args .g) (c .before .before .before .before .before .before .before .before .before .before .before .before
+    .args .b0 .now) (c .before .before .before .before .before .before .before .before .before .before .before .before
+    .args .b1 .now) (c .before .before .before .before .before .before .before .before .before .before .before .before
+    .args .n0) (c .before .before .before .before .before .before .before .before .before .before .before .before .args
+    .n1) (c .before .before .before .before .before .before .before .before .before .before .before .before .args
+    .block-count) (c .before .before .before .before .before .before .before .before .before .before .before .before
+    .args .seed) (c .before .before .before .before .before .before .before .before .before .before .before .before
+    .args .entries) (c .before .before .before .before .before .before .before .before .before .before .before .before
+    .args .dat .now) _ (c .before .before .before .before .before .before .before .before .pair-fits .ensures)
+    (c .before .before .before .before .before .before .before .if1 .left) _ _
+    (sym (c .before .before .before .before .before .before .lfs-dir-fetch .ensures)
+    ∙ c .before .before .before .before .m .given .1) _ (c .before .if2 .left) (c .start2 .ensures)
 
 pub begin-spec : {M : Type 1} → statement M
 begin-spec =
     tie.close
-    (tie.spec (λ c κs. search needs) (λ c κs. search needs) returns (λ c κs. search needs) (λ c. search needs) (λ c κs. search needs) (λ c. search needs) start-requires start-requires-2 returns-2 returns-3 returns-4)
+    (tie.spec (λ c κs. search needs) (λ c κs. search needs) returns (λ c κs. search needs) (λ c. search needs)
+    (λ c κs. search needs) (λ c. search needs) start-requires start-requires-2 returns-2 returns-3 returns-4)

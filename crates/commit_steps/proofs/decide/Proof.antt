@@ -8,16 +8,21 @@ use Rattle.commit_steps.proofs.decide.Statement.{statement}
 use Rattle.commit_steps.proofs.decide.Tie as tie
 
 returns : tie.Need-returns
-returns c = decide-broken _ _ _ _ _ _ (c .before .before .before .before .phase .given .1) _ (c .before .before .geometry-fits .ensures) _ (c .before .if1 .taken) (c .refused .ensures)
+returns c = decide-broken _ _ _ _ _ _ (c .before .before .before .before .phase .given .1) _
+    (c .before .before .geometry-fits .ensures) _ (c .before .if1 .taken) (c .refused .ensures)
 
 place-requires : tie.Need-place-requires
-place-requires c κs = let f = fitting _ (sym (c .before .before .geometry-fits .ensures) ∙ not-false _ (c .before .if1 .left)) in (f .prog-low, f .prog-high)
+place-requires c κs = let f = fitting _ (sym (c .before .before .geometry-fits .ensures)
+    ∙ not-false _ (c .before .if1 .left)) in (f .prog-low, f .prog-high)
 
 returns-2 : tie.Need-returns-2
-returns-2 c = decide-second _ _ _ _ _ _ (c .before .before .before .before .before .phase .given .1) _ (c .before .before .before .geometry-fits .ensures) _ (c .before .before .if1 .left) (c .before .if2 .taken) (c .place .ensures)
+returns-2 c = decide-second _ _ _ _ _ _ (c .before .before .before .before .before .phase .given .1) _
+    (c .before .before .before .geometry-fits .ensures) _ (c .before .before .if1 .left) (c .before .if2 .taken)
+    (c .place .ensures)
 
 place-requires-2 : tie.Need-place-requires-2
-place-requires-2 c κs = let f = fitting _ (sym (c .before .before .geometry-fits .ensures) ∙ not-false _ (c .before .if1 .left)) in (f .prog-low, f .prog-high)
+place-requires-2 c κs = let f = fitting _ (sym (c .before .before .geometry-fits .ensures)
+    ∙ not-false _ (c .before .if1 .left)) in (f .prog-low, f .prog-high)
 
 returns-3 : tie.Need-returns-3
 returns-3 c = decide-refused _ _ _ _ _ _ (c .enum-told .given .1)
@@ -26,9 +31,12 @@ returns-4 : tie.Need-returns-4
 returns-4 c = decide-laid _ _ _ _ _ _ (c .enum-told2 .given .1)
 
 returns-5 : tie.Need-returns-5
-returns-5 c = decide-first _ _ _ _ _ _ (c .before .before .before .before .before .phase .given .1) _ (c .before .before .before .geometry-fits .ensures) _ (c .before .before .if1 .left) (c .before .if2 .left) (c .place2 .ensures)
+returns-5 c = decide-first _ _ _ _ _ _ (c .before .before .before .before .before .phase .given .1) _
+    (c .before .before .before .geometry-fits .ensures) _ (c .before .before .if1 .left) (c .before .if2 .left)
+    (c .place2 .ensures)
 
 pub decide-spec : {M : Type 1} → statement M
 decide-spec =
     tie.close
-    (tie.spec (λ c. search needs) (λ c. search needs) (λ c. search needs) (λ c κs. search needs) (λ c κs. search needs) returns place-requires returns-2 place-requires-2 returns-3 returns-4 returns-5)
+    (tie.spec (λ c. search needs) (λ c. search needs) (λ c. search needs) (λ c κs. search needs) (λ c κs. search needs)
+    returns place-requires returns-2 place-requires-2 returns-3 returns-4 returns-5)

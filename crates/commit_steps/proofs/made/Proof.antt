@@ -8,7 +8,8 @@ returns : tie.Need-returns
 returns c = made-none _ _ _ (c .before .before .phase2 .given .1) (c .if1 .taken)
 
 returns-2 : tie.Need-returns-2
-returns-2 c = made-refused (c .before .before .before .args .st) (c .before .before .before .args .stores) _ (c .before .phase .given .1)
+returns-2 c = made-refused (c .before .before .before .args .st) (c .before .before .before .args .stores) _
+    (c .before .phase .given .1)
 
 returns-3 : tie.Need-returns-3
 returns-3 c = made-judge _ _ _ (c .enum-told .given .1)

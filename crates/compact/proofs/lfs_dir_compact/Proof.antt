@@ -10,27 +10,58 @@ use Rattle.compact.proofs.lfs_dir_compact.Tie as tie
 returns : tie.Need-returns
 returns c =
     let stored = c .before .before .before .before .before .before .before .lfs-dir-compact-stores .ensures in
-    answered-refused _ _ _ _ _ _ _ _ _ (λ i. omega (arith, c .before .before .before .before .before .before .before .before .before .before .before .slice-known .given i))
-    (λ i. omega (arith, c .before .before .before .before .before .before .before .before .before .before .slice-known2 .given i)) (stored .1)
+    answered-refused _ _ _ _ _ _ _ _ _
+    (λ i. omega (
+      arith,
+      c .before .before .before .before .before .before .before .before .before .before .before
+          .slice-known .given i,
+    ))
+    (λ i. omega (
+      arith,
+      c .before .before .before .before .before .before .before .before .before .before .slice-known2
+          .given i,
+    )) (stored .1)
     _ (sym (c .before .r .given .1) ∙ stored .0)
 
 returns-2 : tie.Need-returns-2
 returns-2 c =
-    let stored = c .before .before .before .before .before .before .before .before .before .before .before .before .lfs-dir-compact-stores .ensures in
-    answered-made _ _ _ _ _ _ _ _ _ (λ i. omega (arith, c .before .before .before .before .before .before .before .before .before .before .before .before .before .before .before .before .slice-known .given i))
-    (λ i. omega (arith, c .before .before .before .before .before .before .before .before .before .before .before .before .before .before .before .slice-known2 .given i)) (stored .1)
+    let stored = c .before .before .before .before .before .before .before .before .before .before .before .before
+    .lfs-dir-compact-stores .ensures in
+    answered-made _ _ _ _ _ _ _ _ _
+    (λ i. omega (
+      arith,
+      c .before .before .before .before .before .before .before .before .before .before .before
+          .before .before .before .before .before .slice-known .given i,
+    ))
+    (λ i. omega (
+      arith,
+      c .before .before .before .before .before .before .before .before .before .before .before
+          .before .before .before .before .slice-known2 .given i,
+    )) (stored .1)
     _ (sym (c .before .before .before .before .before .before .enum-told .given .1) ∙ stored .0)
     (Found _ _) (sym (c .before .dir .given .1) ∙ c .before .before .before .lfs-dir-fetch .ensures)
 
 returns-3 : tie.Need-returns-3
 returns-3 c =
-    let stored = c .before .before .before .before .before .before .before .before .before .before .before .before .lfs-dir-compact-stores .ensures in
-    answered-made _ _ _ _ _ _ _ _ _ (λ i. omega (arith, c .before .before .before .before .before .before .before .before .before .before .before .before .before .before .before .before .slice-known .given i))
-    (λ i. omega (arith, c .before .before .before .before .before .before .before .before .before .before .before .before .before .before .before .slice-known2 .given i)) (stored .1)
+    let stored = c .before .before .before .before .before .before .before .before .before .before .before .before
+    .lfs-dir-compact-stores .ensures in
+    answered-made _ _ _ _ _ _ _ _ _
+    (λ i. omega (
+      arith,
+      c .before .before .before .before .before .before .before .before .before .before .before
+          .before .before .before .before .before .slice-known .given i,
+    ))
+    (λ i. omega (
+      arith,
+      c .before .before .before .before .before .before .before .before .before .before .before
+          .before .before .before .before .slice-known2 .given i,
+    )) (stored .1)
     _ (sym (c .before .before .before .before .before .before .enum-told .given .1) ∙ stored .0)
     (Refused _) (sym (c .before .r2 .given .1) ∙ c .before .before .before .lfs-dir-fetch .ensures)
 
 pub lfs-dir-compact-spec : {M : Type 1} → statement M
 lfs-dir-compact-spec =
     tie.close
-    (tie.spec (λ c κs. search needs) (λ c. search needs) (λ c. search needs) (λ c κs. search needs) (λ c. search needs) (λ c. search needs) (λ c. search needs) (λ c. search needs) returns (λ c. search needs) (λ c. search needs) returns-2 (λ c. search needs) (λ c. search needs) returns-3)
+    (tie.spec (λ c κs. search needs) (λ c. search needs) (λ c. search needs) (λ c κs. search needs) (λ c. search needs)
+    (λ c. search needs) (λ c. search needs) (λ c. search needs) returns (λ c. search needs) (λ c. search needs)
+    returns-2 (λ c. search needs) (λ c. search needs) returns-3)

@@ -23,7 +23,16 @@ loop-less : tie.Need-loop-less Inv-loop μ-loop
 loop-less c = omega (arith, erase-length (c .before .loop .i) _ _ (c .before .loop .inv .0) (c .before .loop .inv .1))
 
 loop-again : tie.Need-loop-again Inv-loop μ-loop
-loop-again c = (omega (arith, erase-length (c .before .loop .i) _ _ (c .before .loop .inv .0) (c .before .loop .inv .1)), erase-one (c .before .loop .i) _ _ (omega (arith, erase-length (c .before .loop .i) _ _ (c .before .loop .inv .0) (c .before .loop .inv .1))) (c .before .loop .inv .1))
+loop-again c = (
+  omega (
+    arith,
+    erase-length (c .before .loop .i) _ _ (c .before .loop .inv .0) (c .before .loop .inv
+        .1),
+  ),
+  erase-one (c .before .loop .i) _ _
+      (omega (arith, erase-length (c .before .loop .i) _ _ (c .before .loop .inv .0) (c .before .loop .inv .1)))
+      (c .before .loop .inv .1),
+)
 
 same-length : tie.Need-same-length Inv-loop μ-loop
 same-length c = erase-length (c .before .loop .i) _ _ (c .before .loop .inv .0) (c .before .loop .inv .1)

@@ -2,7 +2,8 @@
 use borrow.Author.Tests.{not-false}
 use mathlib.Core.Path.{sym, _∙_}
 use Rattle.compact_block.proofs.Storing.{reads-all}
-use Rattle.compact_block.proofs.Measuring.{renew-irregular, renew-prog, renew-full, renew-coincides, renew-writes, renew-made}
+use Rattle.compact_block.proofs.Measuring.{renew-irregular, renew-prog, renew-full, renew-coincides}
+use Rattle.compact_block.proofs.Measuring.{renew-writes, renew-made}
 use borrow.Author.Needs.{needs}
 use Rattle.compact_block.proofs.renew.Statement.{statement}
 use Rattle.compact_block.proofs.renew.Tie as tie
@@ -89,4 +90,6 @@ returns-4 c =
 pub renew-spec : {M : Type 1} → statement M
 renew-spec =
     tie.close
-    (tie.spec (λ c κs. search needs) returns (λ c κs. search needs) (λ c κs. search needs) entries-requires rounded-end-requires (λ c. search needs) returns-2 check-tag-requires (λ c κs. search needs) (λ c. search needs) returns-3 write-requires (λ c. search needs) returns-4)
+    (tie.spec (λ c κs. search needs) returns (λ c κs. search needs) (λ c κs. search needs) entries-requires
+    rounded-end-requires (λ c. search needs) returns-2 check-tag-requires (λ c κs. search needs) (λ c. search needs)
+    returns-3 write-requires (λ c. search needs) returns-4)

@@ -9,18 +9,70 @@ returns : tie.Need-returns
 returns c = pass-none _ _ _ _ _ (c .if1 .taken)
 
 entries-requires : tie.Need-entries-requires
-entries-requires c κs = rw (c .begin .ensures) (reads-all _ _ _ _ (c .before .before .before .before .before .before .before .before .before .before .before .before .before .pre .recorded) (c .before .before .before .before .before .before .before .before .before .before .before .before .before .pre .regular))
+entries-requires c κs = rw (c .begin .ensures)
+    (reads-all _ _ _ _ (c .before .before .before .before .before .before .before .before .before .before .before
+    .before .before .pre .recorded) (c .before .before .before .before .before .before .before .before .before .before
+    .before .before .before .pre .regular))
 
 cast-result : tie.Need-cast-result
-cast-result c = omega (arith, pass-made _ _ _ (c .before .before .before .before .before .before .before .before .before .before .before .before .before .before .before .before .before .before .before .before .before .pre) _ _ _ (c .before .before .before .before .before .before .before .before .before .before .before .before .before .before .before .before .before .before .if1 .left) _ (c .before .before .before .before .before .before .before .before .before .before .before .before .before .before .before .before .erase .ensures) _ (c .before .before .before .before .before .before .before .before .before .before .before .before .put-le32 .ensures) _ _ (c .before .before .before .before .before .before .before .before .begin .ensures) _ (c .before .before .before .before .before .before .before .entries .ensures) _ (c .before .before .before .check .ensures), c .before .before .before .before .before .before .before .before .before .before .before .before .before .before .before .before .before .before .before .before .before .fits .stores)
+cast-result c = omega (
+  arith,
+  pass-made _ _ _ (c .before .before .before .before .before .before .before .before .before
+      .before .before .before .before .before .before .before .before .before .before .before .before .pre) _ _ _
+      (c .before .before .before .before .before .before .before .before .before .before .before .before .before .before
+      .before .before .before .before .if1 .left) _ (c .before .before .before .before .before .before .before .before
+      .before .before .before .before .before .before .before .before .erase .ensures) _
+      (c .before .before .before .before .before .before .before .before .before .before .before .before .put-le32
+      .ensures) _ _ (c .before .before .before .before .before .before .before .before .begin .ensures) _
+      (c .before .before .before .before .before .before .before .entries .ensures) _
+      (c .before .before .before .check .ensures),
+  c .before .before .before .before .before .before .before .before
+      .before .before .before .before .before .before .before .before .before .before .before .before .before .fits
+      .stores,
+)
 
 add-result : tie.Need-add-result
-add-result c = omega (arith, pass-made _ _ _ (c .before .before .before .before .before .before .before .before .before .before .before .before .before .before .before .before .before .before .before .before .before .pre) _ _ _ (c .before .before .before .before .before .before .before .before .before .before .before .before .before .before .before .before .before .before .if1 .left) _ (c .before .before .before .before .before .before .before .before .before .before .before .before .before .before .before .before .erase .ensures) _ (c .before .before .before .before .before .before .before .before .before .before .before .before .put-le32 .ensures) _ _ (c .before .before .before .before .before .before .before .before .begin .ensures) _ (c .before .before .before .before .before .before .before .entries .ensures) _ (c .before .before .before .check .ensures), c .before .before .before .before .before .before .before .before .before .before .before .before .before .before .before .before .before .before .before .before .before .fits .stores)
+add-result c = omega (
+  arith,
+  pass-made _ _ _ (c .before .before .before .before .before .before .before .before .before
+      .before .before .before .before .before .before .before .before .before .before .before .before .pre) _ _ _
+      (c .before .before .before .before .before .before .before .before .before .before .before .before .before .before
+      .before .before .before .before .if1 .left) _ (c .before .before .before .before .before .before .before .before
+      .before .before .before .before .before .before .before .before .erase .ensures) _
+      (c .before .before .before .before .before .before .before .before .before .before .before .before .put-le32
+      .ensures) _ _ (c .before .before .before .before .before .before .before .before .begin .ensures) _
+      (c .before .before .before .before .before .before .before .entries .ensures) _
+      (c .before .before .before .check .ensures),
+  c .before .before .before .before .before .before .before .before
+      .before .before .before .before .before .before .before .before .before .before .before .before .before .fits
+      .stores,
+)
 
 returns-2 : tie.Need-returns-2
-returns-2 c = (pass-made _ _ _ (c .before .before .before .before .before .before .before .before .before .before .before .before .before .before .before .before .before .before .before .before .before .pre) _ _ _ (c .before .before .before .before .before .before .before .before .before .before .before .before .before .before .before .before .before .before .if1 .left) _ (c .before .before .before .before .before .before .before .before .before .before .before .before .before .before .before .before .erase .ensures) _ (c .before .before .before .before .before .before .before .before .before .before .before .before .put-le32 .ensures) _ _ (c .before .before .before .before .before .before .before .before .begin .ensures) _ (c .before .before .before .before .before .before .before .entries .ensures) _ (c .before .before .before .check .ensures), pass-block _ _ _ (c .before .before .before .before .before .before .before .before .before .before .before .before .before .before .before .before .before .before .before .before .before .pre) _ _ _ (c .before .before .before .before .before .before .before .before .before .before .before .before .before .before .before .before .before .before .if1 .left) _ (c .before .before .before .before .before .before .before .before .before .before .before .before .before .before .before .before .erase .ensures) _ (c .before .before .before .before .before .before .before .before .before .before .before .before .put-le32 .ensures) _ _ (c .before .before .before .before .before .before .before .before .begin .ensures) _ (c .before .before .before .before .before .before .before .entries .ensures) _ (c .before .before .before .check .ensures))
+returns-2 c = (
+  pass-made _ _ _ (c .before .before .before .before .before .before .before .before .before .before
+      .before .before .before .before .before .before .before .before .before .before .before .pre) _ _ _
+      (c .before .before .before .before .before .before .before .before .before .before .before .before .before .before
+      .before .before .before .before .if1 .left) _ (c .before .before .before .before .before .before .before .before
+      .before .before .before .before .before .before .before .before .erase .ensures) _
+      (c .before .before .before .before .before .before .before .before .before .before .before .before .put-le32
+      .ensures) _ _ (c .before .before .before .before .before .before .before .before .begin .ensures) _
+      (c .before .before .before .before .before .before .before .entries .ensures) _
+      (c .before .before .before .check .ensures),
+  pass-block _ _ _
+      (c .before .before .before .before .before .before .before .before .before .before .before .before .before .before
+      .before .before .before .before .before .before .before .pre) _ _ _
+      (c .before .before .before .before .before .before .before .before .before .before .before .before .before .before
+      .before .before .before .before .if1 .left) _ (c .before .before .before .before .before .before .before .before
+      .before .before .before .before .before .before .before .before .erase .ensures) _
+      (c .before .before .before .before .before .before .before .before .before .before .before .before .put-le32
+      .ensures) _ _ (c .before .before .before .before .before .before .before .before .begin .ensures) _
+      (c .before .before .before .before .before .before .before .entries .ensures) _
+      (c .before .before .before .check .ensures),
+)
 
 pub write-spec : {M : Type 1} → statement M
 write-spec =
     tie.close
-    (tie.spec returns (λ c κs. search needs) (λ c. search needs) (λ c κs. search needs) (λ c κs. search needs) entries-requires (λ c κs. search needs) cast-result add-result (λ c. search needs) returns-2)
+    (tie.spec returns (λ c κs. search needs) (λ c. search needs) (λ c κs. search needs) (λ c κs. search needs)
+    entries-requires (λ c κs. search needs) cast-result add-result (λ c. search needs) returns-2)

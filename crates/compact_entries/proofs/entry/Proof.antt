@@ -6,9 +6,13 @@ use Rattle.compact_entries.proofs.entry.Statement.{statement}
 use Rattle.compact_entries.proofs.entry.Tie as tie
 
 returns : tie.Need-returns
-returns c = entry-done (standing (c .before .before .before .before .before .before .before .before .before .before .args .e) (c .before .before .before .before .before .before .before .before .before .before .args .new .now)) _ _ _ _ _ _ (xor-is _ _) (c .before .before .before .before .before .put-entry .ensures) (c .before .before .lfs-tag-dsize .ensures) (c .sum-entry .ensures)
+returns c = entry-done (standing (c .before .before .before .before .before .before .before .before .before .before
+    .args .e) (c .before .before .before .before .before .before .before .before .before .before .args .new .now)) _ _ _
+    _ _ _ (xor-is _ _) (c .before .before .before .before .before .put-entry .ensures)
+    (c .before .before .lfs-tag-dsize .ensures) (c .sum-entry .ensures)
 
 pub entry-spec : {M : Type 1} → statement M
 entry-spec =
     tie.close
-    (tie.spec (λ c κs. search needs) (λ c κs. search needs) (λ c. search needs) (λ c. search needs) (λ c κs. search needs) (λ c. search needs) returns)
+    (tie.spec (λ c κs. search needs) (λ c κs. search needs) (λ c. search needs) (λ c. search needs)
+    (λ c κs. search needs) (λ c. search needs) returns)

@@ -1,4 +1,5 @@
--- `emit::slot` meets its contract. The loop keeps where all classes end, from here; the classes that are left fall. Assumes nothing.
+-- `emit::slot` meets its contract. The loop keeps where all classes end, from here; the classes that are left fall.
+-- Assumes nothing.
 use mathlib.Core.Path.{_≡_, refl, sym, _∙_}
 use Prim.Native.Nat.{_+_, _-_, _*_, _^_, _≤_}
 use native.Mathlib.Omega.{arith}
@@ -16,7 +17,8 @@ use Rattle.compact_entries.proofs.slot.Tie as tie
 abbrev Inv-loop : tie.InvT-loop
 Inv-loop old new₀ id seats w₀ class₀ new w class =
     (class ≤ classes) × (w .end ≤ 2 ^ 31 + 1_026 * (class + 1)) × (length new ≡ length new₀)
-    × (emits (standing w₀ new₀) (slotItems classes 0 id (slotIn old seats)) ≡ emits (standing w new) (slotItems (classes - class) class id (slotIn old seats)))
+    × (emits (standing w₀ new₀) (slotItems classes 0 id (slotIn old seats)) ≡ emits (standing w new)
+    (slotItems (classes - class) class id (slotIn old seats)))
 
 abbrev μ-loop : tie.MeasureT-loop
 μ-loop old new₀ id seats w₀ class₀ new w class = classes - class
@@ -25,13 +27,39 @@ loop-holds : tie.Need-loop-holds Inv-loop μ-loop
 loop-holds c = (omega arith, omega (arith, entry-within _ _ _ (c .before .before .entry .ensures)), refl, refl)
 
 class-entry-requires : tie.Need-class-entry-requires Inv-loop μ-loop
-class-entry-requires c κs = record { inside = c .before .before .before .before .before .before .before .before .before .before .before .pre .inside (c .before .before .before .loop .class) (c .before .before .loop-test .taken); slot = c .before .before .before .before .before .before .before .before .before .before .before .pre .slot; small = omega arith }
+class-entry-requires c κs =
+    record {
+      inside = c .before .before .before .before .before .before .before .before .before .before .before .pre
+          .inside (c .before .before .before .loop .class) (c .before .before .loop-test .taken);
+      slot =
+          c .before .before .before .before .before .before .before .before .before .before .before .pre .slot;
+      small =
+          omega arith;
+    }
 
 loop-again : tie.Need-loop-again Inv-loop μ-loop
-loop-again c = (omega arith, omega (arith, class-within _ _ (c .before .before .before .before .before .before .before .before .before .before .before .before .before .before .args .id) (slotIn (c .before .before .before .before .before .before .before .before .before .before .before .before .before .before .args .old .now) (c .before .before .before .before .before .before .before .before .before .before .before .before .before .before .args .seats .now) (c .before .before .before .before .before .before .loop .class)) (c .before .before .class-entry .ensures)), search needs, slot-class _ _ _ _ _ _ (c .before .before .before .before .before .loop-test .taken) (c .before .before .before .before .before .before .loop .inv .3) (c .before .before .class-entry .ensures))
+loop-again c = (
+  omega arith,
+  omega (
+    arith,
+    class-within _ _ (c .before .before .before .before .before .before .before .before .before .before
+        .before .before .before .before .args .id)
+        (slotIn (c .before .before .before .before .before .before .before .before .before .before .before .before .before
+        .before .args .old .now) (c .before .before .before .before .before .before .before .before .before .before .before
+        .before .before .before .args .seats .now) (c .before .before .before .before .before .before .loop .class))
+        (c .before .before .class-entry .ensures),
+  ),
+  search needs,
+  slot-class _ _ _ _ _ _
+      (c .before .before .before .before .before .loop-test .taken)
+      (c .before .before .before .before .before .before .loop .inv .3) (c .before .before .class-entry .ensures),
+)
 
 returns : tie.Need-returns Inv-loop μ-loop
-returns c = slot-done _ _ _ _ _ (c .loop-test .left) (c .before .loop .inv .3) ∙ sym (slot-created _ _ _ _ _ _ (c .before .before .before .before .before .before .before .before .before .pre .slot) (c .before .before .before .before .before .lfs-mktag .ensures) (c .before .before .before .before .entry .ensures))
+returns c = slot-done _ _ _ _ _ (c .loop-test .left) (c .before .loop .inv .3)
+    ∙ sym (slot-created _ _ _ _ _ _ (c .before .before .before .before .before .before .before .before .before .pre
+    .slot) (c .before .before .before .before .before .lfs-mktag .ensures)
+    (c .before .before .before .before .entry .ensures))
 
 pub slot-spec : {M : Type 1} → statement M
 slot-spec =

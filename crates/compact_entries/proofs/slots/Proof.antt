@@ -1,4 +1,5 @@
--- `emit::slots` meets its contract. The loop keeps where all slots end, from here; the slots that are left fall. Assumes nothing.
+-- `emit::slots` meets its contract. The loop keeps where all slots end, from here; the slots that are left fall.
+-- Assumes nothing.
 use mathlib.Core.Path.{_≡_, refl}
 use Prim.Native.Nat.{_+_, _-_, _*_, _≤_}
 use native.Mathlib.Omega.{arith}
@@ -18,7 +19,8 @@ use Rattle.compact_entries.proofs.slots.Tie as tie
 abbrev Inv-loop : tie.InvT-loop
 Inv-loop old new₀ end etag count w₀ id₀ new w id =
     (id ≤ count) × (w .end ≤ 16 + id * 265_734) × (length new ≡ length new₀)
-    × (emits (standing w₀ new₀) (dirItems 0 (dirOf (log old))) ≡ emits (standing w new) (dirItems id (drop id (dirOf (log old)))))
+    × (emits (standing w₀ new₀) (dirItems 0 (dirOf (log old))) ≡ emits (standing w new)
+    (dirItems id (drop id (dirOf (log old)))))
 
 abbrev μ-loop : tie.MeasureT-loop
 μ-loop old new₀ end etag count w₀ id₀ new w id = count - id
@@ -30,15 +32,36 @@ gather-requires : tie.Need-gather-requires Inv-loop μ-loop
 gather-requires c κs = slot-gathers _ _ _ _ (c .before .before .before .before .pre .slots) _ (omega arith)
 
 slot-requires : tie.Need-slot-requires Inv-loop μ-loop
-slot-requires c κs = record { inside = c .before .before .gather .ensures .inside; slot = omega (arith, slots-few _ _ _ _ (c .before .before .before .before .before .before .before .pre .slots)); small = omega (arith, slots-few _ _ _ _ (c .before .before .before .before .before .before .before .pre .slots)) }
+slot-requires c κs = record {
+  inside = c .before .before .gather .ensures .inside;
+  slot = omega (arith, slots-few _ _ _ _ (c .before .before .before .before .before .before .before .pre .slots));
+  small = omega (arith, slots-few _ _ _ _ (c .before .before .before .before .before .before .before .pre .slots));
+}
 
 loop-again : tie.Need-loop-again Inv-loop μ-loop
-loop-again c = (omega arith, omega (arith, slot-within _ _ (c .before .before .before .before .before .before .before .loop .id) (slotIn (c .before .before .before .before .before .before .before .before .before .before .args .old .now) (c .before .before .before .before .before .gather .result)) (c .before .before .slot .ensures)), search needs, dir-slot _ _ _ _ _ _ (slots-more _ _ _ _ (c .before .before .before .before .before .before .before .before .before .before .pre .slots) _ (c .before .before .before .before .before .before .loop-test .taken)) (slot-holds _ _ _ _ (c .before .before .before .before .before .before .before .before .before .before .pre .slots) _ _ (c .before .before .before .before .before .before .loop-test .taken) (c .before .before .before .before .before .gather .ensures)) (c .before .before .before .before .before .before .before .loop .inv .3) (c .before .before .slot .ensures))
+loop-again c = (
+  omega arith,
+  omega (
+    arith,
+    slot-within _ _ (c .before .before .before .before .before .before .before .loop .id) (slotIn
+        (c .before .before .before .before .before .before .before .before .before .before .args .old .now)
+        (c .before .before .before .before .before .gather .result)) (c .before .before .slot .ensures),
+  ),
+  search needs,
+  dir-slot _ _ _ _ _ _ (slots-more _ _ _ _ (c .before .before .before .before .before .before .before .before .before
+      .before .pre .slots) _ (c .before .before .before .before .before .before .loop-test .taken))
+      (slot-holds _ _ _ _ (c .before .before .before .before .before .before .before .before .before .before .pre .slots)
+      _ _ (c .before .before .before .before .before .before .loop-test .taken)
+      (c .before .before .before .before .before .gather .ensures))
+      (c .before .before .before .before .before .before .before .loop .inv .3) (c .before .before .slot .ensures),
+)
 
 returns : tie.Need-returns Inv-loop μ-loop
-returns c = dir-done _ _ _ (c .before .loop .id) (slots-end _ _ _ _ (c .before .before .before .before .pre .slots) _ (c .loop-test .left)) (c .before .loop .inv .3)
+returns c = dir-done _ _ _ (c .before .loop .id) (slots-end _ _ _ _ (c .before .before .before .before .pre .slots) _
+    (c .loop-test .left)) (c .before .loop .inv .3)
 
 pub slots-spec : {M : Type 1} → statement M
 slots-spec =
     tie.close
-    (tie.spec Inv-loop μ-loop loop-holds (λ c. omega arith) gather-requires slot-requires (λ c. omega arith) (λ c. omega arith) loop-again (λ c. search needs) returns)
+    (tie.spec Inv-loop μ-loop loop-holds (λ c. omega arith) gather-requires slot-requires (λ c. omega arith)
+    (λ c. omega arith) loop-again (λ c. search needs) returns)

@@ -1,5 +1,5 @@
--- `gather::gather` meets its contract. The loop keeps what a free seat may still find (`Gathering`); the offset falls, and the slot's id grows by
--- less than it. Assumes nothing.
+-- `gather::gather` meets its contract. The loop keeps what a free seat may still find (`Gathering`); the offset falls,
+-- and the slot's id grows by less than it. Assumes nothing.
 use mathlib.Core.List.{map}
 use Prim.Native.Nat.{_+_, _^_, _≤_, _<_}
 use native.Mathlib.Omega.{arith}
@@ -13,7 +13,8 @@ use Rattle.compact_slot.proofs.gather.Tie as tie
 
 abbrev Inv-loop : tie.InvT-loop
 Inv-loop b end etag id seats₀ off₀ tag₀ slot₀ seats off tag slot =
-    (tag < 2 ^ 32) × (off ≤ end) × (slot + off ≤ id + end) × Gathering b (map (seen b) (back b end etag)) id (map (seen b) (back b off tag)) slot seats
+    (tag < 2 ^ 32) × (off ≤ end) × (slot + off ≤ id + end) × Gathering b (map (seen b) (back b end etag)) id
+    (map (seen b) (back b off tag)) slot seats
 
 abbrev μ-loop : tie.MeasureT-loop
 μ-loop b end etag id seats₀ off₀ tag₀ slot₀ seats off tag slot = off
@@ -60,13 +61,15 @@ loop-again
       omega (
         arith,
         back-word _ _ _
-            (placed-at _ _ _ _ (c .before .before .before .before .before .before .before .before .before .place .ensures)
+            (placed-at _ _ _ _ (c .before .before .before .before .before .before .before .before .before .place
+            .ensures)
             (c .before .before .before .before .before .before .before .at .given .1)),
       ),
       omega (
         arith,
         back-word _ _ _
-            (placed-at _ _ _ _ (c .before .before .before .before .before .before .before .before .before .place .ensures)
+            (placed-at _ _ _ _ (c .before .before .before .before .before .before .before .before .before .place
+            .ensures)
             (c .before .before .before .before .before .before .before .at .given .1)),
         c .before .id-before .ensures,
         id-before-most (c .before .before .before .before .before .before .before .before .before .before .loop .tag)
@@ -77,7 +80,8 @@ loop-again
           (placed-at _ _ _ _ (c .before .before .before .before .before .before .before .before .before .place .ensures)
           (c .before .before .before .before .before .before .before .at .given .1)) _
           (c .before .before .before .before .before .created .ensures) (c .before .before .before .before .if1 .left)
-          (omega arith) (omega arith) (omega arith) _ (c .before .before .note .ensures) _ (c .before .id-before .ensures) _
+          (omega arith) (omega arith) (omega arith) _ (c .before .before .note .ensures) _
+          (c .before .id-before .ensures) _
           (c .tag-before .ensures),
     )
 

@@ -1,4 +1,5 @@
--- `gather::newest_move` meets its contract. The loop keeps what the rest of the walk finds; the offset falls. Assumes nothing.
+-- `gather::newest_move` meets its contract. The loop keeps what the rest of the walk finds; the offset falls. Assumes
+-- nothing.
 use mathlib.Core.Path.{_≡_, refl}
 use Prim.Native.Nat.{_^_, _≤_, _<_}
 use native.Mathlib.Omega.{arith}
@@ -11,7 +12,8 @@ use Rattle.compact_slot.proofs.newest_move.Statement.{statement}
 use Rattle.compact_slot.proofs.newest_move.Tie as tie
 
 abbrev Inv-loop : tie.InvT-loop
-Inv-loop b end etag off₀ tag₀ off tag = (tag < 2 ^ 32) × (off ≤ end) × (lastMove b (back b off tag) ≡ lastMove b (back b end etag))
+Inv-loop b end etag off₀ tag₀ off tag = (tag < 2 ^ 32) × (off ≤ end)
+    × (lastMove b (back b off tag) ≡ lastMove b (back b end etag))
 
 abbrev μ-loop : tie.MeasureT-loop
 μ-loop b end etag off₀ tag₀ off tag = off

@@ -1,4 +1,5 @@
--- `crc::half` meets its contract: the word of the low four bits, by the table's rule, and `Linear.steps` for the others. Assumes nothing.
+-- `crc::half` meets its contract: the word of the low four bits, by the table's rule, and `Linear.steps` for the
+-- others. Assumes nothing.
 use mathlib.Core.Path.{sym, ap, _∙_}
 use Prim.Native.Nat.{_/_, _%_, _^_}
 use native.Mathlib.Omega.{arith}

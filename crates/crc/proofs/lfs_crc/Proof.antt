@@ -1,5 +1,5 @@
--- `crc::lfs_crc` meets its contract. The loop's invariant: what is left of the bytes takes the register to the checksum of all.
--- The measure is what is left of the length. Assumes nothing.
+-- `crc::lfs_crc` meets its contract. The loop's invariant: what is left of the bytes takes the register to the checksum
+-- of all. The measure is what is left of the length. Assumes nothing.
 use mathlib.Core.Path.{_≡_, sym, ap, ap₂, _∙_}
 use mathlib.Core.List.{List}
 use Prim.Native.Nat.{ℕ, _≤_, _<_, _-_, _+_}
@@ -25,12 +25,19 @@ abbrev μ-loop : tie.MeasureT-loop
 
 loop-again : tie.Need-loop-again Inv-loop μ-loop
 loop-again c =
-    let at-loop = c .before .before .before .before in
-    (search needs, (at-loop .loop .inv .1 .0, turn _ (at-loop .loop .i) (at-loop .loop .s) _ (c .before .before .before .loop-test .taken) (c .byte-by .ensures) ∙ at-loop .loop .inv .1 .1))
+    let at-loop = c .before .before .before .before in (
+      search needs,
+      (
+        at-loop .loop .inv .1 .0,
+        turn _ (at-loop .loop .i) (at-loop .loop .s) _ (c .before .before .before
+            .loop-test .taken) (c .byte-by .ensures) ∙ at-loop .loop .inv .1 .1,
+      ),
+    )
 
 returns : tie.Need-returns Inv-loop μ-loop
 unfolding crc
 returns c = sym (ap (crc _) (drop-of-length-le _ (c .loop-test .left))) ∙ c .before .loop .inv .1 .1
 
 pub lfs-crc-spec : {M : Type 1} → statement M
-lfs-crc-spec = tie.close (tie.spec Inv-loop μ-loop (λ c κs. search needs) (λ c. search needs) (λ c. search needs) (λ c κs. search needs) (λ c. search needs) (λ c. search needs) loop-again returns)
+lfs-crc-spec = tie.close (tie.spec Inv-loop μ-loop (λ c κs. search needs) (λ c. search needs) (λ c. search needs)
+    (λ c κs. search needs) (λ c. search needs) (λ c. search needs) loop-again returns)

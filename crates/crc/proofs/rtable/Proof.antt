@@ -1,5 +1,5 @@
--- `crc::rtable` meets its contract: RTABLE is tied to the bitwise definition by one test that is computed over its sixteen words.
--- Assumes nothing.
+-- `crc::rtable` meets its contract: RTABLE is tied to the bitwise definition by one test that is computed over its
+-- sixteen words. Assumes nothing.
 use mathlib.Core.Path.{_≡_, refl}
 use mathlib.Core.Bool.{Bool}
 use mathlib.Core.List.{List}

@@ -18,7 +18,8 @@ held : (a b : ℕ) → toZ w32 (ofZ w32 (scmp a b)) ≡ scmp a b
 held a b = toZ-ofZ (sfits-toZ {w = w32} {n = minus32 a b} (record { fits = omega arith }))
 
 returns : tie.Need-returns
-returns c = ap (λ (z : ℤ). ltZ (pos 0) (toZ w32 (ofZ w32 z))) (c .lfs-scmp .ensures) ∙ ap (λ (z : ℤ). ltZ (pos 0) z) (held (c .before .args .rev1) (c .before .args .rev0))
+returns c = ap (λ (z : ℤ). ltZ (pos 0) (toZ w32 (ofZ w32 z))) (c .lfs-scmp .ensures)
+    ∙ ap (λ (z : ℤ). ltZ (pos 0) z) (held (c .before .args .rev1) (c .before .args .rev0))
 
 pub second-first-spec : {M : Type 1} → statement M
 second-first-spec = tie.close (tie.spec (λ c κs. search needs) returns)

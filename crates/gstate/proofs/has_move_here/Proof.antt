@@ -1,4 +1,5 @@
--- `gstate::has_move_here` meets its contract: the comparison answers 0 exactly where a block is shared. Assumes nothing.
+-- `gstate::has_move_here` meets its contract: the comparison answers 0 exactly where a block is shared. Assumes
+-- nothing.
 use borrow.Author.Needs.{needs}
 use mathlib.Core.Path.{_≡_, refl}
 use mathlib.Core.Bool.{Bool, true, false, cond}

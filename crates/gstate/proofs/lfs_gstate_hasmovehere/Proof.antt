@@ -1,4 +1,5 @@
--- `gstate::lfs_gstate_hasmovehere` meets its contract: a thin reader over `has_move_here`, with two numbers beside the state (`Thin.antt`). Assumes nothing.
+-- `gstate::lfs_gstate_hasmovehere` meets its contract: a thin reader over `has_move_here`, with two numbers beside the
+-- state (`Thin.antt`). Assumes nothing.
 use mathlib.Core.Path.{_≡_}
 use Rattle.format.specs.Gstate.{gstateHasMoveHere}
 use Rattle.gstate.proofs.Thin.{truth, reads-pair}

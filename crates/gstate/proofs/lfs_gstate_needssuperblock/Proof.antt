@@ -1,4 +1,5 @@
--- `gstate::lfs_gstate_needssuperblock` meets its contract: a thin reader over `needs_superblock` (`Thin.antt`). Assumes nothing.
+-- `gstate::lfs_gstate_needssuperblock` meets its contract: a thin reader over `needs_superblock` (`Thin.antt`). Assumes
+-- nothing.
 use mathlib.Core.Path.{_≡_}
 use Rattle.format.specs.Gstate.{gstateNeedsSuperblock}
 use Rattle.gstate.proofs.Thin.{truth, reads}

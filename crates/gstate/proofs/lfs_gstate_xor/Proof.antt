@@ -1,4 +1,5 @@
--- `gstate::lfs_gstate_xor` meets its contract: a thin function over `xored` that alters the state where it stands (`Alter.antt`). Assumes nothing.
+-- `gstate::lfs_gstate_xor` meets its contract: a thin function over `xored` that alters the state where it stands
+-- (`Alter.antt`). Assumes nothing.
 use mathlib.Core.Path.{_≡_}
 use Rattle.format.specs.Gstate.{gstateXor}
 use Rattle.gstate.proofs.Alter.{alters}

@@ -10,7 +10,8 @@ returns : tie.Need-returns
 returns c = sym (ap alteredResult (c .enum-told .given .1))
 
 returns-2 : tie.Need-returns-2
-returns-2 c = toZ-ofZ (sfits-of (c .number .ok)) ∙ c .number .ensures ∙ sym (ap alteredResult (c .before .before .a .given .1))
+returns-2 c = toZ-ofZ (sfits-of (c .number .ok)) ∙ c .number .ensures
+    ∙ sym (ap alteredResult (c .before .before .a .given .1))
 
 pub altered-out-spec : {M : Type 1} → statement M
 altered-out-spec = tie.close (tie.spec (λ c. search needs) (λ c. search needs) (λ c κs. search needs) returns returns-2)

@@ -1,4 +1,5 @@
--- `answers::fetched_out` meets its contract: the record and seed that were found with 0, or what comes back with a refusal. Assumes nothing.
+-- `answers::fetched_out` meets its contract: the record and seed that were found with 0, or what comes back with a
+-- refusal. Assumes nothing.
 use mathlib.Core.Path.{_≡_, sym, ap, _∙_}
 use Prim.Native.Nat.{ℕ}
 use lib.IntN.{ℤ}
@@ -28,4 +29,5 @@ returns-2 c =
     ∙ sym (ap (fetchedOut (at-match .before .before .args .seed)) (at-match .f2 .given .1))
 
 pub fetched-out-spec : {M : Type 1} → statement M
-fetched-out-spec = tie.close (tie.spec (λ c. search needs) (λ c. search needs) (λ c κs. search needs) (λ c κs. search needs) (λ c κs. search needs) returns returns-2)
+fetched-out-spec = tie.close (tie.spec (λ c. search needs) (λ c. search needs) (λ c κs. search needs)
+    (λ c κs. search needs) (λ c κs. search needs) returns returns-2)

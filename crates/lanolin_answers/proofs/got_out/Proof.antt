@@ -16,7 +16,8 @@ returns c = sym (ap gotOut (c .before .g .given .1))
 
 returns-2 : tie.Need-returns-2
 unfolding refused
-returns-2 c = ap refused (toZ-ofZ (sfits-of (c .number .ok)) ∙ c .number .ensures) ∙ sym (ap gotOut (c .before .before .g2 .given .1))
+returns-2 c = ap refused (toZ-ofZ (sfits-of (c .number .ok)) ∙ c .number .ensures)
+    ∙ sym (ap gotOut (c .before .before .g2 .given .1))
 
 pub got-out-spec : {M : Type 1} → statement M
 got-out-spec = tie.close (tie.spec (λ c. search needs) (λ c. search needs) (λ c κs. search needs) returns returns-2)

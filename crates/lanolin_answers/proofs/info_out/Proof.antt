@@ -13,7 +13,8 @@ out i n = record { result = n; kind = i .kind; size = i .size; name = i .name }
 
 returns : tie.Need-returns
 unfolding out
-returns c = ap (out (c .before .before .before .args .i .info)) (toZ-ofZ (sfits-of (c .altered-out .ok)) ∙ c .altered-out .ensures)
+returns c = ap (out (c .before .before .before .args .i .info)) (toZ-ofZ (sfits-of (c .altered-out .ok))
+    ∙ c .altered-out .ensures)
 
 pub info-out-spec : {M : Type 1} → statement M
 info-out-spec = tie.close (tie.spec (λ c κs. search needs) returns)

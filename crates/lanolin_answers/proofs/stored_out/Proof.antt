@@ -1,4 +1,5 @@
--- `answers::stored_out` meets its contract: the number of stores with 0, or what comes back with a refusal. Assumes nothing.
+-- `answers::stored_out` meets its contract: the number of stores with 0, or what comes back with a refusal. Assumes
+-- nothing.
 use mathlib.Core.Path.{_≡_, sym, ap, _∙_}
 use Prim.Native.Nat.{ℕ}
 use lib.IntN.{ℤ}
@@ -22,7 +23,9 @@ returns-2 : tie.Need-returns-2
 unfolding out
 returns-2 c =
     let n = c .before .number in
-    same (toZ-ofZ (sfits-of (n .ok)) ∙ n .ensures) (c .refused-index .ensures) ∙ sym (ap storedOut (c .before .before .before .s2 .given .1))
+    same (toZ-ofZ (sfits-of (n .ok)) ∙ n .ensures) (c .refused-index .ensures)
+    ∙ sym (ap storedOut (c .before .before .before .s2 .given .1))
 
 pub stored-out-spec : {M : Type 1} → statement M
-stored-out-spec = tie.close (tie.spec (λ c. search needs) (λ c. search needs) (λ c κs. search needs) (λ c κs. search needs) returns returns-2)
+stored-out-spec = tie.close (tie.spec (λ c. search needs) (λ c. search needs) (λ c κs. search needs)
+    (λ c κs. search needs) returns returns-2)

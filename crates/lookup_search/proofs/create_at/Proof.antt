@@ -9,7 +9,8 @@ use Rattle.lookup_search.proofs.create_at.Tie as tie
 
 returns : tie.Need-returns
 unfolding tagOf
-returns c = c .lfs-mktag .ensures ∙ rw (c .before .lfs-tag-id .ensures) (mkTag-sum 0x401 (tagId (c .before .before .args .key)) 0 (omega arith) (omega arith) (omega arith))
+returns c = c .lfs-mktag .ensures ∙ rw (c .before .lfs-tag-id .ensures)
+    (mkTag-sum 0x401 (tagId (c .before .before .args .key)) 0 (omega arith) (omega arith) (omega arith))
 
 pub create-at-spec : {M : Type 1} → statement M
 create-at-spec =

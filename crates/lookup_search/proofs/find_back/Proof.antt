@@ -1,5 +1,6 @@
--- `search::find_back` meets its contract. The loop's invariant: the end is not passed, and what is left of the walk answers what the whole does. Each way
--- out of a turn is a law of `Turn.antt`. The measure is the offset. Assumes nothing.
+-- `search::find_back` meets its contract. The loop's invariant: the end is not passed, and what is left of the walk
+-- answers what the whole does. Each way out of a turn is a law of `Turn.antt`. The measure is the offset. Assumes
+-- nothing.
 use mathlib.Core.Path.{_≡_, sym, _∙_}
 use native.Mathlib.Omega.{arith}
 use Prim.Native.Nat.{_≤_}
@@ -13,7 +14,8 @@ use Rattle.lookup_search.proofs.find_back.Statement.{statement}
 use Rattle.lookup_search.proofs.find_back.Tie as tie
 
 abbrev Inv-loop : tie.InvT-loop
-Inv-loop b end etag gmask gtag diff ids off₀ tag₀ gdiff₀ off tag gdiff = (off ≤ end) × (wlook (hasIds gmask) gmask gtag diff (back b end etag) ≡ wlook ids gmask gtag gdiff (back b off tag))
+Inv-loop b end etag gmask gtag diff ids off₀ tag₀ gdiff₀ off tag gdiff = (off ≤ end)
+    × (wlook (hasIds gmask) gmask gtag diff (back b end etag) ≡ wlook ids gmask gtag gdiff (back b off tag))
 
 abbrev μ-loop : tie.MeasureT-loop
 μ-loop b end etag gmask gtag diff ids off₀ tag₀ gdiff₀ off tag gdiff = off

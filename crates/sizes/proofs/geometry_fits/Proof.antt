@@ -1,4 +1,5 @@
--- `sizes::geometry_fits` meets its contract: a program size of 0 is no divisor, and the other tests stand as they are. Assumes nothing.
+-- `sizes::geometry_fits` meets its contract: a program size of 0 is no divisor, and the other tests stand as they are.
+-- Assumes nothing.
 use borrow.Author.Tests.{le-leb, lt-leb}
 use borrow.Author.Needs.{needs}
 use Rattle.format.specs.Fetch.{geometryFits}

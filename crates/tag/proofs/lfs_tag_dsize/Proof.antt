@@ -1,4 +1,5 @@
--- `tag::lfs_tag_dsize` meets its contract: whether the size is a removal's decides the definition's case. Assumes nothing.
+-- `tag::lfs_tag_dsize` meets its contract: whether the size is a removal's decides the definition's case. Assumes
+-- nothing.
 use mathlib.Core.Path.{_≡_, sym, _∙_}
 use Prim.Native.Nat.{ℕ, _+_}
 use borrow.Author.Needs.{needs}

@@ -22,7 +22,9 @@ returns c = ap (toZ w8) (c .before .lfs-tag-chunk .ensures)
 returns-2 : tie.Need-returns-2
 returns-2 c =
     let r = c .before .lfs-tag-chunk .result in
-    toZ-ofZ (negative-fits w8 r (255 - r) (omega arith) (omega arith)) ∙ negative w8 r (255 - r) (omega arith) (omega arith) ∙ ap (toZ w8) (c .before .lfs-tag-chunk .ensures)
+    toZ-ofZ (negative-fits w8 r (255 - r) (omega arith) (omega arith))
+    ∙ negative w8 r (255 - r) (omega arith) (omega arith) ∙ ap (toZ w8) (c .before .lfs-tag-chunk .ensures)
 
 pub lfs-tag-splice-spec : {M : Type 1} → statement M
-lfs-tag-splice-spec = tie.close (tie.spec (λ c κs. search needs) (λ c. search needs) (λ c. search needs) (λ c. search needs) sub-result-2 returns returns-2)
+lfs-tag-splice-spec = tie.close (tie.spec (λ c κs. search needs) (λ c. search needs) (λ c. search needs)
+    (λ c. search needs) sub-result-2 returns returns-2)

@@ -1,4 +1,5 @@
--- `text::decimal_in` meets its contract: no digit is left, one digit, or those in front and then the last. The digits that are left fall. Assumes nothing.
+-- `text::decimal_in` meets its contract: no digit is left, one digit, or those in front and then the last. The digits
+-- that are left fall. Assumes nothing.
 use Prim.Native.Nat.{ℕ, _<_}
 use native.Mathlib.Omega.{arith}
 use native.Mathlib.Nat.{pos-of-ne-zero}
@@ -37,29 +38,40 @@ decimal-in-add-digit t c = omega arith
 decimal-in-cast-digit : (t : ℕ) → decimal-in-lts.Need-cast-digit (decimal-in-claims t) (decimal-in-at t) decimal-in.Post
 decimal-in-cast-digit t c = omega arith
 
-decimal-in-put-requires : (t : ℕ) → decimal-in-lts.Need-put-requires (decimal-in-claims t) (decimal-in-at t) decimal-in.Post
+decimal-in-put-requires : (t : ℕ) → decimal-in-lts.Need-put-requires (decimal-in-claims t) (decimal-in-at t)
+    decimal-in.Post
 decimal-in-put-requires t c κs = tt
 
-decimal-in-same-length : (t : ℕ) → decimal-in-lts.Need-same-length (decimal-in-claims t) (decimal-in-at t) decimal-in.Post
+decimal-in-same-length : (t : ℕ) → decimal-in-lts.Need-same-length (decimal-in-claims t) (decimal-in-at t)
+    decimal-in.Post
 decimal-in-same-length t c = search needs
 
 decimal-in-returns-2 : (t : ℕ) → decimal-in-lts.Need-returns-2 (decimal-in-claims t) (decimal-in-at t) decimal-in.Post
-decimal-in-returns-2 t c = decimal-last _ _ _ _ (c .before .before .before .before .before .if1 .left) (c .before .before .before .before .if2 .taken) (c .before .before .put .ensures)
+decimal-in-returns-2 t c = decimal-last _ _ _ _ (c .before .before .before .before .before .if1 .left)
+    (c .before .before .before .before .if2 .taken) (c .before .before .put .ensures)
 
-decimal-in-sub-decimal-in : (t : ℕ) → decimal-in-lts.Need-sub-decimal-in (decimal-in-claims t) (decimal-in-at t) decimal-in.Post
+decimal-in-sub-decimal-in : (t : ℕ) → decimal-in-lts.Need-sub-decimal-in (decimal-in-claims t) (decimal-in-at t)
+    decimal-in.Post
 decimal-in-sub-decimal-in t c = pos-of-ne-zero (c .before .before .if1 .left)
 
-decimal-in-decimal-in-requires : (t : ℕ) → decimal-in-lts.Need-decimal-in-requires (decimal-in-claims t) (decimal-in-at t) decimal-in.Post
-decimal-in-decimal-in-requires t c κs = (omega (arith, c .before .before .before .before .pre .0, pos-of-ne-zero (c .before .before .if1 .left)), tt)
+decimal-in-decimal-in-requires : (t : ℕ) → decimal-in-lts.Need-decimal-in-requires (decimal-in-claims t)
+    (decimal-in-at t) decimal-in.Post
+decimal-in-decimal-in-requires t c κs =
+    (omega (arith, c .before .before .before .before .pre .0, pos-of-ne-zero (c .before .before .if1 .left)), tt)
 
-decimal-in-put-requires-2 : (t : ℕ) → decimal-in-lts.Need-put-requires-2 (decimal-in-claims t) (decimal-in-at t) decimal-in.Post
+decimal-in-put-requires-2 : (t : ℕ) → decimal-in-lts.Need-put-requires-2 (decimal-in-claims t) (decimal-in-at t)
+    decimal-in.Post
 decimal-in-put-requires-2 t c κs = tt
 
-decimal-in-same-length-2 : (t : ℕ) → decimal-in-lts.Need-same-length-2 (decimal-in-claims t) (decimal-in-at t) decimal-in.Post
+decimal-in-same-length-2 : (t : ℕ) → decimal-in-lts.Need-same-length-2 (decimal-in-claims t) (decimal-in-at t)
+    decimal-in.Post
 decimal-in-same-length-2 t c = search needs
 
 decimal-in-returns-3 : (t : ℕ) → decimal-in-lts.Need-returns-3 (decimal-in-claims t) (decimal-in-at t) decimal-in.Post
-decimal-in-returns-3 t c = decimal-more _ _ _ _ _ (c .before .before .before .before .before .before .before .before .before .if1 .left) (c .before .before .before .before .before .before .before .before .if2 .left) (c .before .before .before .before .before .before .decimal-in .ensures) (c .before .before .put2 .ensures)
+decimal-in-returns-3 t c =
+    decimal-more _ _ _ _ _ (c .before .before .before .before .before .before .before .before .before .if1 .left)
+    (c .before .before .before .before .before .before .before .before .if2 .left)
+    (c .before .before .before .before .before .before .decimal-in .ensures) (c .before .before .put2 .ensures)
 
 pub +decimal-in-spec : {M : Type 1} → statement M
 +decimal-in-spec = close μ-decimal-in λ t. decimal-in-lts.spec (decimal-in-claims t)

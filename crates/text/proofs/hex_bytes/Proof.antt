@@ -13,7 +13,8 @@ use Rattle.text.proofs.hex_bytes.Tie as tie
 
 abbrev Inv-loop : tie.InvT-loop
 Inv-loop out₀ at bytes n₀ i₀ out n i =
-    (i ≤ length bytes) × (length out ≡ length out₀) × (putsOf (text at out₀) (hexBytes bytes) ≡ putsOf (text n out) (hexBytes (drop i bytes)))
+    (i ≤ length bytes) × (length out ≡ length out₀)
+    × (putsOf (text at out₀) (hexBytes bytes) ≡ putsOf (text n out) (hexBytes (drop i bytes)))
 
 abbrev μ-loop : tie.MeasureT-loop
 μ-loop out₀ at bytes n₀ i₀ out n i = length bytes - i
@@ -25,7 +26,13 @@ shared-slice-read-hex-byte : tie.Need-shared-slice-read-hex-byte Inv-loop μ-loo
 shared-slice-read-hex-byte c = c .before .before .loop-test .taken
 
 loop-again : tie.Need-loop-again Inv-loop μ-loop
-loop-again c = (omega arith, search needs, each-more hexBytes hexByte _ hex-each _ _ _ _ (c .before .before .before .before .before .loop-test .taken) (c .before .before .before .before .before .before .loop .inv .2) (c .before .before .hex-byte .ensures))
+loop-again c = (
+  omega arith,
+  search needs,
+  each-more hexBytes hexByte _ hex-each _ _ _ _ (c .before .before .before
+      .before .before .loop-test .taken) (c .before .before .before .before .before .before .loop .inv .2)
+      (c .before .before .hex-byte .ensures),
+)
 
 same-length : tie.Need-same-length Inv-loop μ-loop
 same-length c = c .before .loop .inv .1
@@ -36,4 +43,5 @@ returns c = each-done hexBytes hexByte _ hex-no _ _ _ (c .loop-test .left) (c .b
 pub hex-bytes-spec : {M : Type 1} → statement M
 hex-bytes-spec =
     tie.close
-    (tie.spec Inv-loop μ-loop loop-holds shared-slice-read-hex-byte (λ c κs. search needs) (λ c. omega arith) (λ c. omega arith) loop-again same-length returns)
+    (tie.spec Inv-loop μ-loop loop-holds shared-slice-read-hex-byte (λ c κs. search needs) (λ c. omega arith)
+    (λ c. omega arith) loop-again same-length returns)

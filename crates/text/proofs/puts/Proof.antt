@@ -24,7 +24,13 @@ shared-slice-read-put : tie.Need-shared-slice-read-put Inv-loop μ-loop
 shared-slice-read-put c = c .before .before .loop-test .taken
 
 loop-again : tie.Need-loop-again Inv-loop μ-loop
-loop-again c = (omega arith, search needs, each-more (λ l. l) (λ b. b ∷ []) _ (λ b bs. refl) _ _ _ _ (c .before .before .before .before .before .loop-test .taken) (c .before .before .before .before .before .before .loop .inv .2) (puts-one _ _ _ (c .before .before .put .ensures)))
+loop-again c = (
+  omega arith,
+  search needs,
+  each-more (λ l. l) (λ b. b ∷ []) _ (λ b bs. refl) _ _ _ _ (c .before .before
+      .before .before .before .loop-test .taken) (c .before .before .before .before .before .before .loop .inv .2)
+      (puts-one _ _ _ (c .before .before .put .ensures)),
+)
 
 same-length : tie.Need-same-length Inv-loop μ-loop
 same-length c = c .before .loop .inv .1
@@ -35,4 +41,5 @@ returns c = each-done (λ l. l) (λ b. b ∷ []) _ refl _ _ _ (c .loop-test .lef
 pub puts-spec : {M : Type 1} → statement M
 puts-spec =
     tie.close
-    (tie.spec Inv-loop μ-loop loop-holds shared-slice-read-put (λ c κs. search needs) (λ c. omega arith) (λ c. omega arith) loop-again same-length returns)
+    (tie.spec Inv-loop μ-loop loop-holds shared-slice-read-put (λ c κs. search needs) (λ c. omega arith)
+    (λ c. omega arith) loop-again same-length returns)

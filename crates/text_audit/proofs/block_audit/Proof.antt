@@ -29,4 +29,5 @@ returns-2 c =
 pub block-audit-spec : {M : Type 1} → statement M
 block-audit-spec =
     tie.close
-    (tie.spec (λ c κs. search needs) (λ c κs. search needs) (λ c. search needs) returns (λ c. search needs) (λ c. search needs) slot-audits-requires (λ c. search needs) (λ c κs. search needs) (λ c. search needs) returns-2)
+    (tie.spec (λ c κs. search needs) (λ c κs. search needs) (λ c. search needs) returns (λ c. search needs)
+    (λ c. search needs) slot-audits-requires (λ c. search needs) (λ c κs. search needs) (λ c. search needs) returns-2)

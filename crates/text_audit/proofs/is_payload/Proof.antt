@@ -8,7 +8,8 @@ returns : tie.Need-returns
 returns c = payload-missing _ _ (c .before .before .part .ensures) (c .if1 .taken)
 
 returns-2 : tie.Need-returns-2
-returns-2 c = payload-there _ _ (c .before .before .before .before .before .part .ensures) (c .before .before .before .if1 .left)
+returns-2 c = payload-there _ _ (c .before .before .before .before .before .part .ensures)
+    (c .before .before .before .if1 .left)
 
 pub is-payload-spec : {M : Type 1} → statement M
 is-payload-spec = tie.close (tie.spec (λ c κs. search needs) returns returns-2)

@@ -9,21 +9,51 @@ use Rattle.text_audit.proofs.lfs_dir_audit.Statement.{statement}
 use Rattle.text_audit.proofs.lfs_dir_audit.Tie as tie
 
 block-audit-requires : tie.Need-block-audit-requires
-block-audit-requires c κs = first-listable (c .before .before .before .before .before .before .before .before .before .before .before .args .input .now) _ _ (sym (c .before .before .before .before .before .before .m .given .1) ∙ c .before .before .before .before .before .before .before .before .fetch-input .ensures) (c .before .before .if1 .taken)
+block-audit-requires c κs =
+    first-listable (c .before .before .before .before .before .before .before .before .before .before .before .args
+    .input .now) _ _ (sym (c .before .before .before .before .before .before .m .given .1)
+    ∙ c .before .before .before .before .before .before .before .before .fetch-input .ensures)
+    (c .before .before .if1 .taken)
 
 block-audit-requires-2 : tie.Need-block-audit-requires-2
-block-audit-requires-2 c κs = second-listable (c .before .before .before .before .before .before .before .before .before .before .before .args .input .now) _ _ (sym (c .before .before .before .before .before .before .m .given .1) ∙ c .before .before .before .before .before .before .before .before .fetch-input .ensures) (c .before .before .if1 .left)
+block-audit-requires-2 c κs =
+    second-listable (c .before .before .before .before .before .before .before .before .before .before .before .args
+    .input .now) _ _ (sym (c .before .before .before .before .before .before .m .given .1)
+    ∙ c .before .before .before .before .before .before .before .before .fetch-input .ensures)
+    (c .before .before .if1 .left)
 
 returns : tie.Need-returns
-returns c = puts-written _ _ _ _ (audit-short (c .before .before .before .before .before .before .before .before .before .before .args .input .now)) (shown-refused (c .before .before .before .before .before .before .before .before .before .before .args .input .now) blockAudit _ _ _ (sym (c .before .before .before .before .before .r .given .1) ∙ c .before .before .before .before .before .before .before .fetch-input .ensures) (c .before .before .refused .ensures))
+returns c = puts-written _ _ _ _
+    (audit-short (c .before .before .before .before .before .before .before .before .before .before .args .input .now))
+    (shown-refused (c .before .before .before .before .before .before .before .before .before .before .args .input .now)
+    blockAudit _ _ _ (sym (c .before .before .before .before .before .r .given .1)
+    ∙ c .before .before .before .before .before .before .before .fetch-input .ensures)
+    (c .before .before .refused .ensures))
 
 returns-2 : tie.Need-returns-2
-returns-2 c = puts-written _ _ _ _ (audit-short (c .before .before .before .before .before .before .before .before .before .before .before .before .before .before .args .input .now)) (shown-first (c .before .before .before .before .before .before .before .before .before .before .before .before .before .before .args .input .now) _ _ (sym (c .before .before .before .before .before .before .before .before .before .m .given .1) ∙ c .before .before .before .before .before .before .before .before .before .before .before .fetch-input .ensures) (c .before .before .before .before .before .if1 .taken) blockAudit _ _ (c .before .before .block-audit .ensures))
+returns-2 c = puts-written _ _ _ _
+    (audit-short (c .before .before .before .before .before .before .before .before .before .before .before .before
+    .before .before .args .input .now))
+    (shown-first (c .before .before .before .before .before .before .before .before .before .before .before .before
+    .before .before .args .input .now) _ _
+    (sym (c .before .before .before .before .before .before .before .before .before .m .given .1)
+    ∙ c .before .before .before .before .before .before .before .before .before .before .before .fetch-input .ensures)
+    (c .before .before .before .before .before .if1 .taken) blockAudit _ _ (c .before .before .block-audit .ensures))
 
 returns-3 : tie.Need-returns-3
-returns-3 c = puts-written _ _ _ _ (audit-short (c .before .before .before .before .before .before .before .before .before .before .before .before .before .before .args .input .now)) (shown-second (c .before .before .before .before .before .before .before .before .before .before .before .before .before .before .args .input .now) _ _ (sym (c .before .before .before .before .before .before .before .before .before .m .given .1) ∙ c .before .before .before .before .before .before .before .before .before .before .before .fetch-input .ensures) (c .before .before .before .before .before .if1 .left) blockAudit _ _ (c .before .before .block-audit2 .ensures))
+returns-3 c = puts-written _ _ _ _
+    (audit-short (c .before .before .before .before .before .before .before .before .before .before .before .before
+    .before .before .args .input .now))
+    (shown-second (c .before .before .before .before .before .before .before .before .before .before .before .before
+    .before .before .args .input .now) _ _
+    (sym (c .before .before .before .before .before .before .before .before .before .m .given .1)
+    ∙ c .before .before .before .before .before .before .before .before .before .before .before .fetch-input .ensures)
+    (c .before .before .before .before .before .if1 .left) blockAudit _ _ (c .before .before .block-audit2 .ensures))
 
 pub lfs-dir-audit-spec : {M : Type 1} → statement M
 lfs-dir-audit-spec =
     tie.close
-    (tie.spec (λ c κs. search needs) (λ c. search needs) (λ c κs. search needs) (λ c. search needs) (λ c. search needs) (λ c. search needs) (λ c. search needs) block-audit-requires (λ c. search needs) (λ c. search needs) (λ c. search needs) block-audit-requires-2 (λ c. search needs) returns (λ c. search needs) returns-2 (λ c. search needs) returns-3)
+    (tie.spec (λ c κs. search needs) (λ c. search needs) (λ c κs. search needs) (λ c. search needs) (λ c. search needs)
+    (λ c. search needs) (λ c. search needs) block-audit-requires (λ c. search needs) (λ c. search needs)
+    (λ c. search needs) block-audit-requires-2 (λ c. search needs) returns (λ c. search needs) returns-2
+    (λ c. search needs) returns-3)

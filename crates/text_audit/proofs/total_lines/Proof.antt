@@ -5,9 +5,12 @@ use Rattle.text_audit.proofs.total_lines.Statement.{statement}
 use Rattle.text_audit.proofs.total_lines.Tie as tie
 
 returns : tie.Need-returns
-returns c = totals-done _ _ _ _ _ _ _ (c .before .before .before .before .before .before .before .before .before .before .before .before .number-line .ensures) (c .before .before .before .before .before .before .before .number-line2 .ensures) (c .before .before .number-line3 .ensures)
+returns c = totals-done _ _ _ _ _ _ _ (c .before .before .before .before .before .before .before .before .before .before
+    .before .before .number-line .ensures) (c .before .before .before .before .before .before .before .number-line2
+    .ensures) (c .before .before .number-line3 .ensures)
 
 pub total-lines-spec : {M : Type 1} → statement M
 total-lines-spec =
     tie.close
-    (tie.spec (λ c. search needs) (λ c κs. search needs) (λ c. search needs) (λ c κs. search needs) (λ c. search needs) (λ c κs. search needs) (λ c. search needs) returns)
+    (tie.spec (λ c. search needs) (λ c κs. search needs) (λ c. search needs) (λ c κs. search needs) (λ c. search needs)
+    (λ c κs. search needs) (λ c. search needs) returns)

@@ -1,4 +1,5 @@
--- `listing::attr_lines` meets its contract. The loop keeps where all classes end, from here; the classes that are left fall. Assumes nothing.
+-- `listing::attr_lines` meets its contract. The loop keeps where all classes end, from here; the classes that are left
+-- fall. Assumes nothing.
 use mathlib.Core.Path.{_≡_, refl}
 use Prim.Native.Nat.{_-_, _^_, _≤_}
 use native.Mathlib.Omega.{arith}
@@ -15,7 +16,8 @@ use Rattle.text_listing.proofs.attr_lines.Tie as tie
 abbrev Inv-loop : tie.InvT-loop
 Inv-loop out₀ at b id seats n₀ class₀ out n class =
     (class ≤ classes) × (length out ≡ length out₀)
-    × (putsOf (text at out₀) (attrLines (2 ^ 8) 2 id (slotIn b seats)) ≡ putsOf (text n out) (attrLines (classes - class) class id (slotIn b seats)))
+    × (putsOf (text at out₀) (attrLines (2 ^ 8) 2 id (slotIn b seats)) ≡ putsOf (text n out)
+    (attrLines (classes - class) class id (slotIn b seats)))
 
 abbrev μ-loop : tie.MeasureT-loop
 μ-loop out₀ at b id seats n₀ class₀ out n class = classes - class
@@ -24,10 +26,16 @@ loop-holds : tie.Need-loop-holds Inv-loop μ-loop
 loop-holds c = (omega arith, refl, refl)
 
 attr-line-requires : tie.Need-attr-line-requires Inv-loop μ-loop
-attr-line-requires c κs = c .before .before .before .before .before .before .pre (c .before .before .before .loop .class) (c .before .before .loop-test .taken)
+attr-line-requires c κs = c .before .before .before .before .before .before .pre
+    (c .before .before .before .loop .class) (c .before .before .loop-test .taken)
 
 loop-again : tie.Need-loop-again Inv-loop μ-loop
-loop-again c = (omega arith, search needs, attrs-more _ _ _ _ _ _ (c .before .before .before .before .before .loop-test .taken) (c .before .before .before .before .before .before .loop .inv .2) (c .before .before .attr-line .ensures))
+loop-again c = (
+  omega arith,
+  search needs,
+  attrs-more _ _ _ _ _ _ (c .before .before .before .before .before .loop-test
+      .taken) (c .before .before .before .before .before .before .loop .inv .2) (c .before .before .attr-line .ensures),
+)
 
 same-length : tie.Need-same-length Inv-loop μ-loop
 same-length c = c .before .loop .inv .1
@@ -38,4 +46,5 @@ returns c = attrs-done _ _ _ _ _ (c .loop-test .left) (c .before .loop .inv .2)
 pub attr-lines-spec : {M : Type 1} → statement M
 attr-lines-spec =
     tie.close
-    (tie.spec Inv-loop μ-loop loop-holds (λ c. search needs) (λ c. search needs) attr-line-requires (λ c. omega arith) (λ c. omega arith) loop-again same-length returns)
+    (tie.spec Inv-loop μ-loop loop-holds (λ c. search needs) (λ c. search needs) attr-line-requires (λ c. omega arith)
+    (λ c. omega arith) loop-again same-length returns)

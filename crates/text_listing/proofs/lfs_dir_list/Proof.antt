@@ -1,4 +1,5 @@
--- `listing::lfs_dir_list` meets its contract: the text is put from the start, and is shorter than 2^32. Assumes nothing.
+-- `listing::lfs_dir_list` meets its contract: the text is put from the start, and is shorter than 2^32. Assumes
+-- nothing.
 use mathlib.Core.Path.{sym, _∙_}
 use borrow.Author.Needs.{needs}
 use Rattle.format.specs.Listing.{blockText}
@@ -9,21 +10,51 @@ use Rattle.text_listing.proofs.lfs_dir_list.Statement.{statement}
 use Rattle.text_listing.proofs.lfs_dir_list.Tie as tie
 
 block-text-requires : tie.Need-block-text-requires
-block-text-requires c κs = first-listable (c .before .before .before .before .before .before .before .before .before .before .before .args .input .now) _ _ (sym (c .before .before .before .before .before .before .m .given .1) ∙ c .before .before .before .before .before .before .before .before .fetch-input .ensures) (c .before .before .if1 .taken)
+block-text-requires c κs =
+    first-listable (c .before .before .before .before .before .before .before .before .before .before .before .args
+    .input .now) _ _ (sym (c .before .before .before .before .before .before .m .given .1)
+    ∙ c .before .before .before .before .before .before .before .before .fetch-input .ensures)
+    (c .before .before .if1 .taken)
 
 block-text-requires-2 : tie.Need-block-text-requires-2
-block-text-requires-2 c κs = second-listable (c .before .before .before .before .before .before .before .before .before .before .before .args .input .now) _ _ (sym (c .before .before .before .before .before .before .m .given .1) ∙ c .before .before .before .before .before .before .before .before .fetch-input .ensures) (c .before .before .if1 .left)
+block-text-requires-2 c κs =
+    second-listable (c .before .before .before .before .before .before .before .before .before .before .before .args
+    .input .now) _ _ (sym (c .before .before .before .before .before .before .m .given .1)
+    ∙ c .before .before .before .before .before .before .before .before .fetch-input .ensures)
+    (c .before .before .if1 .left)
 
 returns : tie.Need-returns
-returns c = puts-written _ _ _ _ (listing-short (c .before .before .before .before .before .before .before .before .before .before .args .input .now)) (shown-refused (c .before .before .before .before .before .before .before .before .before .before .args .input .now) blockText _ _ _ (sym (c .before .before .before .before .before .r .given .1) ∙ c .before .before .before .before .before .before .before .fetch-input .ensures) (c .before .before .refused .ensures))
+returns c = puts-written _ _ _ _
+    (listing-short (c .before .before .before .before .before .before .before .before .before .before .args .input
+    .now)) (shown-refused (c .before .before .before .before .before .before .before .before .before .before .args
+    .input .now) blockText _ _ _ (sym (c .before .before .before .before .before .r .given .1)
+    ∙ c .before .before .before .before .before .before .before .fetch-input .ensures)
+    (c .before .before .refused .ensures))
 
 returns-2 : tie.Need-returns-2
-returns-2 c = puts-written _ _ _ _ (listing-short (c .before .before .before .before .before .before .before .before .before .before .before .before .before .before .args .input .now)) (shown-first (c .before .before .before .before .before .before .before .before .before .before .before .before .before .before .args .input .now) _ _ (sym (c .before .before .before .before .before .before .before .before .before .m .given .1) ∙ c .before .before .before .before .before .before .before .before .before .before .before .fetch-input .ensures) (c .before .before .before .before .before .if1 .taken) blockText _ _ (c .before .before .block-text .ensures))
+returns-2 c = puts-written _ _ _ _
+    (listing-short (c .before .before .before .before .before .before .before .before .before .before .before .before
+    .before .before .args .input .now))
+    (shown-first (c .before .before .before .before .before .before .before .before .before .before .before .before
+    .before .before .args .input .now) _ _
+    (sym (c .before .before .before .before .before .before .before .before .before .m .given .1)
+    ∙ c .before .before .before .before .before .before .before .before .before .before .before .fetch-input .ensures)
+    (c .before .before .before .before .before .if1 .taken) blockText _ _ (c .before .before .block-text .ensures))
 
 returns-3 : tie.Need-returns-3
-returns-3 c = puts-written _ _ _ _ (listing-short (c .before .before .before .before .before .before .before .before .before .before .before .before .before .before .args .input .now)) (shown-second (c .before .before .before .before .before .before .before .before .before .before .before .before .before .before .args .input .now) _ _ (sym (c .before .before .before .before .before .before .before .before .before .m .given .1) ∙ c .before .before .before .before .before .before .before .before .before .before .before .fetch-input .ensures) (c .before .before .before .before .before .if1 .left) blockText _ _ (c .before .before .block-text2 .ensures))
+returns-3 c = puts-written _ _ _ _
+    (listing-short (c .before .before .before .before .before .before .before .before .before .before .before .before
+    .before .before .args .input .now))
+    (shown-second (c .before .before .before .before .before .before .before .before .before .before .before .before
+    .before .before .args .input .now) _ _
+    (sym (c .before .before .before .before .before .before .before .before .before .m .given .1)
+    ∙ c .before .before .before .before .before .before .before .before .before .before .before .fetch-input .ensures)
+    (c .before .before .before .before .before .if1 .left) blockText _ _ (c .before .before .block-text2 .ensures))
 
 pub lfs-dir-list-spec : {M : Type 1} → statement M
 lfs-dir-list-spec =
     tie.close
-    (tie.spec (λ c κs. search needs) (λ c. search needs) (λ c κs. search needs) (λ c. search needs) (λ c. search needs) (λ c. search needs) (λ c. search needs) block-text-requires (λ c. search needs) (λ c. search needs) (λ c. search needs) block-text-requires-2 (λ c. search needs) returns (λ c. search needs) returns-2 (λ c. search needs) returns-3)
+    (tie.spec (λ c κs. search needs) (λ c. search needs) (λ c κs. search needs) (λ c. search needs) (λ c. search needs)
+    (λ c. search needs) (λ c. search needs) block-text-requires (λ c. search needs) (λ c. search needs)
+    (λ c. search needs) block-text-requires-2 (λ c. search needs) returns (λ c. search needs) returns-2
+    (λ c. search needs) returns-3)

@@ -11,7 +11,9 @@ returns-2 : tie.Need-returns-2
 returns-2 c = stands-removed _ _ (c .before .lfs-tag-isdelete .ensures) (c .if2 .taken)
 
 returns-3 : tie.Need-returns-3
-returns-3 c = stands-made (c .before .before .before .before .before .args .seat) _ (c .before .before .before .lfs-tag-isdelete .ensures) (c .before .before .before .before .if1 .left) (c .before .before .if2 .left) _ _ (c .before .lfs-tag-type3 .ensures) (c .lfs-tag-size .ensures)
+returns-3 c = stands-made (c .before .before .before .before .before .args .seat) _
+    (c .before .before .before .lfs-tag-isdelete .ensures) (c .before .before .before .before .if1 .left)
+    (c .before .before .if2 .left) _ _ (c .before .lfs-tag-type3 .ensures) (c .lfs-tag-size .ensures)
 
 pub part-spec : {M : Type 1} → statement M
 part-spec =

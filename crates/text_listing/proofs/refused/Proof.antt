@@ -5,7 +5,8 @@ use Rattle.text_listing.proofs.refused.Statement.{statement}
 use Rattle.text_listing.proofs.refused.Tie as tie
 
 returns : tie.Need-returns
-returns c = refused-done _ _ _ _ (c .before .before .before .before .before .number-of .ensures) (c .before .before .number-line .ensures)
+returns c = refused-done _ _ _ _ (c .before .before .before .before .before .number-of .ensures)
+    (c .before .before .number-line .ensures)
 
 pub refused-spec : {M : Type 1} → statement M
 refused-spec =

@@ -6,15 +6,23 @@ use Rattle.text_listing.proofs.slot_text.Statement.{statement}
 use Rattle.text_listing.proofs.slot_text.Tie as tie
 
 name-fields-requires : tie.Need-name-fields-requires
-name-fields-requires c κs = c .before .before .before .before .before .before .before .before .before .before .before .before .before .pre 0 (omega arith)
+name-fields-requires c κs = c .before .before .before .before .before .before .before .before .before .before .before
+    .before .before .pre 0 (omega arith)
 
 struct-fields-requires : tie.Need-struct-fields-requires
-struct-fields-requires c κs = c .before .before .before .before .before .before .before .before .before .before .before .before .before .before .before .before .before .before .pre 1 (omega arith)
+struct-fields-requires c κs = c .before .before .before .before .before .before .before .before .before .before .before
+    .before .before .before .before .before .before .before .pre 1 (omega arith)
 
 returns : tie.Need-returns
-returns c = slot-done _ _ _ _ _ _ _ _ (c .before .before .before .before .before .before .before .before .before .before .before .before .before .before .before .before .before .before .before .before .puts .ensures) (c .before .before .before .before .before .before .before .before .before .before .before .before .before .before .before .before .decimal .ensures) (c .before .before .before .before .before .before .before .before .before .before .before .name-fields .ensures) (c .before .before .before .before .before .before .struct-fields .ensures) (c .before .before .attr-lines .ensures)
+returns c = slot-done _ _ _ _ _ _ _ _ (c .before .before .before .before .before .before .before .before .before .before
+    .before .before .before .before .before .before .before .before .before .before .puts .ensures)
+    (c .before .before .before .before .before .before .before .before .before .before .before .before .before .before
+    .before .before .decimal .ensures) (c .before .before .before .before .before .before .before .before .before
+    .before .before .name-fields .ensures) (c .before .before .before .before .before .before .struct-fields .ensures)
+    (c .before .before .attr-lines .ensures)
 
 pub slot-text-spec : {M : Type 1} → statement M
 slot-text-spec =
     tie.close
-    (tie.spec (λ c. search needs) (λ c κs. search needs) (λ c κs. search needs) (λ c. search needs) name-fields-requires (λ c. search needs) struct-fields-requires (λ c κs. search needs) (λ c. search needs) returns)
+    (tie.spec (λ c. search needs) (λ c κs. search needs) (λ c κs. search needs) (λ c. search needs) name-fields-requires
+    (λ c. search needs) struct-fields-requires (λ c κs. search needs) (λ c. search needs) returns)

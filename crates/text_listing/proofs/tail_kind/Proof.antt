@@ -13,4 +13,5 @@ returns-2 c = kind-soft _ _ _ (c .before .before .before .before .before .if1 .l
 pub tail-kind-spec : {M : Type 1} → statement M
 tail-kind-spec =
     tie.close
-    (tie.spec (λ c. search needs) (λ c κs. search needs) (λ c. search needs) returns (λ c. search needs) (λ c κs. search needs) (λ c. search needs) returns-2)
+    (tie.spec (λ c. search needs) (λ c κs. search needs) (λ c. search needs) returns (λ c. search needs)
+    (λ c κs. search needs) (λ c. search needs) returns-2)

@@ -27,13 +27,15 @@ Eights (ent t d ∷ es) = (isWide t ≡ true → tagLength t ≡ 12) × Eights e
 Eights (chk t c ∷ es) = Eights es
 Eights (inv ∷ es) = Eights es
 
-pub seen-places : (es : List Event) (b : List ℕ) (off : ℕ) → Told b off es → Eights es → map (seen b) (places off es) ≡ acts es
+pub seen-places : (es : List Event) (b : List ℕ) (off : ℕ) → Told b off es → Eights es
+    → map (seen b) (places off es) ≡ acts es
 unfolding seen places acts
 seen-places [] b off h w = refl
 seen-places (ent t d ∷ es) b off h w =
     ap₂ (λ x y. act t x ∷ y) (sym (h .0 (w .0))) (seen-places es b (off + tagLength t) (h .1) (w .1))
 seen-places (chk t c ∷ es) b off h w =
-    ap₂ (λ x y. x ∷ y) (act-check t (take (tagLength t - 4) (drop 4 (drop off b))) (h .0)) (seen-places es b (off + tagLength t) (h .1) w)
+    ap₂ (λ x y. x ∷ y) (act-check t (take (tagLength t - 4) (drop 4 (drop off b))) (h .0))
+    (seen-places es b (off + tagLength t) (h .1) w)
 seen-places (inv ∷ es) b off h w = absurd h
 
 pub map-reverseAux : {A B : Type 0} (f : A → B) (l r : List A) → map f (reverseAux l r) ≡ reverseAux (map f l) (map f r)
@@ -43,8 +45,13 @@ map-reverseAux f (x ∷ l) r = map-reverseAux f l (x ∷ r)
 -- the walk may start with the end tag's bit 31 set
 pub back-without-top : (b : List ℕ) (off t : ℕ) → map (seen b) (back b off t) ≡ map (seen b) (back b off (t % 2 ^ 31))
 unfolding seen
-back-without-top b off t = rw (back-step b off t, back-step b off (t % 2 ^ 31), low-length t) (go (leb (4 + tagLength t) off))
+back-without-top b off t = rw (back-step b off t, back-step b off (t % 2 ^ 31), low-length t)
+    (go (leb (4 + tagLength t) off))
   where
     go : (c : Bool) → map (seen b) (hop (back b) c b off t) ≡ map (seen b) (hop (back b) c b off (t % 2 ^ 31))
-    go true = rw (low-length t, ← xor-low (be32 (drop (off - tagLength t) b)) t, act-without-top t (take (tagLength t - 4) (drop 4 (drop (off - tagLength t) b))))
+    go true = rw (
+      low-length t,
+      ← xor-low (be32 (drop (off - tagLength t) b)) t,
+      act-without-top t (take (tagLength t - 4) (drop 4 (drop (off - tagLength t) b))),
+    )
     go false = refl

@@ -1,5 +1,6 @@
--- What a block's events say of its bytes: each tag stands where the one before it ends, chained to it, and an entry's bytes behind it.
--- And what a committed log is made of: valid tags, checks, entries with all their bytes, and no invalid tag. Assumes nothing.
+-- What a block's events say of its bytes: each tag stands where the one before it ends, chained to it, and an entry's
+-- bytes behind it. And what a committed log is made of: valid tags, checks, entries with all their bytes, and no
+-- invalid tag. Assumes nothing.
 use mathlib.Core.Path.{_≡_, refl, sym}
 use mathlib.Core.Bool.{Bool, true, false, cond}
 use mathlib.Core.List.{List, [], _∷_, _++_}
@@ -28,22 +29,32 @@ body-is t w = go (isWide t) w
 -- what each event says, with the bytes
 abbrev pub Told : List ℕ → ℕ → List Event → Type 0
 Told b off [] = Unit {0}
-Told b off (ent t d ∷ es) = ((isWide t ≡ true → tagLength t ≡ 12) → d ≡ take (tagLength t - 4) (drop 4 (drop off b))) × Told b (off + tagLength t) es
+Told b off (ent t d ∷ es) = ((isWide t ≡ true → tagLength t ≡ 12) → d ≡ take (tagLength t - 4) (drop 4 (drop off b)))
+    × Told b (off + tagLength t) es
 Told b off (chk t c ∷ es) = (isCheck t ≡ true) × Told b (off + tagLength t) es
 Told b off (inv ∷ es) = ⊥
 
-pub chains : (es more : List Event) (sum p : ℕ) (b : List ℕ) (off : ℕ) → walkFrom sum p (drop off b) ≡ es ++ more → AllContained es
+pub chains : (es more : List Event) (sum p : ℕ) (b : List ℕ) (off : ℕ) → walkFrom sum p (drop off b) ≡ es ++ more
+    → AllContained es
     → Chain b off p es × (span es ≤ length (drop off b)) × Told b off es
 unfolding span eventLength
 chains [] more sum p b off e reg = (tt, omega arith, tt)
 chains (ent t d ∷ es) more sum p b off e reg =
     let m = meets-entry sum p (drop off b) t d (es ++ more) e in
-    let r = chains es more (crc sum (take (tagLength t) (drop off b))) t b (off + tagLength t) (rw (← drop-drop (tagLength t) off b) (sym (m .next))) (reg .1) in
-    (((m .raw, m .whole .small), r .0), omega (arith, r .1, m .whole .fits, length-drop off b, length-drop (off + tagLength t) b), (λ w. rw (body-is t w) (m .bytes), r .2))
+    let r = chains es more (crc sum (take (tagLength t) (drop off b))) t b (off + tagLength t)
+    (rw (← drop-drop (tagLength t) off b) (sym (m .next))) (reg .1) in (
+      ((m .raw, m .whole .small), r .0),
+      omega (arith, r .1, m .whole .fits, length-drop off b, length-drop (off + tagLength t) b),
+      (λ w. rw (body-is t w) (m .bytes), r .2),
+    )
 chains (chk t c ∷ es) more sum p b off e reg =
     let m = meets-check sum p (drop off b) t c (es ++ more) e in
-    let r = chains es more allOnes (tagFlipped t) b (off + tagLength t) (rw (← drop-drop (tagLength t) off b) (sym (m .next))) (reg .1) in
-    (((m .raw, m .whole .small), r .0), omega (arith, r .1, m .whole .fits, length-drop off b, length-drop (off + tagLength t) b), (m .is, r .2))
+    let r = chains es more allOnes (tagFlipped t) b (off + tagLength t)
+    (rw (← drop-drop (tagLength t) off b) (sym (m .next))) (reg .1) in (
+      ((m .raw, m .whole .small), r .0),
+      omega (arith, r .1, m .whole .fits, length-drop off b, length-drop (off + tagLength t) b),
+      (m .is, r .2),
+    )
 chains (inv ∷ es) more sum p b off e reg = absurd (reg .0)
 
 -- ---- the events of a committed log
@@ -58,7 +69,8 @@ unfolding committed
 committed-stands [] sum p rest e = tt
 committed-stands (ent t d ∷ es) sum p rest e =
     let m = meets-entry sum p rest t d es e in
-    go (committed es) (m .whole .small) (entry-length m) (committed-stands es (crc sum (take (tagLength t) rest)) t (drop (tagLength t) rest) (sym (m .next)))
+    go (committed es) (m .whole .small) (entry-length m)
+    (committed-stands es (crc sum (take (tagLength t) rest)) t (drop (tagLength t) rest) (sym (m .next)))
   where
     go : (l : List Event) → t < 2 ^ 31 → length d ≡ bodyLength t → Stands l → Stands (keptBefore (ent t d) l)
     go [] s n h = tt
@@ -70,4 +82,5 @@ committed-stands (inv ∷ es) sum p rest e = rw (meets-invalid sum p rest es e) 
 
 pub log-stands : (b : List ℕ) → Stands (log b)
 unfolding log walk
-log-stands b = committed-stands (walkFrom (crc allOnes (take 4 b)) allOnes (drop 4 b)) (crc allOnes (take 4 b)) allOnes (drop 4 b) refl
+log-stands b = committed-stands (walkFrom (crc allOnes (take 4 b)) allOnes (drop 4 b)) (crc allOnes (take 4 b)) allOnes
+    (drop 4 b) refl

@@ -29,20 +29,29 @@ back-one : (b : List ℕ) (off p t : ℕ) (R : List Met) → Link b off p t → 
     → back b (off + tagLength t) t ≡ record { tag = t; off = off } ∷ R
 back-one b off p t R h four r =
     let e : off + tagLength t - tagLength t ≡ off = omega arith in
-    rw (back-step b (off + tagLength t) t, le-leb (4 + tagLength t) (off + tagLength t) (omega arith), e, xor-back (be32 (drop off b)) p t (h .0), r)
+    rw (
+      back-step b (off + tagLength t) t,
+      le-leb (4 + tagLength t) (off + tagLength t) (omega arith),
+      e,
+      xor-back (be32 (drop off b)) p t (h .0),
+      r,
+    )
 
 -- all of a log
-pub back-all : (es : List Event) (b : List ℕ) (off p : ℕ) (R : List Met) → Chain b off p es → 4 ≤ off → back b off (p % 2 ^ 31) ≡ R
+pub back-all : (es : List Event) (b : List ℕ) (off p : ℕ) (R : List Met) → Chain b off p es → 4 ≤ off
+    → back b off (p % 2 ^ 31) ≡ R
     → back b (off + span es) (tagAfter p es % 2 ^ 31) ≡ reverseAux (places off es) R
 unfolding span eventLength tagAfter places
 back-all [] b off p R ch four r = rw (add-zero off) r
 back-all (ent t d ∷ es) b off p R ch four r =
     let e : back b (off + tagLength t) t ≡ record { tag = t; off = off } ∷ R = back-one b off p t R (ch .0) four r in
     let m : t % 2 ^ 31 ≡ t = omega (arith, ch .0 .1) in
-    rw (← add-assoc off (tagLength t) (span es)) (back-all es b (off + tagLength t) t (record { tag = t; off = off } ∷ R) (ch .1) (omega arith) (rw m e))
+    rw (← add-assoc off (tagLength t) (span es)) (back-all es b (off + tagLength t) t
+    (record { tag = t; off = off } ∷ R) (ch .1) (omega arith) (rw m e))
 back-all (chk t c ∷ es) b off p R ch four r =
     let e : back b (off + tagLength t) t ≡ record { tag = t; off = off } ∷ R = back-one b off p t R (ch .0) four r in
-    rw (← add-assoc off (tagLength t) (span es)) (back-all es b (off + tagLength t) (tagFlipped t) (record { tag = t; off = off } ∷ R) (ch .1) (omega arith) (rw (flipped-low t (ch .0 .1)) e))
+    rw (← add-assoc off (tagLength t) (span es)) (back-all es b (off + tagLength t) (tagFlipped t)
+    (record { tag = t; off = off } ∷ R) (ch .1) (omega arith) (rw (flipped-low t (ch .0 .1)) e))
 back-all (inv ∷ es) b off p R ch four r = absurd ch
 
 -- at a block's start nothing stands before
@@ -50,5 +59,6 @@ back-start : (b : List ℕ) → back b 4 (allOnes % 2 ^ 31) ≡ []
 unfolding back backs tagLength
 back-start b = refl
 
-pub back-log : (es : List Event) (b : List ℕ) → Chain b 4 allOnes es → back b (logEnd es) (logEndTag es % 2 ^ 31) ≡ reverse (places 4 es)
+pub back-log : (es : List Event) (b : List ℕ) → Chain b 4 allOnes es
+    → back b (logEnd es) (logEndTag es % 2 ^ 31) ≡ reverse (places 4 es)
 back-log es b ch = back-all es b 4 allOnes [] ch (omega arith) (back-start b)

@@ -20,7 +20,8 @@ use Rattle.theory.specs.Directory.Types.{not-check, not-wide, act-name, 
 use Rattle.theory.specs.Blocks.Append.{itemActs}
 
 -- ---- an item of any type that fits its fields
-pub good-item : (T j : ℕ) (d : List ℕ) → T < 2 ^ 11 → j < 2 ^ 10 → length d < removalSize → (T < typeCheck) ⊎ (typeCheck + 2 ^ 7 ≤ T)
+pub good-item : (T j : ℕ) (d : List ℕ) → T < 2 ^ 11 → j < 2 ^ 10 → length d < removalSize
+    → (T < typeCheck) ⊎ (typeCheck + 2 ^ 7 ≤ T)
     → (isWide (tagOf T j (length d)) ≡ true → length d ≡ 8) → GoodItem (record { tag = tagOf T j (length d); body = d })
 good-item T j d a b l side wide =
     record {
@@ -31,11 +32,14 @@ good-item T j d a b l side wide =
     }
 
 -- of a type below 0x500: not one of those that are read by eight bytes
-pub good-low : (T j : ℕ) (d : List ℕ) → T < typeCheck → j < 2 ^ 10 → length d < removalSize → GoodItem (record { tag = tagOf T j (length d); body = d })
-good-low T j d a b l = good-item T j d (omega arith) b l (inl a) (λ w. absurd (not-true (isWide (tagOf T j (length d))) narrow w))
+pub good-low : (T j : ℕ) (d : List ℕ) → T < typeCheck → j < 2 ^ 10 → length d < removalSize
+    → GoodItem (record { tag = tagOf T j (length d); body = d })
+good-low T j d a b l = good-item T j d (omega arith) b l (inl a)
+    (λ w. absurd (not-true (isWide (tagOf T j (length d))) narrow w))
   where
     narrow : isWide (tagOf T j (length d)) ≡ false
-    narrow = not-wide (tagOf T j (length d)) (inl (rw (of-type3 T j (length d) (omega arith) b (omega arith)) (omega arith)))
+    narrow = not-wide (tagOf T j (length d))
+        (inl (rw (of-type3 T j (length d) (omega arith) b (omega arith)) (omega arith)))
 
 -- ---- acts and their items
 unfoldable pub toItem : Act → Item
@@ -51,9 +55,11 @@ TypeOf zero T = T < 2 ^ 8
 TypeOf (suc zero) T = (typeDirStruct ≤ T) × (T < typeDirStruct + 2 ^ 8)
 TypeOf (suc (suc u)) T = (T ≡ typeUserAttr + u) × (u < 2 ^ 8)
 
--- what a slot may hold under class c: a type of the class, fewer bytes than a removal's size, and the rule of the type passed
+-- what a slot may hold under class c: a type of the class, fewer bytes than a removal's size, and the rule of the type
+-- passed
 abbrev pub LoadOk : ℕ → Load → Type 0
-LoadOk c v = TypeOf c (v .type) × (length (v .bytes) < removalSize) × (ruleHolds (ruleOf true (v .type)) 1 0 (length (v .bytes)) ≡ true)
+LoadOk c v = TypeOf c (v .type) × (length (v .bytes) < removalSize)
+    × (ruleHolds (ruleOf true (v .type)) 1 0 (length (v .bytes)) ≡ true)
 
 -- acts that compaction writes
 abbrev pub OkAct : Act → Type 0
@@ -63,15 +69,18 @@ OkAct (put j c (some v)) = (j < 2 ^ 10) × LoadOk c v
 OkAct (put j c none) = ⊥
 OkAct skip = ⊥
 
-pub some-load : (T j s : ℕ) (d : List ℕ) → T < 2 ^ 11 → j < 2 ^ 10 → s < removalSize → loadOf (tagOf T j s) d ≡ some (record { type = T; bytes = d })
-some-load T j s d a b c = rw (of-size T j s (omega arith), ne-eqb s removalSize (λ q. omega arith), of-type3 T j s a b (omega arith))
+pub some-load : (T j s : ℕ) (d : List ℕ) → T < 2 ^ 11 → j < 2 ^ 10 → s < removalSize
+    → loadOf (tagOf T j s) d ≡ some (record { type = T; bytes = d })
+some-load T j s d a b c =
+    rw (of-size T j s (omega arith), ne-eqb s removalSize (λ q. omega arith), of-type3 T j s a b (omega arith))
 
 pub type-low : (c T : ℕ) → TypeOf c T → T < 2 ^ 10
 type-low zero T k = omega arith
 type-low (suc zero) T k = omega (arith, k .1)
 type-low (suc (suc u)) T k = omega (arith, k .0, k .1)
 
-act-put : (c T j : ℕ) (d : List ℕ) → TypeOf c T → j < 2 ^ 10 → length d < removalSize → act (tagOf T j (length d)) d ≡ put j c (some (record { type = T; bytes = d }))
+act-put : (c T j : ℕ) (d : List ℕ) → TypeOf c T → j < 2 ^ 10 → length d < removalSize
+    → act (tagOf T j (length d)) d ≡ put j c (some (record { type = T; bytes = d }))
 act-put c T j d k b l = by c k ∙ rw (of-id T j (length d) b (omega arith), some-load T j (length d) d low b l)
   where
     low : T < 2 ^ 11
@@ -80,18 +89,21 @@ act-put c T j d k b l = by c k ∙ rw (of-id T j (length d) b (omega arith), som
     is : tagType3 (tagOf T j (length d)) ≡ T
     is = of-type3 T j (length d) low b (omega arith)
 
-    by : (c : ℕ) → TypeOf c T → act (tagOf T j (length d)) d ≡ put (tagId (tagOf T j (length d))) c (loadOf (tagOf T j (length d)) d)
+    by : (c : ℕ) → TypeOf c T → act (tagOf T j (length d)) d ≡ put (tagId (tagOf T j (length d))) c
+        (loadOf (tagOf T j (length d)) d)
     by zero k = act-name (tagOf T j (length d)) d (rw is k)
     by (suc zero) k = act-struct (tagOf T j (length d)) d (rw is (k .0)) (rw is (k .1))
     by (suc (suc u)) k =
-        let e : 2 + tagChunk (tagOf T j (length d)) ≡ suc (suc u) = omega (arith, of-chunk T j (length d) b (omega arith), k .0, k .1) in
+        let e : 2 + tagChunk (tagOf T j (length d)) ≡ suc (suc u) =
+        omega (arith, of-chunk T j (length d) b (omega arith), k .0, k .1) in
         act-attr (tagOf T j (length d)) d (rw is (omega (arith, k .0))) (rw is (omega (arith, k .0, k .1)))
         ∙ ap (λ (n : ℕ). put (tagId (tagOf T j (length d))) n (loadOf (tagOf T j (length d)) d)) e
 
 pub act-toItem : (a : Act) → OkAct a → act (toItem a .tag) (toItem a .body) ≡ a
 unfolding toItem
 act-toItem (mk j) h =
-    act-create (tagOf typeCreate j 0) [] (of-type3 typeCreate j 0 (omega arith) h (omega arith)) ∙ ap mk (of-id typeCreate j 0 h (omega arith))
+    act-create (tagOf typeCreate j 0) [] (of-type3 typeCreate j 0 (omega arith) h (omega arith))
+    ∙ ap mk (of-id typeCreate j 0 h (omega arith))
 act-toItem (rm j) h = absurd h
 act-toItem (put j c (some v)) h = act-put c (v .type) j (v .bytes) (h .1 .0) (h .0) (h .1 .1)
 act-toItem (put j c none) h = absurd h
@@ -101,7 +113,8 @@ pub good-toItem : (a : Act) → OkAct a → GoodItem (toItem a)
 unfolding toItem
 good-toItem (mk j) h = good-low typeCreate j [] (omega arith) h (omega arith)
 good-toItem (rm j) h = absurd h
-good-toItem (put j c (some v)) h = good-low (v .type) j (v .bytes) (omega (arith, type-low c (v .type) (h .1 .0))) (h .0) (h .1 .1)
+good-toItem (put j c (some v)) h = good-low (v .type) j (v .bytes) (omega (arith, type-low c (v .type) (h .1 .0)))
+    (h .0) (h .1 .1)
 good-toItem (put j c none) h = absurd h
 good-toItem skip h = absurd h
 

@@ -1,4 +1,5 @@
--- Demand 3 for an append, over blocks as they stand: stopped after any store, the finished block or the old view. Assumes nothing.
+-- Demand 3 for an append, over blocks as they stand: stopped after any store, the finished block or the old view.
+-- Assumes nothing.
 use mathlib.Core.Path.{_≡_, refl, sym, ap, _∙_}
 use mathlib.Core.Logic.{_≢_, _⊎_, inl}
 use mathlib.Core.Bool.{Bool}
@@ -26,7 +27,8 @@ use Rattle.theory.specs.Log.TwoBlocks.{viewAt, crash-append, done-append
 use Rattle.theory.specs.Directory.Acts.{dirOf-app}
 
 -- k bytes stored over erased ones
-pub fill-take : (k : ℕ) (N : List ℕ) (m n : ℕ) → k ≤ length N → n ≡ length N - k + m → fill k N ++ erased m ≡ take k N ++ erased n
+pub fill-take : (k : ℕ) (N : List ℕ) (m n : ℕ) → k ≤ length N → n ≡ length N - k + m
+    → fill k N ++ erased m ≡ take k N ++ erased n
 unfolding fill
 fill-take zero N m n h e = let q : length N + m ≡ n = omega arith in rw (erased-append (length N) m, q)
 fill-take (suc k) [] m n h e = absurd (omega arith)
@@ -44,14 +46,22 @@ drop-erased-is zero n j h e = let q : n ≡ j = omega arith in rw q
 drop-erased-is (suc k) zero j h e = absurd (omega arith)
 drop-erased-is (suc k) (suc n) j h e = drop-erased-is k n j (omega arith) (omega arith)
 
-pub length-commit : (is : List Item) (sum p ct : ℕ) → AllGood is → length (commitBytes sum p is ct) ≡ entriesLength is + 8
+pub length-commit : (is : List Item) (sum p ct : ℕ) → AllGood is
+    → length (commitBytes sum p is ct) ≡ entriesLength is + 8
 unfolding commitBytes entriesLength
-length-commit [] sum p ct g = rw (length-append (toBe32 (xor ct p)) (toLe32 (crc sum (toBe32 (xor ct p)))), length-toBe32 (xor ct p), length-toLe32 (crc sum (toBe32 (xor ct p)))) refl
+length-commit [] sum p ct g =
+    rw (
+      length-append (toBe32 (xor ct p)) (toLe32 (crc sum (toBe32 (xor ct p)))),
+      length-toBe32 (xor ct p),
+      length-toLe32 (crc sum (toBe32 (xor ct p))),
+    ) refl
 length-commit (i ∷ is) sum p ct g =
     let w : ℕ = xor (i .tag) p in
     let N : List ℕ = commitBytes (crc sum (toBe32 (xor (i .tag) p) ++ i .body)) (i .tag) is ct in
-    let ih : length N ≡ entriesLength is + 8 = length-commit is (crc sum (toBe32 (xor (i .tag) p) ++ i .body)) (i .tag) ct (g .1) in
-    rw (length-append (toBe32 w) (i .body ++ N), length-append (i .body) N, length-toBe32 w, ih) (omega (arith, g .0 .long))
+    let ih : length N ≡ entriesLength is + 8 = length-commit is (crc sum (toBe32 (xor (i .tag) p) ++ i .body)) (i .tag)
+    ct (g .1) in
+    rw (length-append (toBe32 w) (i .body ++ N), length-append (i .body) N, length-toBe32 w, ih)
+    (omega (arith, g .0 .long))
 
 -- a commit of `is` with check tag ct is accepted on the block b whose log is es
 pub record AppendOk (b : List ℕ) (es : List Event) (is : List Item) (ct : ℕ) : Type 0 where
@@ -74,12 +84,20 @@ appends b es is ct a =
       nonempty = a .nonempty;
       reg = a .reg;
       end = length-take-le (logEnd es) b (omega (arith, a .fits));
-      fits = record { items = a .items; check = a .check; plain = a .plain; room = omega (arith, a .fits, a .check .long); start = inl (a .top); lucky = a .lucky };
+      fits = record {
+        items = a .items;
+        check = a .check;
+        plain = a .plain;
+        room = omega (arith, a .fits, a .check .long);
+        start = inl (a .top);
+        lucky = a .lucky;
+      };
       all = omega (arith, a .fits, a .check .long, length-commit is allOnes (logEndTag es) ct (a .items));
     }
 
 as-room : (b : List ℕ) (es : List Event) (is : List Item) (ct k : ℕ) → AppendOk b es is ct → k ≤ entriesLength is + 8
-    → appending b es is ct k ≡ take (logEnd es) b ++ room allOnes (logEndTag es) is ct (length b - (logEnd es) - (entriesLength is + 8)) k
+    → appending b es is ct k ≡ take (logEnd es) b ++ room allOnes (logEndTag es) is ct
+    (length b - (logEnd es) - (entriesLength is + 8)) k
 unfolding appending room
 as-room b es is ct k a h =
     let e : ℕ = logEnd es in
@@ -87,18 +105,22 @@ as-room b es is ct k a h =
     let M : ℕ = length b - (logEnd es) in
     let l : length N ≡ entriesLength is + 8 = length-commit is allOnes (logEndTag es) ct (a .items) in
     let big : entriesLength is + 8 ≤ length b - (logEnd es) = omega (arith, a .fits, a .check .long) in
-    let d : drop (logEnd es + k) b ≡ erased (length b - (logEnd es) - k) = sym (drop-drop k (logEnd es) b) ∙ rw (a .clean) (drop-erased-is k M (length b - (logEnd es) - k) (omega arith) refl) in
+    let d : drop (logEnd es + k) b ≡ erased (length b - (logEnd es) - k) = sym (drop-drop k (logEnd es) b)
+    ∙ rw (a .clean) (drop-erased-is k M (length b - (logEnd es) - k) (omega arith) refl) in
     rw (d, append-assoc (take e b) (take k N) (erased (length b - (logEnd es) - k)))
-    (ap (λ z. take e b ++ z) (sym (fill-take k N (length b - (logEnd es) - (entriesLength is + 8)) (length b - (logEnd es) - k) (omega arith) (omega arith))))
+    (ap (λ z. take e b ++ z) (sym (fill-take k N (length b - (logEnd es) - (entriesLength is + 8))
+    (length b - (logEnd es) - k) (omega arith) (omega arith))))
 
 as-filled : (b : List ℕ) (es : List Event) (is : List Item) (ct : ℕ) → AppendOk b es is ct
-    → appending b es is ct (entriesLength is + 8) ≡ take (logEnd es) b ++ filled allOnes (logEndTag es) is ct (length b - (logEnd es) - (entriesLength is + 8))
+    → appending b es is ct (entriesLength is + 8) ≡ take (logEnd es) b ++ filled allOnes (logEndTag es) is ct
+    (length b - (logEnd es) - (entriesLength is + 8))
 unfolding room filled
 as-filled b es is ct a =
     let N : List ℕ = commitBytes allOnes (logEndTag es) is ct in
     let l : length N ≡ entriesLength is + 8 = length-commit is allOnes (logEndTag es) ct (a .items) in
     as-room b es is ct (entriesLength is + 8) a (omega arith)
-    ∙ ap (λ z. take (logEnd es) b ++ (z ++ erased (length b - (logEnd es) - (entriesLength is + 8)))) (fill-all (entriesLength is + 8) N (omega arith))
+    ∙ ap (λ z. take (logEnd es) b ++ (z ++ erased (length b - (logEnd es) - (entriesLength is + 8))))
+    (fill-all (entriesLength is + 8) N (omega arith))
 
 -- the acts of a commit's entries
 unfoldable pub itemActs : List Item → List Act
@@ -124,7 +146,8 @@ commit-dir es sum p is ct =
     ∙ rw (acts-written is ct (commitSum sum p is ct)) (apply-skip (dirOf es) (itemActs is))
 
 -- ---- DEMAND 3, APPEND. x is the pair's answering block, at place w; o the other.
-pub record AfterAppend (w : Bool) (o : List ℕ) (v : ℕ) (es : List Event) (is : List Item) (ct : ℕ) (image done : List ℕ) : Type 0 where
+pub record AfterAppend (w : Bool) (o : List ℕ) (v : ℕ) (es : List Event) (is : List Item) (ct : ℕ)
+    (image done : List ℕ) : Type 0 where
   -- stopped anywhere: the finished block, or the old view
   pub either : (image ≡ done) ⊎ (viewAt w image o ≡ at w v es)
   -- the finished pair's view, and its directory
@@ -138,9 +161,11 @@ demand3-append w b o v es is ct k h a hk =
     let e : ℕ = logEnd es in
     let m : ℕ = length b - (logEnd es) - (entriesLength is + 8) in
     let M : ℕ = length b - (logEnd es) in
-    let h′ : viewAt w (take (logEnd es) b ++ erased (length b - (logEnd es))) o ≡ at w v es = rw (← a .clean, take-append-drop (logEnd es) b) h in
+    let h′ : viewAt w (take (logEnd es) b ++ erased (length b - (logEnd es))) o ≡ at w v es =
+    rw (← a .clean, take-append-drop (logEnd es) b) h in
     record {
-      either = rw (as-room b es is ct k a hk, as-filled b es is ct a) (crash-append w o (take e b) M v es is ct m k h′ (appends b es is ct a));
+      either = rw (as-room b es is ct k a hk, as-filled b es is ct a)
+          (crash-append w o (take e b) M v es is ct m k h′ (appends b es is ct a));
       finished = rw (as-filled b es is ct a) (done-append w o (take e b) M v es is ct m h′ (appends b es is ct a));
       applied = commit-dir es allOnes (logEndTag es) is ct;
     }

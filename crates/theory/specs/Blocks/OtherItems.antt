@@ -25,5 +25,6 @@ unfolding tagFlipped tagOf
 plain-check s h = omega arith
 
 -- none of them touches a slot
-pub act-high : (T id size : ℕ) (d : List ℕ) → typeCheck ≤ T → T < 2 ^ 11 → id < 2 ^ 10 → size < 2 ^ 10 → act (tagOf T id size) d ≡ skip
+pub act-high : (T id size : ℕ) (d : List ℕ) → typeCheck ≤ T → T < 2 ^ 11 → id < 2 ^ 10 → size < 2 ^ 10
+    → act (tagOf T id size) d ≡ skip
 act-high T id size d h a b c = act-other (tagOf T id size) d (rw (of-type3 T id size a b c) h)

@@ -1,4 +1,5 @@
--- Slots whose loads fit their classes: a regular log's directory has them, and compaction's entries for them are well made. Assumes nothing.
+-- Slots whose loads fit their classes: a regular log's directory has them, and compaction's entries for them are well
+-- made. Assumes nothing.
 use mathlib.Core.Path.{_≡_, refl}
 use mathlib.Core.Bool.{Bool, true, false, cond}
 use mathlib.Core.Option.{Option, none, some}
@@ -45,10 +46,12 @@ puts-ok (suc n) i s l ok h k = go (s n) refl (puts-ok n i s l ok h k)
     go none e r = r
     go (some v) e r = ((h, ok n v e), r)
 
-pub rebuild-ok : (D : List Slot) (i : ℕ) (l : List Act) → OkSlots D → i + length D ≤ 2 ^ 10 → AllOk l → AllOk (rebuild i D l)
+pub rebuild-ok : (D : List Slot) (i : ℕ) (l : List Act) → OkSlots D → i + length D ≤ 2 ^ 10 → AllOk l
+    → AllOk (rebuild i D l)
 unfolding rebuild
 rebuild-ok [] i l ok h k = k
-rebuild-ok (s ∷ D) i l ok h k = rebuild-ok D (suc i) (puts classes i s (mk i ∷ l)) (ok .1) (omega arith) (puts-ok classes i s (mk i ∷ l) (ok .0) (omega arith) (omega arith, k))
+rebuild-ok (s ∷ D) i l ok h k = rebuild-ok D (suc i) (puts classes i s (mk i ∷ l)) (ok .1) (omega arith)
+    (puts-ok classes i s (mk i ∷ l) (ok .0) (omega arith) (omega arith, k))
 
 -- ---- a regular log's directory has such slots
 abbrev pub PutOk : Act → Type 0
@@ -104,9 +107,12 @@ ok-upd s c j v ok p k w h = go (eqb k c) refl v p h
 ok-dir : (l : List Act) → PutsOk l → OkSlots (dir l)
 unfolding dir apply
 ok-dir [] h = tt
-ok-dir (mk j ∷ l) h = let r = ok-dir l (h .1) in ok-app (take j (dir l)) (empty ∷ drop j (dir l)) (ok-take j (dir l) r) (ok-empty, ok-drop j (dir l) r)
-ok-dir (rm j ∷ l) h = let r = ok-dir l (h .1) in ok-app (take j (dir l)) (drop (suc j) (dir l)) (ok-take j (dir l) r) (ok-drop (suc j) (dir l) r)
-ok-dir (put j c v ∷ l) h = let r = ok-dir l (h .1) in ok-set (dir l) j (upd (getD (dir l) j empty) c v) r (ok-upd (getD (dir l) j empty) c j v (ok-get (dir l) j r) (h .0))
+ok-dir (mk j ∷ l) h = let r = ok-dir l (h .1) in ok-app (take j (dir l)) (empty ∷ drop j (dir l)) (ok-take j (dir l) r)
+    (ok-empty, ok-drop j (dir l) r)
+ok-dir (rm j ∷ l) h = let r = ok-dir l (h .1) in ok-app (take j (dir l)) (drop (suc j) (dir l)) (ok-take j (dir l) r)
+    (ok-drop (suc j) (dir l) r)
+ok-dir (put j c v ∷ l) h = let r = ok-dir l (h .1) in ok-set (dir l) j (upd (getD (dir l) j empty) c v) r
+    (ok-upd (getD (dir l) j empty) c j v (ok-get (dir l) j r) (h .0))
 ok-dir (skip ∷ l) h = ok-dir l (h .1)
 
 puts-rev : (l r : List Act) → PutsOk l → PutsOk r → PutsOk (reverseAux l r)

@@ -1,4 +1,5 @@
--- Document 01's acceptance of a commit as one record of Booleans, and what follows of it: demand 3, the directory, regularity. Assumes nothing.
+-- Document 01's acceptance of a commit as one record of Booleans, and what follows of it: demand 3, the directory,
+-- regularity. Assumes nothing.
 use mathlib.Core.Path.{_≡_, refl, ap, ap₂, _∙_}
 use mathlib.Core.Logic.{_≢_}
 use mathlib.Core.Bool.{Bool, true, false, _||_}
@@ -52,8 +53,10 @@ no-coincidence [] sum p ct h = go
     T : List ℕ
     T = toBe32 (xor ct p)
 
-    three : (eqb (crc sum (fill 1 T)) allOnes ≡ false) × (eqb (crc sum (fill 2 T)) allOnes ≡ false) × (eqb (crc sum (fill 3 T)) allOnes ≡ false)
-    three = none-of-three (eqb (crc sum (fill 1 T)) allOnes) (eqb (crc sum (fill 2 T)) allOnes) (eqb (crc sum (fill 3 T)) allOnes) h
+    three : (eqb (crc sum (fill 1 T)) allOnes ≡ false) × (eqb (crc sum (fill 2 T)) allOnes ≡ false)
+        × (eqb (crc sum (fill 3 T)) allOnes ≡ false)
+    three = none-of-three (eqb (crc sum (fill 1 T)) allOnes) (eqb (crc sum (fill 2 T)) allOnes)
+        (eqb (crc sum (fill 3 T)) allOnes) h
 
     go : (j : ℕ) → 0 < j → j < 4 → crc sum (fill j T) ≢ allOnes
     go zero a b = absurd (omega arith)
@@ -83,10 +86,12 @@ pub record Accepts (b : List ℕ) (es : List Event) (is : List Item) (size : ℕ
 
 module _ (b : List ℕ) (es : List Event) (is : List Item) (size : ℕ) (a : Accepts b es is size) where
   check-size : (4 ≤ size) × (size ≤ 1_022)
-  check-size = let r = both-true (leb 4 size) (leb size 1_022) (a .check) in (leb-true 4 size (r .0), leb-true size 1_022 (r .1))
+  check-size = let r = both-true (leb 4 size) (leb size 1_022) (a .check) in
+      (leb-true 4 size (r .0), leb-true size 1_022 (r .1))
 
   pub accepted-items : ItemsOk (slotsAfterAll 0 (acts es)) is
-  accepted-items = items-ok is (slotsAfterAll 0 (acts es)) (a .made) (regular-count b es (a .old) (a .regular)) (a .hold)
+  accepted-items = items-ok is (slotsAfterAll 0 (acts es)) (a .made) (regular-count b es (a .old) (a .regular))
+      (a .hold)
 
   pub accepted : AppendOk b es is (checkTag size)
   accepted =
@@ -114,5 +119,6 @@ module _ (b : List ℕ) (es : List Event) (is : List Item) (size : ℕ) (a : Acc
   module _ (w : Bool) (o : List ℕ) (v : ℕ) (answers : viewAt w b o ≡ at w v es) where
     -- after k stores: the finished block, or the old view; and what the finished pair is
     pub accepted-stopped : (k : ℕ) → k ≤ entriesLength is + 8
-        → AfterAppend w o v es is (checkTag size) (appending b es is (checkTag size) k) (appending b es is (checkTag size) (entriesLength is + 8))
+        → AfterAppend w o v es is (checkTag size) (appending b es is (checkTag size) k)
+        (appending b es is (checkTag size) (entriesLength is + 8))
     accepted-stopped k h = demand3-append w b o v es is (checkTag size) k answers accepted h

@@ -1,12 +1,13 @@
--- An accepted verdict of a commit is the acceptance that demand 3 rests on (Acceptance.antt): of the block that answers, its log, the entries' items
--- and the check's size. Assumes nothing.
+-- An accepted verdict of a commit is the acceptance that demand 3 rests on (Acceptance.antt): of the block that
+-- answers, its log, the entries' items and the check's size. Assumes nothing.
 use mathlib.Core.Path.{_≡_, refl, _∙_}
 use mathlib.Core.Logic.{_≢_}
 use mathlib.Core.Bool.{Bool, true, false, not, cond, _&&_}
 use mathlib.Core.List.{List, []}
 use Prim.Native.Nat.{ℕ, _+_, _-_, _*_, _/_, _%_, _≤_, _<_}
 use native.Mathlib.Omega.{arith}
-use native.Mathlib.Nat.{div-add-mod', mod-lt, mul-mod-left, add-mod, mod-eq-of-lt, zero-add, mul-le-mul-right, div-mul-le-self, le-div-iff-mul-le}
+use native.Mathlib.Nat.{div-add-mod', mod-lt, mul-mod-left, add-mod, mod-eq-of-lt, zero-add, mul-le-mul-right}
+use native.Mathlib.Nat.{div-mul-le-self, le-div-iff-mul-le}
 use lib.ListN.{length, drop}
 use lib.Dec.{leb, ltb, eqb}
 use borrow.Author.Tests.{leb-true, le-leb, ltb-false, not-false}
@@ -22,7 +23,9 @@ use Rattle.format.specs.Regular.{Regular}
 use Rattle.format.specs.Commit.{Item, checkTag}
 use Rattle.format.specs.Stores.{allErased, entriesLength, coincides}
 use Rattle.format.specs.Entries.{itemsOf, Judged, judge, bad, good}
-use Rattle.format.specs.Writer.{checkLength, roundedEnd, checkSize, checkAt, mostData, mostEntries, commitFits, roomClean, Verdict, blockAt, placed, judgedBy, appended, fetchedThen, verdictOf, refused, accepted}
+use Rattle.format.specs.Writer.{checkLength, roundedEnd, checkSize, checkAt, mostData, mostEntries, commitFits}
+use Rattle.format.specs.Writer.{roomClean, Verdict, blockAt, placed, judgedBy, appended, fetchedThen, verdictOf}
+use Rattle.format.specs.Writer.{refused, accepted}
 use Rattle.format.specs.declared.Geometry.{Geometry}
 use Rattle.format.specs.declared.LfsMdir.{LfsMdir}
 use Rattle.format.specs.declared.Entry.{Entry}
@@ -47,18 +50,25 @@ module _ (prog p : ℕ) (some : 4 ≤ prog) where
   pub rounded : (p + checkLength ≤ roundedEnd prog p) × (roundedEnd prog p < p + checkLength + prog)
   unfolding roundedEnd
   rounded = (
-    omega (arith, div-add-mod' (p + checkLength + (prog - 1)) prog, mod-lt (p + checkLength + (prog - 1)) {m = prog} (omega arith)),
+    omega (
+      arith,
+      div-add-mod' (p + checkLength + (prog - 1)) prog,
+      mod-lt (p + checkLength + (prog - 1)) {m =
+          prog} (omega arith),
+    ),
     omega (arith, div-add-mod' (p + checkLength + (prog - 1)) prog),
   )
 
-  pub check-size : prog ≤ 512 → (4 ≤ checkSize prog p) × (checkSize prog p ≤ 1_022) × (p + 4 + checkSize prog p ≡ roundedEnd prog p)
+  pub check-size : prog ≤ 512 → (4 ≤ checkSize prog p) × (checkSize prog p ≤ 1_022)
+      × (p + 4 + checkSize prog p ≡ roundedEnd prog p)
   unfolding checkSize
   check-size k = (omega (arith, rounded .0), omega (arith, rounded .1), omega (arith, rounded .0))
 
   pub check-ends : (p + 4 + checkSize prog p) % prog ≡ 0
   unfolding checkSize roundedEnd
   check-ends =
-      let e : p + 4 + (roundedEnd prog p - (p + 4)) ≡ (p + checkLength + (prog - 1)) / prog * prog = omega (arith, rounded .0) in
+      let e : p + 4 + (roundedEnd prog p - (p + 4)) ≡ (p + checkLength + (prog - 1)) / prog * prog =
+      omega (arith, rounded .0) in
       rw e (mul-mod-left ((p + checkLength + (prog - 1)) / prog) prog)
 
   -- "Its size, 4 or more, is the least that ends on a multiple of the program size"
@@ -66,12 +76,17 @@ module _ (prog p : ℕ) (some : 4 ≤ prog) where
   unfolding checkSize roundedEnd
   check-least size h k =
       let r : (p + 4 + size + (prog - 1)) % prog ≡ prog - 1 =
-      add-mod (p + 4 + size) (prog - 1) prog ∙ rw (k, mod-eq-of-lt {n = prog - 1} {m = prog} (omega arith), zero-add (prog - 1)) (mod-eq-of-lt {n = prog - 1} {m = prog} (omega arith)) in
-      let le : (p + checkLength + (prog - 1)) / prog ≤ (p + 4 + size + (prog - 1)) / prog = le-div-iff-mul-le {k = prog} {y = p + 4 + size + (prog - 1)} (omega arith) .1 (omega (arith, div-mul-le-self (p + checkLength + (prog - 1)) prog)) in
+      add-mod (p + 4 + size) (prog - 1) prog
+      ∙ rw (k, mod-eq-of-lt {n = prog - 1} {m = prog} (omega arith), zero-add (prog - 1))
+      (mod-eq-of-lt {n = prog - 1} {m = prog} (omega arith)) in
+      let le : (p + checkLength + (prog - 1)) / prog ≤ (p + 4 + size + (prog - 1)) / prog =
+      le-div-iff-mul-le {k = prog} {y = p + 4 + size + (prog - 1)} (omega arith) .1
+      (omega (arith, div-mul-le-self (p + checkLength + (prog - 1)) prog)) in
       omega (arith, div-add-mod' (p + 4 + size + (prog - 1)) prog, mul-le-mul-right prog le)
 
 -- ---- tests that did not refuse
-pub past : (b : Bool) (r : Refusal) (v : Verdict) (w : Bool) (is : List Item) (size : ℕ) → cond b (refused r) v ≡ accepted w is size → (b ≡ false) × (v ≡ accepted w is size)
+pub past : (b : Bool) (r : Refusal) (v : Verdict) (w : Bool) (is : List Item) (size : ℕ)
+    → cond b (refused r) v ≡ accepted w is size → (b ≡ false) × (v ≡ accepted w is size)
 past true r v w is size h = (cc, cc)
 past false r v w is size h = (refl, h)
 
@@ -81,7 +96,8 @@ pub record FoundThen (f : Fetched) (on : LfsMdir → Verdict) (v : Verdict) : Ty
   pub found : f ≡ fetched.Found m s
   pub then : on m ≡ v
 
-pub found-then : (f : Fetched) (on : LfsMdir → Verdict) (w : Bool) (is : List Item) (size : ℕ) → fetchedThen f on ≡ accepted w is size → FoundThen f on (accepted w is size)
+pub found-then : (f : Fetched) (on : LfsMdir → Verdict) (w : Bool) (is : List Item) (size : ℕ)
+    → fetchedThen f on ≡ accepted w is size → FoundThen f on (accepted w is size)
 found-then (fetched.Refused r) on w is size h = absurd (let z : _≡_ {A = ℕ} 0 1 = cc in omega arith)
 found-then (fetched.Found m s) on w is size h = record { m = m; s = s; found = refl; then = h }
 
@@ -90,7 +106,8 @@ pub record GoodThen (j : Judged) (v v′ : Verdict) : Type 0 where
   pub all : j ≡ good c
   pub then : v ≡ v′
 
-pub good-then : (j : Judged) (v : Verdict) (w : Bool) (is : List Item) (size : ℕ) → judgedBy j v ≡ accepted w is size → GoodThen j v (accepted w is size)
+pub good-then : (j : Judged) (v : Verdict) (w : Bool) (is : List Item) (size : ℕ) → judgedBy j v ≡ accepted w is size
+    → GoodThen j v (accepted w is size)
 good-then (bad i) v w is size h = absurd (let z : _≡_ {A = ℕ} 0 1 = cc in omega arith)
 good-then (good c) v w is size h = record { c = c; all = refl; then = h }
 
@@ -111,25 +128,31 @@ unfolding commitFits pairFits
 fits-geometry g l0 l1 n0 n1 e d h =
     let r = both-true (pairFits g l0 l1 n0 n1 && leb d mostData) (leb e mostEntries) h in
     let s = both-true (pairFits g l0 l1 n0 n1) (leb d mostData) (r .0) in
-    let t = both-true (geometryFits g && eqb l0 (g .«block_size») && eqb l1 (g .«block_size»)) (not (eqb n0 n1)) (s .0) in
+    let t = both-true (geometryFits g && eqb l0 (g .«block_size») && eqb l1 (g .«block_size»)) (not (eqb n0 n1))
+    (s .0) in
     let u = both-true (geometryFits g && eqb l0 (g .«block_size»)) (eqb l1 (g .«block_size»)) (t .0) in
     both-true (geometryFits g) (eqb l0 (g .«block_size»)) (u .0) .0
 
 -- ---- the tests of good entries
-module _ (prog : ℕ) (some : 4 ≤ prog) (most : prog ≤ 512) (b : List ℕ) (es : List Event) (old : log b ≡ es) (nonempty : es ≢ []) (regular : Regular es ≡ true) (dat : List ℕ) (entries : List Entry) (c : ℕ)
+module _ (prog : ℕ) (some : 4 ≤ prog) (most : prog ≤ 512) (b : List ℕ) (es : List Event) (old : log b ≡ es)
+    (nonempty : es ≢ []) (regular : Regular es ≡ true) (dat : List ℕ) (entries : List Entry) (c : ℕ)
     (all : judge dat 0 (countOf 0 es) entries ≡ good c) where
-  placed-accepts : (second w : Bool) (is : List Item) (size : ℕ) → placed prog second b es (itemsOf dat entries) ≡ accepted w is size
+  placed-accepts : (second w : Bool) (is : List Item) (size : ℕ)
+      → placed prog second b es (itemsOf dat entries) ≡ accepted w is size
       → (w ≡ second) × (is ≡ itemsOf dat entries) × Accepts b es (itemsOf dat entries) size
   unfolding placed roomClean
   placed-accepts second w is size h =
       let I : List Item = itemsOf dat entries in
       let p = past (ltb (length b) (roundedEnd prog (checkAt es I))) NoSpace _ w is size h in
       let q = past (not (roomClean prog b (logEnd es) (logEndTag es))) Unclean _ w is size (p .1) in
-      let r = past (coincides allOnes (logEndTag es) I (checkTag (checkSize prog (checkAt es I)))) Coincidence _ w is size (q .1) in
-      let clean = both-true (allErased (drop (logEnd es) b) && eqb (logEnd es % prog) 0) (tagValid (logEndTag es)) (not-false _ (q .0)) in
+      let r = past (coincides allOnes (logEndTag es) I (checkTag (checkSize prog (checkAt es I)))) Coincidence _ w is
+      size (q .1) in
+      let clean = both-true (allErased (drop (logEnd es) b) && eqb (logEnd es % prog) 0) (tagValid (logEndTag es))
+      (not-false _ (q .0)) in
       let empty = both-true (allErased (drop (logEnd es) b)) (eqb (logEnd es % prog) 0) (clean .0) in
       let slots : countOf 0 es ≡ slotsAfterAll 0 (acts es) = regular-slots es regular in
-      let g = judged-good dat entries 0 (slotsAfterAll 0 (acts es)) c (regular-count b es old regular) (rw (← slots) all) in
+      let g = judged-good dat entries 0 (slotsAfterAll 0 (acts es)) c (regular-count b es old regular)
+      (rw (← slots) all) in
       let k = check-size prog (checkAt es I) some most in
       let same : checkSize prog (checkAt es I) ≡ size = cc in (
         cc,
@@ -140,9 +163,17 @@ module _ (prog : ℕ) (some : 4 ≤ prog) (most : prog ≤ 512) (b : List ℕ) (
           regular = regular;
           made = g .made;
           hold = g .hold;
-          check = rw (le-leb 4 (checkSize prog (checkAt es I)) (k .0), le-leb (checkSize prog (checkAt es I)) 1_022 (k .1));
+          check = rw (
+            le-leb 4 (checkSize prog (checkAt es I)) (k .0),
+            le-leb (checkSize prog (checkAt es I)) 1_022 (k .1),
+          );
           fits = le-leb (logEnd es + entriesLength I + tagLength (checkTag (checkSize prog (checkAt es I)))) (length b)
-              (omega (arith, ltb-false (length b) (roundedEnd prog (checkAt es I)) (p .0), of-length typeCheck noSlot (checkSize prog (checkAt es I)) (omega (arith, k .1)), k .2));
+              (omega (
+                arith,
+                ltb-false (length b) (roundedEnd prog (checkAt es I)) (p .0),
+                of-length typeCheck noSlot (checkSize prog (checkAt es I)) (omega (arith, k .1)),
+                k .2,
+              ));
           clean = empty .0;
           top = clean .1;
           lucky = r .0;
@@ -151,23 +182,32 @@ module _ (prog : ℕ) (some : 4 ≤ prog) (most : prog ≤ 512) (b : List ℕ) (
 
 -- ---- the verdict
 -- what an accepted commit appends to: the block at place `second` of the two, which answers, with the revision rev
-pub record AppendsTo (b0 b1 : List ℕ) (entries : List Entry) (dat : List ℕ) (second : Bool) (is : List Item) (size : ℕ) : Type 0 where
+pub record AppendsTo (b0 b1 : List ℕ) (entries : List Entry) (dat : List ℕ) (second : Bool) (is : List Item)
+    (size : ℕ) : Type 0 where
   pub rev : ℕ
   pub items : is ≡ itemsOf dat entries
-  pub answers : viewAt second (blockAt second b0 b1) (blockAt (not second) b0 b1) ≡ at second rev (log (blockAt second b0 b1))
+  pub answers : viewAt second (blockAt second b0 b1) (blockAt (not second) b0 b1)
+      ≡ at second rev (log (blockAt second b0 b1))
   pub accepts : Accepts (blockAt second b0 b1) (log (blockAt second b0 b1)) (itemsOf dat entries) size
 
-module _ (g : Geometry) (b0 b1 : List ℕ) (n0 n1 count seed : ℕ) (entries : List Entry) (dat : List ℕ) (second : Bool) (is : List Item) (size : ℕ) where
-  pub accepted-commit : verdictOf g b0 b1 n0 n1 count seed entries dat ≡ accepted second is size → AppendsTo b0 b1 entries dat second is size
+module _ (g : Geometry) (b0 b1 : List ℕ) (n0 n1 count seed : ℕ) (entries : List Entry) (dat : List ℕ) (second : Bool)
+    (is : List Item) (size : ℕ) where
+  pub accepted-commit : verdictOf g b0 b1 n0 n1 count seed entries dat ≡ accepted second is size
+      → AppendsTo b0 b1 entries dat second is size
   unfolding verdictOf appended
   accepted-commit h =
-      let p = past (not (commitFits g (length b0) (length b1) n0 n1 (length entries) (length dat))) Invalid _ second is size h in
-      let prog = fits-prog g (fits-geometry g (length b0) (length b1) n0 n1 (length entries) (length dat) (not-false _ (p .0))) in
+      let p = past (not (commitFits g (length b0) (length b1) n0 n1 (length entries) (length dat))) Invalid _ second is
+      size h in
+      let prog = fits-prog g (fits-geometry g (length b0) (length b1) n0 n1 (length entries) (length dat)
+      (not-false _ (p .0))) in
       let f = found-then (fetchOf g b0 b1 n0 n1 count seed) _ second is size (p .1) in
       let a = found-answers g b0 b1 n0 n1 count seed (f .m) (f .s) (f .found) in
-      let t : appended (g .«prog_size») (a .w) (blockAt (a .w) b0 b1) (log (blockAt (a .w) b0 b1)) entries dat ≡ accepted second is size = rw (a .place) at (f .then) in
+      let t : appended (g .«prog_size») (a .w) (blockAt (a .w) b0 b1) (log (blockAt (a .w) b0 b1)) entries dat
+      ≡ accepted second is size = rw (a .place) at (f .then) in
       let q = past (not (Regular (log (blockAt (a .w) b0 b1)))) Irregular _ second is size t in
       let j = good-then (judge dat 0 (countOf 0 (log (blockAt (a .w) b0 b1))) entries) _ second is size (q .1) in
-      let some : log (blockAt (a .w) b0 b1) ≢ [] = view-log (a .w) (blockAt (a .w) b0 b1) (blockAt (not (a .w)) b0 b1) (a .rev) (log (blockAt (a .w) b0 b1)) (a .answers) .1 in
-      let k = placed-accepts (g .«prog_size») (prog .0) (prog .1) (blockAt (a .w) b0 b1) (log (blockAt (a .w) b0 b1)) refl some (not-false _ (q .0)) dat entries (j .c) (j .all) (a .w) second is size (j .then) in
+      let some : log (blockAt (a .w) b0 b1) ≢ [] = view-log (a .w) (blockAt (a .w) b0 b1) (blockAt (not (a .w)) b0 b1)
+      (a .rev) (log (blockAt (a .w) b0 b1)) (a .answers) .1 in
+      let k = placed-accepts (g .«prog_size») (prog .0) (prog .1) (blockAt (a .w) b0 b1) (log (blockAt (a .w) b0 b1))
+      refl some (not-false _ (q .0)) dat entries (j .c) (j .all) (a .w) second is size (j .then) in
       rw (k .0) (record { rev = a .rev; items = k .1; answers = a .answers; accepts = k .2 })

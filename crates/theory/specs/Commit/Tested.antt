@@ -1,5 +1,5 @@
--- What a writer tests, document 01's Booleans, gives what the theorems ask: of the log on the block, of the entries to write, and again of the
--- log that is finished. Assumes nothing.
+-- What a writer tests, document 01's Booleans, gives what the theorems ask: of the log on the block, of the entries to
+-- write, and again of the log that is finished. Assumes nothing.
 use mathlib.Core.Path.{_≡_, refl, subst}
 use mathlib.Core.Bool.{Bool, true, false}
 use mathlib.Core.List.{List, [], _∷_, _++_}
@@ -102,7 +102,11 @@ module _ (b : List ℕ) (es : List Event) (is : log b ≡ es) (h : Regular es �
   pub regular-log : RegularLog es
   regular-log =
       let r = from-zero in
-      record { base = record { reg = r .contained; eight = r .eights; rules = r .allowed }; shapes = r .shapes; few = r .few }
+      record {
+        base = record { reg = r .contained; eight = r .eights; rules = r .allowed };
+        shapes = r .shapes;
+        few = r .few;
+      }
 
   pub regular-loads : PutsOk (acts es)
   regular-loads = from-zero .loads
@@ -120,7 +124,15 @@ items-ok (i ∷ is) c m low h =
     let u = ruled R c (i .tag) (i .body) (rule-says (tagType3 (i .tag)) false) (r .0) in
     let ih = items-ok is (countAfter R c) (m .1) (u .few low) (r .1) in
     record {
-      good = (record { small = m .0 .0; entry = u .plain; long = m .0 .1; eight = λ w. omega (arith, u .twelve w, m .0 .1) }, ih .good);
+      good = (
+        record {
+          small = m .0 .0;
+          entry = u .plain;
+          long = m .0 .1;
+          eight = λ w. omega (arith, u .twelve w, m .0 .1);
+        },
+        ih .good,
+      );
       shapes = (u .shape (m .0 .0), ih .shapes);
       rules = (u .allowed, rw (u .slots) (ih .rules));
       few = rw (u .slots) (u .few low, ih .few);
@@ -128,43 +140,51 @@ items-ok (i ∷ is) c m low h =
 
 -- ---- and the log that is finished is regular again
 -- a rule that an entry of a commit passes is its rule in a log too
-rule-logged : (type c id size : ℕ) → ruleHolds (ruleOf false type) c id size ≡ true → ruleOf true type ≡ ruleOf false type
+rule-logged : (type c id size : ℕ) → ruleHolds (ruleOf false type) c id size ≡ true
+    → ruleOf true type ≡ ruleOf false type
 unfolding ruleOf ruleHolds
 rule-logged type c id size h = go (eqb type typeSuperblock) refl (eqb type typeForward) refl
   where
     no : ruleHolds (ruleOf false type) c id size ≡ false → ⊥
     no k = let z : _≡_ {A = ℕ} 0 1 = cc in omega arith
 
-    go : (s : Bool) → eqb type typeSuperblock ≡ s → (f : Bool) → eqb type typeForward ≡ f → ruleOf true type ≡ ruleOf false type
+    go : (s : Bool) → eqb type typeSuperblock ≡ s → (f : Bool) → eqb type typeForward ≡ f
+        → ruleOf true type ≡ ruleOf false type
     go true e f k = absurd (no (let q : type ≡ typeSuperblock = eqb-true type typeSuperblock e in rw q))
     go false e true k = absurd (no (let q : type ≡ typeForward = eqb-true type typeForward k in rw q))
     go false e false k = rw (e, k)
 
 -- the count that the rules leave is the number of slots
-regular-app : (es more : List Event) (c : ℕ) → regularFrom c es ≡ true → regularFrom (slotsAfterAll c (acts es)) more ≡ true → regularFrom c (es ++ more) ≡ true
+regular-app : (es more : List Event) (c : ℕ) → regularFrom c es ≡ true
+    → regularFrom (slotsAfterAll c (acts es)) more ≡ true → regularFrom c (es ++ more) ≡ true
 unfolding regularFrom acts slotsAfterAll slotsAfter
 regular-app [] more c h k = k
 regular-app (ent t d ∷ es) more c h k =
     let R : Rule = ruleOf true (tagType3 t) in
     let r = both-true (ruleHolds R c (tagId t) (tagSize t)) (regularFrom (countAfter R c) es) h in
     let u = ruled R c t d (rule-says (tagType3 t) true) (r .0) in
-    rw (r .0) (regular-app es more (countAfter R c) (r .1) (subst (λ (n : ℕ). regularFrom (slotsAfterAll n (acts es)) more ≡ true) (u .slots) k))
+    rw (r .0) (regular-app es more (countAfter R c) (r .1)
+    (subst (λ (n : ℕ). regularFrom (slotsAfterAll n (acts es)) more ≡ true) (u .slots) k))
 regular-app (chk t x ∷ es) more c h k =
     let r = both-true (between 4 1_022 (tagSize t)) (regularFrom c es) h in
     rw (r .0) (regular-app es more c (r .1) k)
 regular-app (inv ∷ es) more c h k = regular-app es more c h k
 
-pub items-regular : (is : List Item) (c ct x : ℕ) → itemsHold c is ≡ true → between 4 1_022 (tagSize ct) ≡ true → regularFrom c (written is (chk ct x ∷ [])) ≡ true
+pub items-regular : (is : List Item) (c ct x : ℕ) → itemsHold c is ≡ true → between 4 1_022 (tagSize ct) ≡ true
+    → regularFrom c (written is (chk ct x ∷ [])) ≡ true
 unfolding itemsHold regularFrom written
 items-regular [] c ct x h k = rw k
 items-regular (i ∷ is) c ct x h k =
     let R : Rule = ruleOf false (tagType3 (i .tag)) in
     let r = both-true (ruleHolds R c (tagId (i .tag)) (tagSize (i .tag))) (itemsHold (countAfter R c) is) h in
-    let same : ruleOf true (tagType3 (i .tag)) ≡ ruleOf false (tagType3 (i .tag)) = rule-logged (tagType3 (i .tag)) c (tagId (i .tag)) (tagSize (i .tag)) (r .0) in
+    let same : ruleOf true (tagType3 (i .tag)) ≡ ruleOf false (tagType3 (i .tag)) =
+    rule-logged (tagType3 (i .tag)) c (tagId (i .tag)) (tagSize (i .tag)) (r .0) in
     rw (same, r .0) (items-regular is (countAfter R c) ct x (r .1) k)
 
-pub regular-again : (es : List Event) (sum p : ℕ) (is : List Item) (ct : ℕ) → Regular es ≡ true → itemsHold (slotsAfterAll 0 (acts es)) is ≡ true
+pub regular-again : (es : List Event) (sum p : ℕ) (is : List Item) (ct : ℕ) → Regular es ≡ true
+    → itemsHold (slotsAfterAll 0 (acts es)) is ≡ true
     → between 4 1_022 (tagSize ct) ≡ true → Regular (es ++ commitEvents sum p is ct) ≡ true
 unfolding Regular commitEvents
 regular-again es sum p is ct h k c =
-    regular-app es (written is (chk ct (commitSum sum p is ct) ∷ [])) 0 h (items-regular is (slotsAfterAll 0 (acts es)) ct (commitSum sum p is ct) k c)
+    regular-app es (written is (chk ct (commitSum sum p is ct) ∷ [])) 0 h
+    (items-regular is (slotsAfterAll 0 (acts es)) ct (commitSum sum p is ct) k c)

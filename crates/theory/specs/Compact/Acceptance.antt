@@ -1,4 +1,5 @@
--- Document 01's acceptance of a compaction as one record of Booleans, and what follows of it: demand 3, and that the lookups stay. Assumes nothing.
+-- Document 01's acceptance of a compaction as one record of Booleans, and what follows of it: demand 3, and that the
+-- lookups stay. Assumes nothing.
 use mathlib.Core.Path.{_≡_, refl}
 use mathlib.Core.Logic.{inr}
 use mathlib.Core.Bool.{Bool, true, false}
@@ -34,8 +35,8 @@ use Rattle.theory.specs.Commit.Tested.{regular-log, regular-loads, regul
 use Rattle.theory.specs.Commit.Acceptance.{no-coincidence}
 use Rattle.theory.specs.Compact.RegularAgain.{compact-regular}
 
--- ---- compaction of the block x, whose log is es and whose revision is v: ts are the entries that touch no slot (tail, move state), `size`
--- the check's, and m bytes stay erased behind
+-- ---- compaction of the block x, whose log is es and whose revision is v: ts are the entries that touch no slot (tail,
+-- move state), `size` the check's, and m bytes stay erased behind
 pub record Compacts (x : List ℕ) (v : ℕ) (es : List Event) (ts : List Item) (size m : ℕ) : Type 0 where
   -- "-202 | the committed log isn't regular"
   pub old : log x ≡ es
@@ -52,7 +53,8 @@ pub record Compacts (x : List ℕ) (v : ℕ) (es : List Event) (ts : List Item) 
 
 module _ (x : List ℕ) (v : ℕ) (es : List Event) (ts : List Item) (size m : ℕ) (a : Compacts x v es ts size m) where
   check-size : (4 ≤ size) × (size ≤ 1_022)
-  check-size = let r = both-true (leb 4 size) (leb size 1_022) (a .check) in (leb-true 4 size (r .0), leb-true size 1_022 (r .1))
+  check-size = let r = both-true (leb 4 size) (leb size 1_022) (a .check) in
+      (leb-true 4 size (r .0), leb-true size 1_022 (r .1))
 
   was : RegularLog es
   was = regular-log x es (a .old) (a .regular)
@@ -63,19 +65,23 @@ module _ (x : List ℕ) (v : ℕ) (es : List Event) (ts : List Item) (size m : �
   few : length (dirOf es) ≤ mostSlots
   few = rw (length-dirOf es (was .base .rules)) (regular-count x es (a .old) (a .regular))
 
-  pub compact-fits : CommitFits (crc allOnes (toLe32 (plus32 v 1))) allOnes (compactItems (dirOf es) ts) (checkTag size) m
+  pub compact-fits : CommitFits (crc allOnes (toLe32 (plus32 v 1))) allOnes (compactItems (dirOf es) ts) (checkTag size)
+      m
   compact-fits =
       record {
-        items = compact-good (dirOf es) ts slots (omega (arith, few)) (items-ok ts (length (dirOf es)) (a .made) few (a .hold) .good);
+        items = compact-good (dirOf es) ts slots (omega (arith, few))
+            (items-ok ts (length (dirOf es)) (a .made) few (a .hold) .good);
         check = good-check size (check-size .0) (omega (arith, check-size .1));
         plain = plain-check size (omega (arith, check-size .1));
         room = leb-true (tagLength (checkTag size)) (8 + m) (a .room);
         start = inr refl;
-        lucky = no-coincidence (compactItems (dirOf es) ts) (crc allOnes (toLe32 (plus32 v 1))) allOnes (checkTag size) (a .lucky);
+        lucky = no-coincidence (compactItems (dirOf es) ts) (crc allOnes (toLe32 (plus32 v 1))) allOnes (checkTag size)
+            (a .lucky);
       }
 
   -- the new log is regular
-  pub compacted-regular : Regular (commitEvents (crc allOnes (toLe32 (plus32 v 1))) allOnes (compactItems (dirOf es) ts) (checkTag size)) ≡ true
+  pub compacted-regular : Regular (commitEvents (crc allOnes (toLe32 (plus32 v 1))) allOnes (compactItems (dirOf es) ts)
+      (checkTag size)) ≡ true
   compacted-regular =
       compact-regular (dirOf es) ts (crc allOnes (toLe32 (plus32 v 1))) allOnes (checkTag size) slots few (a .hold)
       (rw (of-size typeCheck noSlot size (omega (arith, check-size .1))) (a .check))
@@ -84,5 +90,7 @@ module _ (x : List ℕ) (v : ℕ) (es : List Event) (ts : List Item) (size m : �
   module _ (w : Bool) (o : List ℕ) (answers : viewAt w x o ≡ at w v es) (word : v < 2 ^ 32) where
     -- after n stores, the first of them the erase: the finished block, or the old view; and what the finished pair is
     pub compact-stopped : (n : ℕ) → AfterCompact w x v es (compactItems (dirOf es) ts) (checkTag size)
-        (compacting o (plus32 v 1) (compactItems (dirOf es) ts) (checkTag size) m n) (compacted (plus32 v 1) (compactItems (dirOf es) ts) (checkTag size) m)
-    compact-stopped n = demand3-compact w x o v es ts (checkTag size) m n answers word (regular-loads x es (a .old) (a .regular)) few (a .still) compact-fits
+        (compacting o (plus32 v 1) (compactItems (dirOf es) ts) (checkTag size) m n)
+        (compacted (plus32 v 1) (compactItems (dirOf es) ts) (checkTag size) m)
+    compact-stopped n = demand3-compact w x o v es ts (checkTag size) m n answers word
+        (regular-loads x es (a .old) (a .regular)) few (a .still) compact-fits

@@ -1,5 +1,5 @@
--- An accepted verdict of a compaction is the acceptance that demand 3 rests on (Acceptance.antt), and so demand 3 for its stores; and what the
--- finished block's record keeps: tail, split mark and move state. Assumes nothing.
+-- An accepted verdict of a compaction is the acceptance that demand 3 rests on (Acceptance.antt), and so demand 3 for
+-- its stores; and what the finished block's record keeps: tail, split mark and move state. Assumes nothing.
 use mathlib.Core.Path.{_≡_, refl, sym, ap, subst, _∙_}
 use mathlib.Core.Bool.{Bool, true, false, not, cond}
 use mathlib.Core.Option as option
@@ -23,7 +23,9 @@ use Rattle.format.specs.Directory.{dirOf, moveOf}
 use Rattle.format.specs.Commit.{Item, commitBytes, checkTag}
 use Rattle.format.specs.Stores.{erased, entriesLength, coincides, compactBytes, compacted, compacting}
 use Rattle.format.specs.Writer.{checkLength, roundedEnd, checkSize, blockAt, Images}
-use Rattle.format.specs.Compaction.{compactionItems, compactCheckAt, CompactVerdict, compactRefused, compactAccepted, placedAnew, compactable, compactFetched, compactVerdict, compactStores, compactedTo, compactImagesAfter, compactImages}
+use Rattle.format.specs.Compaction.{compactionItems, compactCheckAt, CompactVerdict, compactRefused, compactAccepted}
+use Rattle.format.specs.Compaction.{placedAnew, compactable, compactFetched, compactVerdict, compactStores, compactedTo}
+use Rattle.format.specs.Compaction.{compactImagesAfter, compactImages}
 use Rattle.format.specs.declared.Geometry.{Geometry}
 use Rattle.format.specs.declared.LfsMdir.{LfsMdir}
 use Rattle.format.specs.declared.Refusal.{Refusal}
@@ -46,13 +48,15 @@ use Rattle.theory.specs.Walk.ReadBack.{AllGood}
 use Rattle.theory.specs.Compact.MoveCarried.{MoveOk, regular-move}
 use Rattle.theory.specs.Compact.Acceptance.{Compacts, compact-fits, compact-stopped}
 use Rattle.theory.specs.Compact.EntriesListed.{listed}
-use Rattle.theory.specs.Compact.BehindSlots.{behindItems, behind-loose, loose-made, loose-hold, loose-still, move-kept, tail-kept}
+use Rattle.theory.specs.Compact.BehindSlots.{behindItems, behind-loose, loose-made, loose-hold, loose-still}
+use Rattle.theory.specs.Compact.BehindSlots.{move-kept, tail-kept}
 use Rattle.theory.specs.Fetch.FoundRecord.{found-answers}
 use Rattle.theory.specs.Commit.AcceptedVerdict.{check-size}
 use Rattle.theory.specs.Fetch.FoundBlock.{Sized, found-sized, view-rev}
 
 -- ---- the tests, passed
-pub past : (b : Bool) (r : Refusal) (v : CompactVerdict) (w : Bool) (rev : ℕ) (is : List Item) (size : ℕ) → cond b (compactRefused r) v ≡ compactAccepted w rev is size
+pub past : (b : Bool) (r : Refusal) (v : CompactVerdict) (w : Bool) (rev : ℕ) (is : List Item) (size : ℕ)
+    → cond b (compactRefused r) v ≡ compactAccepted w rev is size
     → (b ≡ false) × (v ≡ compactAccepted w rev is size)
 past true r v w rev is size h = (cc, cc)
 past false r v w rev is size h = (refl, h)
@@ -72,16 +76,20 @@ module _ (x : List ℕ) (regular : Regular (log x) ≡ true) where
   slots-ok = ok-dirOf (log x) (regular-loads x (log x) refl regular)
 
   pub slots-counted : countOf 0 (log x) ≡ length (dirOf (log x))
-  slots-counted = regular-slots (log x) regular ∙ sym (length-dirOf (log x) (regular-log x (log x) refl regular .base .rules))
+  slots-counted = regular-slots (log x) regular
+      ∙ sym (length-dirOf (log x) (regular-log x (log x) refl regular .base .rules))
 
   pub slots-few : length (dirOf (log x)) ≤ mostSlots
-  slots-few = rw (length-dirOf (log x) (regular-log x (log x) refl regular .base .rules)) (regular-count x (log x) refl regular)
+  slots-few = rw (length-dirOf (log x) (regular-log x (log x) refl regular .base .rules))
+      (regular-count x (log x) refl regular)
 
   pub compaction-good : AllGood (compactionItems (log x))
   compaction-good =
       let es : List Event = log x in
-      let loose = behind-loose (splitOf false es) (tailOf noTail es) (moveOf option.none es) (regular-move x es refl regular) in
-      let ok = items-ok (behindOf es) (length (dirOf es)) (loose-made (behindOf es) loose) slots-few (loose-hold (behindOf es) (length (dirOf es)) loose) in
+      let loose = behind-loose (splitOf false es) (tailOf noTail es) (moveOf option.none es)
+      (regular-move x es refl regular) in
+      let ok = items-ok (behindOf es) (length (dirOf es)) (loose-made (behindOf es) loose) slots-few
+      (loose-hold (behindOf es) (length (dirOf es)) loose) in
       rw (compaction-items es) (compact-good (dirOf es) (behindOf es) slots-ok (omega (arith, slots-few)) (ok .good))
 
 -- the block x answers, o is the other; both are one block long
@@ -94,18 +102,22 @@ module _ (prog : ℕ) (some : 4 ≤ prog) (most : prog ≤ 512) (x o : List ℕ)
     pub room : compactCheckAt is + checkLength ≤ length o
     pub compacts : Compacts x (le32 x) (log x) (behindOf (log x)) size (length o - (compactCheckAt is + checkLength))
 
-  pub placed : (second w : Bool) (rev : ℕ) (is : List Item) (size : ℕ) → compactable prog second x (log x) ≡ compactAccepted w rev is size → Placed second rev is size w
+  pub placed : (second w : Bool) (rev : ℕ) (is : List Item) (size : ℕ)
+      → compactable prog second x (log x) ≡ compactAccepted w rev is size → Placed second rev is size w
   unfolding compactable placedAnew
   placed second w rev is size h =
       let es : List Event = log x in
       let I : List Item = compactionItems es in
       let p = past (not (Regular es)) Irregular _ w rev is size h in
       let q = past (ltb (length x) (roundedEnd prog (compactCheckAt I))) NoSpace _ w rev is size (p .1) in
-      let r = past (coincides (crc allOnes (toLe32 (plus32 (le32 x) 1))) allOnes I (checkTag (checkSize prog (compactCheckAt I)))) Coincidence _ w rev is size (q .1) in
+      let r = past (coincides (crc allOnes (toLe32 (plus32 (le32 x) 1))) allOnes I
+      (checkTag (checkSize prog (compactCheckAt I)))) Coincidence _ w rev is size (q .1) in
       let regular : Regular es ≡ true = not-false _ (p .0) in
-      let loose = behind-loose (splitOf false es) (tailOf noTail es) (moveOf option.none es) (regular-move x es refl regular) in
+      let loose = behind-loose (splitOf false es) (tailOf noTail es) (moveOf option.none es)
+      (regular-move x es refl regular) in
       let k = check-size prog (compactCheckAt I) some most in
-      let fits : roundedEnd prog (compactCheckAt I) ≤ length o = rw long (ltb-false (length x) (roundedEnd prog (compactCheckAt I)) (q .0)) in
+      let fits : roundedEnd prog (compactCheckAt I) ≤ length o =
+      rw long (ltb-false (length x) (roundedEnd prog (compactCheckAt I)) (q .0)) in
       let same : I ≡ is = cc in
       let sized : checkSize prog (compactCheckAt I) ≡ size = cc in
       record {
@@ -121,27 +133,42 @@ module _ (prog : ℕ) (some : 4 ≤ prog) (most : prog ≤ 512) (x o : List ℕ)
               made = loose-made (behindOf es) loose;
               hold = loose-hold (behindOf es) (length (dirOf es)) loose;
               still = loose-still (behindOf es) loose;
-              check = rw (le-leb 4 (checkSize prog (compactCheckAt I)) (k .0), le-leb (checkSize prog (compactCheckAt I)) 1_022 (k .1));
-              room = le-leb (tagLength (checkTag (checkSize prog (compactCheckAt I)))) (8 + (length o - (compactCheckAt I + checkLength)))
-                  (omega (arith, fits, k .2, k .0, of-length typeCheck noSlot (checkSize prog (compactCheckAt I)) (omega (arith, k .1))));
-              lucky = ap (λ (l : List Item). coincides (crc allOnes (toLe32 (plus32 (le32 x) 1))) allOnes l (checkTag (checkSize prog (compactCheckAt I)))) (sym (compaction-items es))
+              check = rw (
+                le-leb 4 (checkSize prog (compactCheckAt I)) (k .0),
+                le-leb (checkSize prog (compactCheckAt I)) 1_022 (k .1),
+              );
+              room = le-leb (tagLength (checkTag (checkSize prog (compactCheckAt I))))
+                  (8 + (length o - (compactCheckAt I + checkLength)))
+                  (omega (
+                    arith,
+                    fits,
+                    k .2,
+                    k .0,
+                    of-length typeCheck noSlot (checkSize prog (compactCheckAt I)) (omega
+                        (arith, k .1)),
+                  ));
+              lucky = ap (λ (l : List Item). coincides (crc allOnes (toLe32 (plus32 (le32 x) 1))) allOnes l
+                  (checkTag (checkSize prog (compactCheckAt I)))) (sym (compaction-items es))
                   ∙ r .0;
             });
       }
 
 -- ---- the verdict
-pub found-then : (prog : ℕ) (b0 b1 : List ℕ) (n0 : ℕ) (f : Fetched) (w : Bool) (rev : ℕ) (is : List Item) (size : ℕ) → compactFetched prog b0 b1 n0 f ≡ compactAccepted w rev is size
+pub found-then : (prog : ℕ) (b0 b1 : List ℕ) (n0 : ℕ) (f : Fetched) (w : Bool) (rev : ℕ) (is : List Item) (size : ℕ)
+    → compactFetched prog b0 b1 n0 f ≡ compactAccepted w rev is size
     → (m : LfsMdir) × (s : ℕ) × (f ≡ fetched.Found m s)
 found-then prog b0 b1 n0 (fetched.Refused r) w rev is size h = absurd (let z : _≡_ {A = ℕ} 0 1 = cc in omega arith)
 found-then prog b0 b1 n0 (fetched.Found m s) w rev is size h = (m, s, refl)
 
 -- an accepted compaction: the block x at place w answers and o, the other, is written
 pub record CompactsTo (g : Geometry) (b0 b1 : List ℕ) (w : Bool) (rev : ℕ) (is : List Item) (size : ℕ) : Type 0 where
-  pub answers : viewAt w (blockAt w b0 b1) (blockAt (not w) b0 b1) ≡ at w (le32 (blockAt w b0 b1)) (log (blockAt w b0 b1))
+  pub answers : viewAt w (blockAt w b0 b1) (blockAt (not w) b0 b1) ≡ at w (le32 (blockAt w b0 b1))
+      (log (blockAt w b0 b1))
   pub next : rev ≡ plus32 (le32 (blockAt w b0 b1)) 1
   pub items : is ≡ compactItems (dirOf (log (blockAt w b0 b1))) (behindOf (log (blockAt w b0 b1)))
   pub room : compactCheckAt is + checkLength ≤ length (blockAt (not w) b0 b1)
-  pub compacts : Compacts (blockAt w b0 b1) (le32 (blockAt w b0 b1)) (log (blockAt w b0 b1)) (behindOf (log (blockAt w b0 b1))) size
+  pub compacts : Compacts (blockAt w b0 b1) (le32 (blockAt w b0 b1)) (log (blockAt w b0 b1))
+      (behindOf (log (blockAt w b0 b1))) size
       (length (blockAt (not w) b0 b1) - (compactCheckAt is + checkLength))
 
 module _ (g : Geometry) (b0 b1 : List ℕ) (n0 n1 count seed : ℕ) (w : Bool) (rev : ℕ) (is : List Item) (size : ℕ)
@@ -152,13 +179,16 @@ module _ (g : Geometry) (b0 b1 : List ℕ) (n0 n1 count seed : ℕ) (w : Bool) (
       let f = found-then (g .«prog_size») b0 b1 n0 (fetchOf g b0 b1 n0 n1 count seed) w rev is size h in
       let z = found-sized g b0 b1 n0 n1 count seed (f .0) (f .1) (f .2) in
       let a = found-answers g b0 b1 n0 n1 count seed (f .0) (f .1) (f .2) in
-      let t : compactable (g .«prog_size») (a .w) (blockAt (a .w) b0 b1) (log (blockAt (a .w) b0 b1)) ≡ compactAccepted w rev is size =
+      let t : compactable (g .«prog_size») (a .w) (blockAt (a .w) b0 b1) (log (blockAt (a .w) b0 b1))
+      ≡ compactAccepted w rev is size =
       rw (f .2, a .place) at h in
       let same = lengths (a .w) z in
-      let p = placed (g .«prog_size») (z .prog .0) (z .prog .1) (blockAt (a .w) b0 b1) (blockAt (not (a .w)) b0 b1) same (a .w) w rev is size t in
+      let p = placed (g .«prog_size») (z .prog .0) (z .prog .1) (blockAt (a .w) b0 b1) (blockAt (not (a .w)) b0 b1) same
+      (a .w) w rev is size t in
       rw (← p .place)
       (record {
-        answers = a .answers ∙ ap (λ (v : ℕ). at (a .w) v (log (blockAt (a .w) b0 b1))) (view-rev (a .w) (blockAt (a .w) b0 b1) (blockAt (not (a .w)) b0 b1) (a .rev) _ (a .answers));
+        answers = a .answers ∙ ap (λ (v : ℕ). at (a .w) v (log (blockAt (a .w) b0 b1)))
+            (view-rev (a .w) (blockAt (a .w) b0 b1) (blockAt (not (a .w)) b0 b1) (a .rev) _ (a .answers));
         next = p .next;
         items = p .items;
         room = p .room;
@@ -186,13 +216,16 @@ module _ (g : Geometry) (b0 b1 : List ℕ) (n0 n1 count seed : ℕ) (w : Bool) (
   finishedLog = commitEvents (crc allOnes (toLe32 rev)) allOnes is (checkTag size)
 
   -- the images after n stores: only the block that did not answer is altered
-  pub compaction-written : (n : ℕ) → (blockAt (not w) (compactImages g b0 b1 n0 n1 count seed n .b0) (compactImages g b0 b1 n0 n1 count seed n .b1) ≡ compactedTo o rev is size n)
+  pub compaction-written : (n : ℕ)
+      → (blockAt (not w) (compactImages g b0 b1 n0 n1 count seed n .b0) (compactImages g b0 b1 n0 n1 count seed n .b1)
+      ≡ compactedTo o rev is size n)
       × (blockAt w (compactImages g b0 b1 n0 n1 count seed n .b0) (compactImages g b0 b1 n0 n1 count seed n .b1) ≡ x)
   unfolding compactImages
   compaction-written n = rw h (go w)
     where
       go : (v : Bool) → (let i : Images = compactImagesAfter n b0 b1 (compactAccepted v rev is size) in
-          (blockAt (not v) (i .b0) (i .b1) ≡ compactedTo (blockAt (not v) b0 b1) rev is size n) × (blockAt v (i .b0) (i .b1) ≡ blockAt v b0 b1))
+          (blockAt (not v) (i .b0) (i .b1) ≡ compactedTo (blockAt (not v) b0 b1) rev is size n)
+          × (blockAt v (i .b0) (i .b1) ≡ blockAt v b0 b1))
       go false = (refl, refl)
       go true = (refl, refl)
 
@@ -203,21 +236,36 @@ module _ (g : Geometry) (b0 b1 : List ℕ) (n0 n1 count seed : ℕ) (w : Bool) (
       let a = accepted-compaction in
       let good = compact-fits x (le32 x) (log x) (behindOf (log x)) size rest (a .compacts) .items in
       let sum : ℕ = crc allOnes (toLe32 rev) in
-      let n : length (commitBytes sum allOnes is (checkTag size)) ≡ entriesLength is + 8 = length-commit is sum allOnes (checkTag size) (rw (a .items) good) in
-      rw (length-append (toLe32 rev ++ commitBytes sum allOnes is (checkTag size)) (erased rest), length-append (toLe32 rev) (commitBytes sum allOnes is (checkTag size)), length-toLe32 rev, n, length-erased rest)
+      let n : length (commitBytes sum allOnes is (checkTag size)) ≡ entriesLength is + 8 =
+      length-commit is sum allOnes (checkTag size) (rw (a .items) good) in
+      rw (
+        length-append (toLe32 rev ++ commitBytes sum allOnes is (checkTag size)) (erased rest),
+        length-append (toLe32 rev) (commitBytes sum allOnes is (checkTag size)),
+        length-toLe32 rev,
+        n,
+        length-erased
+            rest,
+      )
       (omega (arith, a .room))
 
-  -- DEMAND 3: after n stores, the finished block or the old view; what the finished pair is, and that its directory is the old one
-  pub compaction-stopped : le32 x < 2 ^ 32 → (n : ℕ) → AfterCompact w x (le32 x) (log x) is (checkTag size) (compactedTo o rev is size n) finished
+  -- DEMAND 3: after n stores, the finished block or the old view; what the finished pair is, and that its directory is
+  -- the old one
+  pub compaction-stopped : le32 x < 2 ^ 32 → (n : ℕ)
+      → AfterCompact w x (le32 x) (log x) is (checkTag size) (compactedTo o rev is size n) finished
   compaction-stopped word n =
       let a = accepted-compaction in
       let k : ℕ = min n (compactStores is) in
       rw (a .next)
-      (subst (λ (l : List Item). AfterCompact w x (le32 x) (log x) l (checkTag size) (compacting o (plus32 (le32 x) 1) l (checkTag size) rest k) (compacted (plus32 (le32 x) 1) l (checkTag size) rest))
-      (sym (a .items)) (compact-stopped x (le32 x) (log x) (behindOf (log x)) size rest (a .compacts) w o (a .answers) word k))
+      (subst (λ (l : List Item). AfterCompact w x (le32 x) (log x) l (checkTag size)
+      (compacting o (plus32 (le32 x) 1) l (checkTag size) rest k)
+      (compacted (plus32 (le32 x) 1) l (checkTag size) rest))
+      (sym (a .items)) (compact-stopped x (le32 x) (log x) (behindOf (log x)) size rest (a .compacts) w o (a .answers)
+      word k))
 
   -- the finished record's tail, split mark and move state are the old ones
-  pub compaction-keeps : (tailOf noTail finishedLog ≡ tailOf noTail (log x)) × (splitOf false finishedLog ≡ splitOf false (log x)) × (moveOf option.none finishedLog ≡ moveOf option.none (log x))
+  pub compaction-keeps : (tailOf noTail finishedLog ≡ tailOf noTail (log x))
+      × (splitOf false finishedLog ≡ splitOf false (log x))
+      × (moveOf option.none finishedLog ≡ moveOf option.none (log x))
   compaction-keeps =
       let a = accepted-compaction in
       let es : List Event = log x in
@@ -225,5 +273,11 @@ module _ (g : Geometry) (b0 b1 : List ℕ) (n0 n1 count seed : ℕ) (w : Bool) (
       let ok : OkSlots (dirOf es) = slots-ok x regular in
       let few : length (dirOf es) ≤ mostSlots = slots-few x regular in
       let mv : MoveOk (moveOf option.none es) = regular-move x es refl regular in
-      let t = tail-kept (dirOf es) (splitOf false es) (tailOf noTail es) (moveOf option.none es) (crc allOnes (toLe32 rev)) allOnes (checkTag size) ok few mv in
-      rw (a .items) (t .0, t .1, move-kept (dirOf es) (splitOf false es) (tailOf noTail es) (moveOf option.none es) (crc allOnes (toLe32 rev)) allOnes (checkTag size) ok few mv)
+      let t = tail-kept (dirOf es) (splitOf false es) (tailOf noTail es) (moveOf option.none es)
+      (crc allOnes (toLe32 rev)) allOnes (checkTag size) ok few mv in
+      rw (a .items) (
+        t .0,
+        t .1,
+        move-kept (dirOf es) (splitOf false es) (tailOf noTail es) (moveOf option.none es) (crc
+            allOnes (toLe32 rev)) allOnes (checkTag size) ok few mv,
+      )

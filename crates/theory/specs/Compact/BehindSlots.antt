@@ -1,5 +1,6 @@
--- What compaction writes behind the slots: the tail "unless it is soft and both 0xffffffff", and the move state "if found". They pass their
--- rules, touch no slot, and read back as the tail, the split mark and the move state that they were made of. Assumes nothing.
+-- What compaction writes behind the slots: the tail "unless it is soft and both 0xffffffff", and the move state "if
+-- found". They pass their rules, touch no slot, and read back as the tail, the split mark and the move state that they
+-- were made of. Assumes nothing.
 use mathlib.Core.Path.{_≡_, refl, sym, ap, ap₂, _∙_}
 use mathlib.Core.Bool.{Bool, true, false, cond}
 use mathlib.Core.Option.{Option, none, some}
@@ -69,8 +70,13 @@ loose-item : (T : ℕ) (d : List ℕ) → 0x500 ≤ T → T < 2 ^ 11 → length 
 loose-item T d high low short rule =
     let is : tagType3 (tagOf T noSlot (length d)) ≡ T = of-type3 T noSlot (length d) low (omega arith) (omega arith) in
     record {
-      made = item-made T noSlot (length d) d (record { type′ = low; id′ = omega arith; size′ = omega arith }) (rw (ne-eqb (length d) removalSize (λ q. omega arith)));
-      hold = λ c. rw (is, of-id T noSlot (length d) (omega arith) (omega arith), of-size T noSlot (length d) (omega arith)) (rule c .0);
+      made = item-made T noSlot (length d) d (record { type′ = low; id′ = omega arith; size′ = omega arith })
+          (rw (ne-eqb (length d) removalSize (λ q. omega arith)));
+      hold = λ c. rw (
+        is,
+        of-id T noSlot (length d) (omega arith) (omega arith),
+        of-size T noSlot (length d) (omega arith),
+      ) (rule c .0);
       stays = λ c. rw is (rule c .1);
       still = act-high T noSlot (length d) d high low (omega arith) (omega arith);
     }
@@ -80,19 +86,23 @@ abbrev tailBody : LfsPair → List ℕ
 tailBody p = toLe32 (p .n0) ++ toLe32 (p .n1)
 
 tail-eight : (p : LfsPair) → length (tailBody p) ≡ 8
-tail-eight p = length-append (toLe32 (p .n0)) (toLe32 (p .n1)) ∙ ap₂ (λ (x y : ℕ). x + y) (length-toLe32 (p .n0)) (length-toLe32 (p .n1))
+tail-eight p = length-append (toLe32 (p .n0)) (toLe32 (p .n1)) ∙ ap₂ (λ (x y : ℕ). x + y) (length-toLe32 (p .n0))
+    (length-toLe32 (p .n1))
 
 loose-tail : (split : Bool) (p : LfsPair) → AllLoose (tailItems split p)
 unfolding ruleOf ruleHolds countAfter
 loose-tail split p = go (isNoTail split p) split
   where
     hard : Loose (record { tag = tagOf typeHardTail noSlot (length (tailBody p)); body = tailBody p })
-    hard = loose-item typeHardTail (tailBody p) (omega arith) (omega arith) (omega (arith, tail-eight p)) (λ c. (rw (tail-eight p), refl))
+    hard = loose-item typeHardTail (tailBody p) (omega arith) (omega arith) (omega (arith, tail-eight p))
+        (λ c. (rw (tail-eight p), refl))
 
     soft : Loose (record { tag = tagOf typeTail noSlot (length (tailBody p)); body = tailBody p })
-    soft = loose-item typeTail (tailBody p) (omega arith) (omega arith) (omega (arith, tail-eight p)) (λ c. (rw (tail-eight p), refl))
+    soft = loose-item typeTail (tailBody p) (omega arith) (omega arith) (omega (arith, tail-eight p))
+        (λ c. (rw (tail-eight p), refl))
 
-    go : (b s : Bool) → AllLoose (cond b [] (record { tag = tagOf (cond s typeHardTail typeTail) noSlot 8; body = tailBody p } ∷ []))
+    go : (b s : Bool) → AllLoose
+        (cond b [] (record { tag = tagOf (cond s typeHardTail typeTail) noSlot 8; body = tailBody p } ∷ []))
     go true s = tt
     go false true = (rw (tail-eight p) at hard, tt)
     go false false = (rw (tail-eight p) at soft, tt)
@@ -116,7 +126,8 @@ behind-loose split p v h = loose-app (tailItems split p) (moveItems v) (loose-ta
 tail-no-move : (split : Bool) (p : LfsPair) → NoMove (tailItems split p)
 tail-no-move split p = go (isNoTail split p) split
   where
-    go : (b s : Bool) → NoMove (cond b [] (record { tag = tagOf (cond s typeHardTail typeTail) noSlot 8; body = tailBody p } ∷ []))
+    go : (b s : Bool) → NoMove
+        (cond b [] (record { tag = tagOf (cond s typeHardTail typeTail) noSlot 8; body = tailBody p } ∷ []))
     go true s = tt
     go false true = (rw (of-type3 typeHardTail noSlot 8 (omega arith) (omega arith) (omega arith)), tt)
     go false false = (rw (of-type3 typeTail noSlot 8 (omega arith) (omega arith) (omega arith)), tt)
@@ -126,14 +137,16 @@ unfolding carried
 carried-is none = refl
 carried-is (some v) = refl
 
-module _ (D : List Slot) (split : Bool) (p : LfsPair) (v : Option Load) (sum prev ct : ℕ) (ok : OkSlots D) (few : length D ≤ mostSlots) (mv : MoveOk v) where
+module _ (D : List Slot) (split : Bool) (p : LfsPair) (v : Option Load) (sum prev ct : ℕ) (ok : OkSlots D)
+    (few : length D ≤ mostSlots) (mv : MoveOk v) where
   -- the log that a compaction leaves
   abbrev renewed : List Event
   renewed = commitEvents sum prev (compactItems D (behindItems split p v)) ct
 
   pub move-kept : moveOf none renewed ≡ v
   move-kept =
-      ap (λ (l : List Item). moveOf none (commitEvents sum prev (compactItems D (tailItems split p ++ l)) ct)) (sym (carried-is v))
+      ap (λ (l : List Item). moveOf none (commitEvents sum prev (compactItems D (tailItems split p ++ l)) ct))
+      (sym (carried-is v))
       ∙ compact-moves D (tailItems split p) v sum prev ct ok few (tail-no-move split p) mv
 
 -- ---- the tail and the split mark
@@ -141,7 +154,8 @@ abbrev NoTails : List Item → Type 0
 NoTails [] = Unit {0}
 NoTails (i ∷ is) = (isTail (i .tag) ≡ false) × NoTails is
 
-tails-stay : (is : List Item) (es : List Event) (s : Bool) (p : LfsPair) → NoTails is → (tailOf p (written is es) ≡ tailOf p es) × (splitOf s (written is es) ≡ splitOf s es)
+tails-stay : (is : List Item) (es : List Event) (s : Bool) (p : LfsPair) → NoTails is
+    → (tailOf p (written is es) ≡ tailOf p es) × (splitOf s (written is es) ≡ splitOf s es)
 unfolding tailOf splitOf written
 tails-stay [] es s p h = (refl, refl)
 tails-stay (i ∷ is) es s p h =
@@ -157,7 +171,8 @@ toItem-tail (rm j) h = absurd h
 toItem-tail (put j c (some v)) h =
     let low : v .type < 2 ^ 10 = type-low c (v .type) (h .1 .0) in
     let short : length (v .bytes) < removalSize = h .1 .1 in
-    rw (of-type1 (v .type) j (length (v .bytes)) (omega arith) (h .0) (omega arith)) (ne-eqb (v .type / 2 ^ 8 * 2 ^ 8) typeTail (λ q. omega arith))
+    rw (of-type1 (v .type) j (length (v .bytes)) (omega arith) (h .0) (omega arith))
+    (ne-eqb (v .type / 2 ^ 8 * 2 ^ 8) typeTail (λ q. omega arith))
 toItem-tail (put j c none) h = absurd h
 toItem-tail skip h = absurd h
 
@@ -175,40 +190,64 @@ move-no-tail (some v) h =
 pair-back : (p : LfsPair) → pairIn (tailBody p) ≡ p
 pair-back p =
     let second : le32 (drop 4 (tailBody p)) ≡ p .n1
-    = ap le32 (drop-at (toLe32 (p .n0)) (toLe32 (p .n1)) 4 (length-toLe32 (p .n0)) ∙ sym (append-nil (toLe32 (p .n1)))) ∙ le32-toLe32 (p .n1) [] in
+    = ap le32 (drop-at (toLe32 (p .n0)) (toLe32 (p .n1)) 4 (length-toLe32 (p .n0)) ∙ sym (append-nil (toLe32 (p .n1))))
+    ∙ le32-toLe32 (p .n1) [] in
     ap₂ (λ (x y : ℕ). record { n0 = x; n1 = y }) (le32-toLe32 (p .n0) (toLe32 (p .n1))) second
 
 soft-null : (split : Bool) (p : LfsPair) → isNoTail split p ≡ true → (noTail ≡ p) × (false ≡ split)
 soft-null true p h = (cc, cc)
 soft-null false p h =
-    let r = both-true (eqb (p .n0) allOnes) (eqb (p .n1) allOnes) h in
-    (ap₂ (λ (x y : ℕ). record { n0 = x; n1 = y }) (sym (eqb-true (p .n0) allOnes (r .0))) (sym (eqb-true (p .n1) allOnes (r .1))), refl)
+    let r = both-true (eqb (p .n0) allOnes) (eqb (p .n1) allOnes) h in (
+      ap₂ (λ (x y : ℕ). record { n0 = x; n1 = y }) (sym (eqb-true (p .n0) allOnes (r .0))) (sym
+          (eqb-true (p .n1) allOnes (r .1))),
+      refl,
+    )
 
 -- the tail's entry, or its absence, gives pair and split mark back
-tail-back : (split : Bool) (p : LfsPair) (es : List Event) → (tailOf noTail (written (tailItems split p) es) ≡ tailOf p es) × (splitOf false (written (tailItems split p) es) ≡ splitOf split es)
+tail-back : (split : Bool) (p : LfsPair) (es : List Event)
+    → (tailOf noTail (written (tailItems split p) es) ≡ tailOf p es)
+    × (splitOf false (written (tailItems split p) es) ≡ splitOf split es)
 unfolding tailOf splitOf written
 tail-back split p es = go (isNoTail split p) refl split refl
   where
     go : (b : Bool) → isNoTail split p ≡ b → (s : Bool) → split ≡ s
-        → (let l : List Item = cond b [] (record { tag = tagOf (cond s typeHardTail typeTail) noSlot 8; body = tailBody p } ∷ []) in
+        → (let l : List Item = cond b []
+        (record { tag = tagOf (cond s typeHardTail typeTail) noSlot 8; body = tailBody p } ∷ []) in
         (tailOf noTail (written l es) ≡ tailOf p es) × (splitOf false (written l es) ≡ splitOf s es))
     go true e s k =
         let n = soft-null split p e in
         (ap (λ (q : LfsPair). tailOf q es) (n .0), ap (λ (q : Bool). splitOf q es) (n .1 ∙ k))
     go false e true k =
-        rw (of-type1 typeHardTail noSlot 8 (omega arith) (omega arith) (omega arith), of-chunk typeHardTail noSlot 8 (omega arith) (omega arith))
+        rw (
+          of-type1 typeHardTail noSlot 8 (omega arith) (omega arith) (omega arith),
+          of-chunk typeHardTail noSlot 8 (omega arith) (omega arith),
+        )
         (ap (λ (q : LfsPair). tailOf q es) (pair-back p), refl)
     go false e false k =
-        rw (of-type1 typeTail noSlot 8 (omega arith) (omega arith) (omega arith), of-chunk typeTail noSlot 8 (omega arith) (omega arith))
+        rw (
+          of-type1 typeTail noSlot 8 (omega arith) (omega arith) (omega arith),
+          of-chunk typeTail noSlot 8 (omega arith) (omega arith),
+        )
         (ap (λ (q : LfsPair). tailOf q es) (pair-back p), refl)
 
-module _ (D : List Slot) (split : Bool) (p : LfsPair) (v : Option Load) (sum prev ct : ℕ) (ok : OkSlots D) (few : length D ≤ mostSlots) (mv : MoveOk v) where
-  pub tail-kept : (tailOf noTail (renewed D split p v sum prev ct ok few mv) ≡ p) × (splitOf false (renewed D split p v sum prev ct ok few mv) ≡ split)
+module _ (D : List Slot) (split : Bool) (p : LfsPair) (v : Option Load) (sum prev ct : ℕ) (ok : OkSlots D)
+    (few : length D ≤ mostSlots) (mv : MoveOk v) where
+  pub tail-kept : (tailOf noTail (renewed D split p v sum prev ct ok few mv) ≡ p)
+      × (splitOf false (renewed D split p v sum prev ct ok few mv) ≡ split)
   unfolding commitEvents compactItems tailOf splitOf
   tail-kept =
       let S : List Item = map toItem (reverse (rebuild 0 D [])) in
       let x : ℕ = commitSum sum prev (S ++ behindItems split p v) ct in
-      let a = tails-stay S (written (behindItems split p v) (chk ct x ∷ [])) false noTail (slots-no-tail (reverse (rebuild 0 D [])) (ok-rev (rebuild 0 D []) [] (rebuild-ok D 0 [] ok (omega arith) tt) tt)) in
+      let a = tails-stay S (written (behindItems split p v) (chk ct x ∷ [])) false noTail
+      (slots-no-tail (reverse (rebuild 0 D []))
+      (ok-rev (rebuild 0 D []) [] (rebuild-ok D 0 [] ok (omega arith) tt) tt)) in
       let b = tail-back split p (written (moveItems v) (chk ct x ∷ [])) in
       let c = tails-stay (moveItems v) (chk ct x ∷ []) split p (move-no-tail v mv) in
-      rw (written-app S (behindItems split p v) (chk ct x ∷ []), a .0, a .1, written-app (tailItems split p) (moveItems v) (chk ct x ∷ []), b .0, b .1) c
+      rw (
+        written-app S (behindItems split p v) (chk ct x ∷ []),
+        a .0,
+        a .1,
+        written-app (tailItems split p) (moveItems v) (chk ct x ∷ []),
+        b .0,
+        b .1,
+      ) c

@@ -1,4 +1,5 @@
--- Compaction's entries as `format` lists them, forwards, are the theory's: a directory's acts, newest first, turned round. Assumes nothing.
+-- Compaction's entries as `format` lists them, forwards, are the theory's: a directory's acts, newest first, turned
+-- round. Assumes nothing.
 use mathlib.Core.Path.{_≡_, refl, sym, ap, _∙_}
 use mathlib.Core.Option.{Option, none, some}
 use mathlib.Core.List.{List, [], _∷_, _++_, append-assoc, append-nil, map, reverse, reverse-cons}
@@ -18,7 +19,8 @@ unfolding slotItems
 slot-more zero c id s = rw (add-zero c) (append-nil (classItems id (s c)))
 slot-more (suc n) c id s =
     let e : suc c + n ≡ c + suc n = omega arith in
-    ap (λ (l : List Item). classItems id (s c) ++ l) (slot-more n (suc c) id s ∙ ap (λ (k : ℕ). slotItems n (suc c) id s ++ classItems id (s k)) e)
+    ap (λ (l : List Item). classItems id (s c) ++ l) (slot-more n (suc c) id s
+    ∙ ap (λ (k : ℕ). slotItems n (suc c) id s ++ classItems id (s k)) e)
     ∙ sym (append-assoc (classItems id (s c)) (slotItems n (suc c) id s) (classItems id (s (c + suc n))))
 
 -- ---- acts, newest first, as entries, oldest first
@@ -43,14 +45,16 @@ turned-slot zero id s l = sym (append-nil (turned l))
 turned-slot (suc n) id s l =
     turned-emit id n (s n) (puts n id s l) ∙ ap (λ (z : List Item). z ++ classItems id (s n)) (turned-slot n id s l)
     ∙ append-assoc (turned l) (slotItems n 0 id s) (classItems id (s n))
-    ∙ ap (λ (z : List Item). turned l ++ z) (sym (slot-more n 0 id s ∙ ap (λ (k : ℕ). slotItems n 0 id s ++ classItems id (s k)) (zero-add n)))
+    ∙ ap (λ (z : List Item). turned l ++ z)
+    (sym (slot-more n 0 id s ∙ ap (λ (k : ℕ). slotItems n 0 id s ++ classItems id (s k)) (zero-add n)))
 
 turned-dir : (D : List Slot) (id : ℕ) (l : List Act) → turned (rebuild id D l) ≡ turned l ++ dirItems id D
 unfolding rebuild dirItems toItem
 turned-dir [] id l = sym (append-nil (turned l))
 turned-dir (s ∷ D) id l =
     turned-dir D (suc id) (puts classes id s (mk id ∷ l))
-    ∙ ap (λ (z : List Item). z ++ dirItems (suc id) D) (turned-slot classes id s (mk id ∷ l) ∙ ap (λ (z : List Item). z ++ slotItems classes 0 id s) (turned-more (mk id) l))
+    ∙ ap (λ (z : List Item). z ++ dirItems (suc id) D) (turned-slot classes id s (mk id ∷ l)
+    ∙ ap (λ (z : List Item). z ++ slotItems classes 0 id s) (turned-more (mk id) l))
     ∙ rearranged (turned l) (toItem (mk id)) (slotItems classes 0 id s) (dirItems (suc id) D)
   where
     rearranged : (x : List Item) (i : Item) (y z : List Item) → ((x ++ (i ∷ [])) ++ y) ++ z ≡ x ++ ((i ∷ y) ++ z)

@@ -1,4 +1,5 @@
--- Compaction carries the move state over: the entry that it writes behind the slots is the old one, and no other is. Assumes nothing.
+-- Compaction carries the move state over: the entry that it writes behind the slots is the old one, and no other is.
+-- Assumes nothing.
 use mathlib.Core.Path.{_≡_, refl, ap, _∙_}
 use mathlib.Core.Logic.{inr}
 use mathlib.Core.Bool.{Bool, true, false, cond}
@@ -33,11 +34,13 @@ abbrev pub MoveOk : Option Load → Type 0
 MoveOk none = Unit {0}
 MoveOk (some v) = (v .type ≡ typeMove) × (length (v .bytes) ≡ 12)
 
-move-rule : (c t : ℕ) → tagType3 t ≡ typeMove → ruleHolds (ruleOf true (tagType3 t)) c (tagId t) (tagSize t) ≡ true → tagSize t ≡ 12
+move-rule : (c t : ℕ) → tagType3 t ≡ typeMove → ruleHolds (ruleOf true (tagType3 t)) c (tagId t) (tagSize t) ≡ true
+    → tagSize t ≡ 12
 unfolding ruleOf ruleHolds
 move-rule c t is h = eqb-true (tagSize t) 12 (both-true (eqb (tagId t) noSlot) (eqb (tagSize t) 12) (rw is at h) .1)
 
-moves-ok : (es : List Event) (c : ℕ) (v : Option Load) → Stands es → regularFrom c es ≡ true → MoveOk v → MoveOk (moveOf v es)
+moves-ok : (es : List Event) (c : ℕ) (v : Option Load) → Stands es → regularFrom c es ≡ true → MoveOk v
+    → MoveOk (moveOf v es)
 unfolding regularFrom moveOf bodyLength
 moves-ok [] c v st h ok = ok
 moves-ok (ent t d ∷ es) c v st h ok =
@@ -45,7 +48,8 @@ moves-ok (ent t d ∷ es) c v st h ok =
     let r = both-true (ruleHolds R c (tagId t) (tagSize t)) (regularFrom (countAfter R c) es) h in
     moves-ok es (countAfter R c) (cond (isMove t) (loadOf t d) v) (st .1) (r .1) (go (isMove t) refl (st .0 .1) (r .0))
   where
-    go : (b : Bool) → isMove t ≡ b → length d ≡ bodyLength t → ruleHolds (ruleOf true (tagType3 t)) c (tagId t) (tagSize t) ≡ true → MoveOk (cond b (loadOf t d) v)
+    go : (b : Bool) → isMove t ≡ b → length d ≡ bodyLength t
+        → ruleHolds (ruleOf true (tagType3 t)) c (tagId t) (tagSize t) ≡ true → MoveOk (cond b (loadOf t d) v)
     go false e n k = ok
     go true e n k =
         let is : tagType3 t ≡ typeMove = eqb-true (tagType3 t) typeMove e in
@@ -70,7 +74,8 @@ toItem-move (rm j) h = absurd h
 toItem-move (put j c (some v)) h =
     let low : v .type < 2 ^ 10 = type-low c (v .type) (h .1 .0) in
     let short : length (v .bytes) < removalSize = h .1 .1 in
-    rw (of-type3 (v .type) j (length (v .bytes)) (omega arith) (h .0) (omega arith)) (ne-eqb (v .type) typeMove (λ q. omega arith))
+    rw (of-type3 (v .type) j (length (v .bytes)) (omega arith) (h .0) (omega arith))
+    (ne-eqb (v .type) typeMove (λ q. omega arith))
 toItem-move (put j c none) h = absurd h
 toItem-move skip h = absurd h
 
@@ -86,7 +91,8 @@ slots-no-move (a ∷ l) ok = (toItem-move a (ok .0), slots-no-move l (ok .1))
 move-stays : (is : List Item) (es : List Event) (v : Option Load) → NoMove is → moveOf v (written is es) ≡ moveOf v es
 unfolding moveOf written
 move-stays [] es v h = refl
-move-stays (i ∷ is) es v h = ap (λ (b : Bool). moveOf (cond b (loadOf (i .tag) (i .body)) v) (written is es)) (h .0) ∙ move-stays is es v (h .1)
+move-stays (i ∷ is) es v h = ap (λ (b : Bool). moveOf (cond b (loadOf (i .tag) (i .body)) v) (written is es)) (h .0)
+    ∙ move-stays is es v (h .1)
 
 -- ---- the entry that carries the move state
 unfoldable pub carried : Option Load → List Item
@@ -99,16 +105,26 @@ carried-move none t x ok = refl
 carried-move (some v) t x ok =
     let is : v .type ≡ typeMove = ok .0 in
     let n : length (v .bytes) ≡ 12 = ok .1 in
-    rw (of-type3 (v .type) noSlot (length (v .bytes)) (omega arith) (omega arith) (omega arith), of-size (v .type) noSlot (length (v .bytes)) (omega arith), eq-eqb (v .type) typeMove is, ne-eqb (length (v .bytes)) removalSize (λ q. omega arith)) refl
+    rw (
+      of-type3 (v .type) noSlot (length (v .bytes)) (omega arith) (omega arith) (omega arith),
+      of-size (v .type) noSlot (length (v .bytes)) (omega arith),
+      eq-eqb (v .type) typeMove is,
+      ne-eqb
+          (length (v .bytes)) removalSize (λ q. omega arith),
+    ) refl
 
 -- so the compacted log's move state is the old one
-pub compact-moves : (D : List Slot) (ts : List Item) (v : Option Load) (sum p ct : ℕ) → OkSlots D → length D ≤ mostSlots → NoMove ts → MoveOk v
+pub compact-moves : (D : List Slot) (ts : List Item) (v : Option Load) (sum p ct : ℕ) → OkSlots D → length D ≤ mostSlots
+    → NoMove ts → MoveOk v
     → moveOf none (commitEvents sum p (compactItems D (ts ++ carried v)) ct) ≡ v
 unfolding commitEvents compactItems
 compact-moves D ts v sum p ct ok few still mv =
     let R : List Act = rebuild 0 D [] in
     let x : ℕ = commitSum sum p (map toItem (reverse R) ++ (ts ++ carried v)) ct in
-    rw (written-app (map toItem (reverse R)) (ts ++ carried v) (chk ct x ∷ []), written-app ts (carried v) (chk ct x ∷ []))
+    rw (
+      written-app (map toItem (reverse R)) (ts ++ carried v) (chk ct x ∷ []),
+      written-app ts (carried v) (chk ct x ∷ []),
+    )
     (move-stays (map toItem (reverse R)) (written ts (written (carried v) (chk ct x ∷ []))) none
     (slots-no-move (reverse R) (ok-rev R [] (rebuild-ok D 0 [] ok (omega arith) tt) tt))
     ∙ move-stays ts (written (carried v) (chk ct x ∷ [])) none still ∙ carried-move v ct x mv)

@@ -10,7 +10,8 @@ use borrow.Author.Tests.{lt-ltb, le-leb}
 use Rattle.format.specs.Tag.{tagType3, tagId, tagSize, removalSize}
 use Rattle.format.specs.Kind.{typeSplice, typeCreate}
 use Rattle.format.specs.Walk.{Event, ent, chk}
-use Rattle.format.specs.Regular.{Rule, ruleOf, between, ruleHolds, countAfter, regularFrom, Regular, create, delete, name, inlined, eight, attribute, tail, move, forward, bad}
+use Rattle.format.specs.Regular.{Rule, ruleOf, between, ruleHolds, countAfter, regularFrom, Regular, create, delete}
+use Rattle.format.specs.Regular.{name, inlined, eight, attribute, tail, move, forward, bad}
 use Rattle.format.specs.Commit.{Item, commitSum, written, itemsHold}
 use Rattle.format.specs.Directory.{Act, Slot, mk, rm, put, skip, dir, apply, Load, classes}
 use Rattle.format.proofs.Tags.{of-type3, of-id, of-size}
@@ -45,12 +46,20 @@ slot-rule bad type size n j s low h k = absurd (let z : _≡_ {A = ℕ} 0 1 = cc
 -- ---- the item of an act that compaction writes passes its rule
 abbrev Passes : ℕ → Item → ℕ → Type 0
 Passes n i m =
-    (ruleHolds (ruleOf true (tagType3 (i .tag))) n (tagId (i .tag)) (tagSize (i .tag)) ≡ true) × (countAfter (ruleOf true (tagType3 (i .tag))) n ≡ m)
+    (ruleHolds (ruleOf true (tagType3 (i .tag))) n (tagId (i .tag)) (tagSize (i .tag)) ≡ true)
+    × (countAfter (ruleOf true (tagType3 (i .tag))) n ≡ m)
 
-act-passes : (a : Act) (n : ℕ) → OkAct a → Allowed a n → slotsAfter n a ≤ mostSlots → Passes n (toItem a) (slotsAfter n a)
+act-passes : (a : Act) (n : ℕ) → OkAct a → Allowed a n → slotsAfter n a ≤ mostSlots
+    → Passes n (toItem a) (slotsAfter n a)
 unfolding toItem slotsAfter ruleOf ruleHolds countAfter
 act-passes (mk j) n h al few =
-    rw (of-type3 typeCreate j 0 (omega arith) h (omega arith), of-id typeCreate j 0 h (omega arith), of-size typeCreate j 0 (omega arith), le-leb j n al, le-leb n 1_022 (omega arith)) (refl, refl)
+    rw (
+      of-type3 typeCreate j 0 (omega arith) h (omega arith),
+      of-id typeCreate j 0 h (omega arith),
+      of-size typeCreate j 0 (omega arith),
+      le-leb j n al,
+      le-leb n 1_022 (omega arith),
+    ) (refl, refl)
 act-passes (rm j) n h al few = absurd h
 act-passes (put j c (some v)) n h al few =
     let low : v .type < 2 ^ 10 = type-low c (v .type) (h .1 .0) in
@@ -64,7 +73,8 @@ act-passes (put j c (some v)) n h al few =
 act-passes (put j c none) n h al few = absurd h
 act-passes skip n h al few = absurd h
 
-acts-pass : (l : List Act) (n : ℕ) (more : List Event) → AllOk l → AllowedFrom n l → FewFrom n l → regularFrom (slotsAfterAll n l) more ≡ true
+acts-pass : (l : List Act) (n : ℕ) (more : List Event) → AllOk l → AllowedFrom n l → FewFrom n l
+    → regularFrom (slotsAfterAll n l) more ≡ true
     → regularFrom n (written (map toItem l) more) ≡ true
 unfolding regularFrom written slotsAfterAll
 acts-pass [] n more ok al few k = k
@@ -73,8 +83,10 @@ acts-pass (a ∷ l) n more ok al few k =
     rw (p .0, p .1) (acts-pass l (slotsAfter n a) more (ok .1) (al .1) (few .1) k)
 
 -- ---- what holds newest first holds oldest first
-newest-from : (l r : List Act) → AllAllowed (reverseAux l r) → FewBack (reverseAux l r) → length (dir (reverseAux l r)) ≤ mostSlots
-    → (AllAllowed r × FewBack r × (length (dir r) ≤ mostSlots)) × AllowedFrom (length (dir r)) l × FewFrom (length (dir r)) l
+newest-from : (l r : List Act) → AllAllowed (reverseAux l r) → FewBack (reverseAux l r)
+    → length (dir (reverseAux l r)) ≤ mostSlots
+    → (AllAllowed r × FewBack r × (length (dir r) ≤ mostSlots)) × AllowedFrom (length (dir r)) l
+    × FewFrom (length (dir r)) l
 unfolding dir
 newest-from [] r al few n = ((al, few, n), tt, tt)
 newest-from (a ∷ l) r al few n =
@@ -102,7 +114,8 @@ puts-allowed (suc n) i s l h few r k = go (s n) (puts-allowed n i s l h few r k)
     go none q = q
     go (some v) q = ((omega (arith, length-puts n i s l h), q .0), (omega (arith, length-puts n i s l h), q .1))
 
-rebuild-allowed : (D : List Slot) (i : ℕ) (l : List Act) → length (dir l) ≡ i → i + length D ≤ mostSlots → AllAllowed l → FewBack l → AllAllowed (rebuild i D l) × FewBack (rebuild i D l)
+rebuild-allowed : (D : List Slot) (i : ℕ) (l : List Act) → length (dir l) ≡ i → i + length D ≤ mostSlots → AllAllowed l
+    → FewBack l → AllAllowed (rebuild i D l) × FewBack (rebuild i D l)
 unfolding rebuild
 rebuild-allowed [] i l h few r k = (r, k)
 rebuild-allowed (s ∷ D) i l h few r k =
@@ -110,7 +123,8 @@ rebuild-allowed (s ∷ D) i l h few r k =
     rebuild-allowed D (suc i) (puts classes i s (mk i ∷ l)) (length-puts classes i s l h) (omega arith) (q .0) (q .1)
 
 -- ---- the compacted log
-pub compact-regular : (D : List Slot) (ts : List Item) (sum p ct : ℕ) → OkSlots D → length D ≤ mostSlots → itemsHold (length D) ts ≡ true
+pub compact-regular : (D : List Slot) (ts : List Item) (sum p ct : ℕ) → OkSlots D → length D ≤ mostSlots
+    → itemsHold (length D) ts ≡ true
     → between 4 1_022 (tagSize ct) ≡ true → Regular (commitEvents sum p (compactItems D ts) ct) ≡ true
 unfolding Regular commitEvents compactItems dir
 compact-regular D ts sum p ct ok few hold c =
@@ -120,7 +134,9 @@ compact-regular D ts sum p ct ok few hold c =
     let is : dir R ≡ D = rebuilt D (all-held D ok) in
     let al = rebuild-allowed D 0 [] refl (omega arith) tt tt in
     let f = newest-from (reverse R) [] (rw back (al .0)) (rw back (al .1)) (rw (back, is) few) in
-    let n : slotsAfterAll 0 (reverse R) ≡ length D = sym (slots-all (reverse R) [] (f .1)) ∙ ap length (sym (dir-rev (reverse R) []) ∙ ap dir back ∙ is) in
+    let n : slotsAfterAll 0 (reverse R) ≡ length D = sym (slots-all (reverse R) [] (f .1))
+    ∙ ap length (sym (dir-rev (reverse R) []) ∙ ap dir back ∙ is) in
     rw (written-app (map toItem (reverse R)) ts (chk ct x ∷ []))
-    (acts-pass (reverse R) 0 (written ts (chk ct x ∷ [])) (ok-rev R [] (rebuild-ok D 0 [] ok (omega arith) tt) tt) (f .1) (f .2)
+    (acts-pass (reverse R) 0 (written ts (chk ct x ∷ [])) (ok-rev R [] (rebuild-ok D 0 [] ok (omega arith) tt) tt)
+    (f .1) (f .2)
     (rw n (items-regular ts (length D) ct x hold c)))

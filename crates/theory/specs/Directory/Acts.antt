@@ -23,4 +23,5 @@ acts-app (inv ∷ es) more = acts-app es more
 
 pub dirOf-app : (es more : List Event) → dirOf (es ++ more) ≡ applyAll (dirOf es) (acts more)
 unfolding dirOf dir
-dirOf-app es more = rw (acts-app es more, dir-rev (acts es ++ acts more) [], dir-rev (acts es) []) (applyAll-app (dir []) (acts es) (acts more))
+dirOf-app es more = rw (acts-app es more, dir-rev (acts es ++ acts more) [], dir-rev (acts es) [])
+    (applyAll-app (dir []) (acts es) (acts more))

@@ -1,4 +1,5 @@
--- The directory machine, "slots inserted, removed, attributes set", and the search back through what was done to it: they agree. Assumes nothing.
+-- The directory machine, "slots inserted, removed, attributes set", and the search back through what was done to it:
+-- they agree. Assumes nothing.
 use Rattle.format.specs.Directory.{Act, Load, Slot, apply, dir, empty, mk, put, rm, skip, upd}
 use mathlib.Core.Path.{_≡_, refl, sym, ap, _∙_}
 use mathlib.Core.Logic.{_≢_}
@@ -36,7 +37,8 @@ find c i (skip ∷ l) = find c i l
 
 -- ---- inserting and removing
 module _ {A : Type 0} where
-  ins-before : (D : List A) (j i : ℕ) (x d : A) → j ≤ length D → i < j → getD (take j D ++ x ∷ drop j D) i d ≡ getD D i d
+  ins-before : (D : List A) (j i : ℕ) (x d : A) → j ≤ length D → i < j
+      → getD (take j D ++ x ∷ drop j D) i d ≡ getD D i d
   ins-before D j i x d h k =
       List·getD-append (take j D) (x ∷ drop j D) d i (omega (arith, length-take-le j D h)) ∙ getD-take j D i d k
 
@@ -45,18 +47,23 @@ module _ {A : Type 0} where
       let e : length (take j D) + 0 ≡ j = omega (arith, length-take-le j D h) in
       ap (λ n. getD (take j D ++ x ∷ drop j D) n d) (sym e) ∙ getD-append-add (take j D) (x ∷ drop j D) 0 d
 
-  ins-after : (D : List A) (j i : ℕ) (x d : A) → j ≤ length D → j < i → getD (take j D ++ x ∷ drop j D) i d ≡ getD D (i - 1) d
+  ins-after : (D : List A) (j i : ℕ) (x d : A) → j ≤ length D → j < i
+      → getD (take j D ++ x ∷ drop j D) i d ≡ getD D (i - 1) d
   ins-after D j i x d h k =
       let e : length (take j D) + suc (i - 1 - j) ≡ i = omega (arith, length-take-le j D h) in
       let f : j + (i - 1 - j) ≡ i - 1 = omega arith in
-      ap (λ n. getD (take j D ++ x ∷ drop j D) n d) (sym e) ∙ getD-append-add (take j D) (x ∷ drop j D) (suc (i - 1 - j)) d
+      ap (λ n. getD (take j D ++ x ∷ drop j D) n d) (sym e) ∙ getD-append-add (take j D) (x ∷ drop j D)
+      (suc (i - 1 - j)) d
       ∙ getD-drop j D (i - 1 - j) d ∙ ap (λ n. getD D n d) f
 
-  del-before : (D : List A) (j i : ℕ) (d : A) → j < length D → i < j → getD (take j D ++ drop (suc j) D) i d ≡ getD D i d
+  del-before : (D : List A) (j i : ℕ) (d : A) → j < length D → i < j
+      → getD (take j D ++ drop (suc j) D) i d ≡ getD D i d
   del-before D j i d h k =
-      List·getD-append (take j D) (drop (suc j) D) d i (omega (arith, length-take-le j D (omega arith))) ∙ getD-take j D i d k
+      List·getD-append (take j D) (drop (suc j) D) d i (omega (arith, length-take-le j D (omega arith)))
+      ∙ getD-take j D i d k
 
-  del-after : (D : List A) (j i : ℕ) (d : A) → j < length D → j ≤ i → getD (take j D ++ drop (suc j) D) i d ≡ getD D (i + 1) d
+  del-after : (D : List A) (j i : ℕ) (d : A) → j < length D → j ≤ i
+      → getD (take j D ++ drop (suc j) D) i d ≡ getD D (i + 1) d
   del-after D j i d h k =
       let e : length (take j D) + (i - j) ≡ i = omega (arith, length-take-le j D (omega arith)) in
       let f : suc j + (i - j) ≡ i + 1 = omega arith in
@@ -64,10 +71,12 @@ module _ {A : Type 0} where
       ∙ getD-drop (suc j) D (i - j) d ∙ ap (λ n. getD D n d) f
 
   pub length-ins : (D : List A) (j : ℕ) (x : A) → j ≤ length D → length (take j D ++ x ∷ drop j D) ≡ suc (length D)
-  length-ins D j x h = rw (length-append (take j D) (x ∷ drop j D)) (omega (arith, length-take-le j D h, length-drop j D))
+  length-ins D j x h = rw (length-append (take j D) (x ∷ drop j D))
+      (omega (arith, length-take-le j D h, length-drop j D))
 
   pub length-del : (D : List A) (j : ℕ) → j < length D → length (take j D ++ drop (suc j) D) ≡ length D - 1
-  length-del D j h = rw (length-append (take j D) (drop (suc j) D)) (omega (arith, length-take-le j D (omega arith), length-drop (suc j) D))
+  length-del D j h = rw (length-append (take j D) (drop (suc j) D))
+      (omega (arith, length-take-le j D (omega arith), length-drop (suc j) D))
 
 -- the search answers what the machine holds
 pub find-dir : (l : List Act) (c i : ℕ) → AllAllowed l → i < length (dir l) → find c i l ≡ getD (dir l) i empty c
@@ -82,7 +91,8 @@ find-dir (mk j ∷ l) c i r h = go (leb j i) refl (eqb j i) refl (λ k q. find-d
     len = length-ins D j empty (r .0)
 
     go : (b : Bool) → leb j i ≡ b → (e : Bool) → eqb j i ≡ e → ((k : ℕ) → k < length D → find c k l ≡ getD D k empty c)
-        → cond b (cond {A = Option Load} e none (find c (i - 1) l)) (find c i l) ≡ getD (take j D ++ empty ∷ drop j D) i empty c
+        → cond b (cond {A = Option Load} e none (find c (i - 1) l)) (find c i l)
+        ≡ getD (take j D ++ empty ∷ drop j D) i empty c
     go false b e q ih =
         let k : i < j = leb-false j i b in
         ih i (omega (arith, r .0)) ∙ sym (ap (λ s. s c) (ins-before D j i empty empty (r .0) k))
@@ -105,12 +115,14 @@ find-dir (rm j ∷ l) c i r h = go (leb j i) refl (λ k q. find-dir l c k (r .1)
         → cond b (find c (i + 1) l) (find c i l) ≡ getD (take j D ++ drop (suc j) D) i empty c
     go false b ih = ih i (omega (arith, len)) ∙ sym (ap (λ s. s c) (del-before D j i empty (r .0) (leb-false j i b)))
     go true b ih = ih (i + 1) (omega (arith, len)) ∙ sym (ap (λ s. s c) (del-after D j i empty (r .0) (leb-true j i b)))
-find-dir (put j k v ∷ l) c i r h = go (eqb j i) refl (find-dir l c i (r .1) (omega (arith, length-set (dir l) j (upd (getD (dir l) j empty) k v))))
+find-dir (put j k v ∷ l) c i r h =
+    go (eqb j i) refl (find-dir l c i (r .1) (omega (arith, length-set (dir l) j (upd (getD (dir l) j empty) k v))))
   where
     D : List Slot
     D = dir l
 
-    go : (e : Bool) → eqb j i ≡ e → find c i l ≡ getD D i empty c → cond (e && eqb c k) v (find c i l) ≡ getD (set D j (upd (getD D j empty) k v)) i empty c
+    go : (e : Bool) → eqb j i ≡ e → find c i l ≡ getD D i empty c
+        → cond (e && eqb c k) v (find c i l) ≡ getD (set D j (upd (getD D j empty) k v)) i empty c
     go true e ih = rw (← eqb-true j i e, getD-set-same D j (upd (getD D j empty) k v) empty (r .0)) (fin (eqb c k))
       where
         fin : (b : Bool) → cond b v (find c j l) ≡ cond b v (getD D j empty c)

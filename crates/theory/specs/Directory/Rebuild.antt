@@ -43,7 +43,8 @@ upTo-suc : (n : ℕ) (s : Slot) (v : Option Load) → s n ≡ v → upd (upTo n 
 unfolding upd upTo
 upTo-suc n s v h = fun-ext (λ c. go c (eqb c n) refl (ltb c n) refl)
   where
-    go : (c : ℕ) (e : Bool) → eqb c n ≡ e → (b : Bool) → ltb c n ≡ b → cond e v (cond b (s c) none) ≡ cond (ltb c (suc n)) (s c) none
+    go : (c : ℕ) (e : Bool) → eqb c n ≡ e → (b : Bool) → ltb c n ≡ b
+        → cond e v (cond b (s c) none) ≡ cond (ltb c (suc n)) (s c) none
     go c true e b f = rw (lt-ltb c (suc n) (omega (arith, eqb-true c n e))) (sym h ∙ ap s (sym (eqb-true c n e)))
     go c false e true f = rw (lt-ltb c (suc n) (omega (arith, ltb-true c n f)))
     go c false e false f =
@@ -54,8 +55,13 @@ upTo-none : (n : ℕ) (s : Slot) → s n ≡ none → upTo n s ≡ upTo (suc n) 
 unfolding upTo
 upTo-none n s h = fun-ext (λ c. go c (eqb c n) refl (ltb c n) refl)
   where
-    go : (c : ℕ) (e : Bool) → eqb c n ≡ e → (b : Bool) → ltb c n ≡ b → cond b (s c) none ≡ cond (ltb c (suc n)) (s c) none
-    go c true e b f = rw (← f, le-ltb c n (omega (arith, eqb-true c n e)), lt-ltb c (suc n) (omega (arith, eqb-true c n e))) (sym h ∙ ap s (sym (eqb-true c n e)))
+    go : (c : ℕ) (e : Bool) → eqb c n ≡ e → (b : Bool) → ltb c n ≡ b
+        → cond b (s c) none ≡ cond (ltb c (suc n)) (s c) none
+    go c true e b f = rw (
+      ← f,
+      le-ltb c n (omega (arith, eqb-true c n e)),
+      lt-ltb c (suc n) (omega (arith, eqb-true c n e)),
+    ) (sym h ∙ ap s (sym (eqb-true c n e)))
     go c false e true f = rw (lt-ltb c (suc n) (omega (arith, ltb-true c n f)))
     go c false e false f =
         let d : c ≢ n = eqb-false c n e in
@@ -69,21 +75,34 @@ upTo-all s h = fun-ext (λ c. go c (ltb c classes) refl)
     go c true e = refl
     go c false e = sym (h c (ltb-false c classes e))
 
-pub puts-dir : (n i : ℕ) (s : Slot) (l : List Act) → length (dir l) ≡ i → dir (puts n i s (mk i ∷ l)) ≡ dir l ++ (upTo n s ∷ [])
+pub puts-dir : (n i : ℕ) (s : Slot) (l : List Act) → length (dir l) ≡ i
+    → dir (puts n i s (mk i ∷ l)) ≡ dir l ++ (upTo n s ∷ [])
 unfolding puts dir apply
-puts-dir zero i s l h = rw (take-all i (dir l) (omega arith), drop-of-length-le (dir l) {i = i} (omega arith), upTo-zero s)
+puts-dir zero i s l h = rw (
+  take-all i (dir l) (omega arith),
+  drop-of-length-le (dir l) {i = i} (omega arith),
+  upTo-zero s,
+)
 puts-dir (suc n) i s l h = go (s n) refl (puts-dir n i s l h)
   where
-    go : (v : Option Load) → s n ≡ v → dir (puts n i s (mk i ∷ l)) ≡ dir l ++ (upTo n s ∷ []) → dir (emit i n v (puts n i s (mk i ∷ l))) ≡ dir l ++ (upTo (suc n) s ∷ [])
+    go : (v : Option Load) → s n ≡ v → dir (puts n i s (mk i ∷ l)) ≡ dir l ++ (upTo n s ∷ [])
+        → dir (emit i n v (puts n i s (mk i ∷ l))) ≡ dir l ++ (upTo (suc n) s ∷ [])
     go none e ih = ih ∙ ap (λ z. dir l ++ (z ∷ [])) (upTo-none n s e)
     go (some v) e ih =
-        rw (ih, getD-at (dir l) (upTo n s) [] empty i h, set-at (dir l) (upTo n s) [] (upd (upTo n s) n (some v)) i h, upTo-suc n s (some v) e)
+        rw (
+          ih,
+          getD-at (dir l) (upTo n s) [] empty i h,
+          set-at (dir l) (upTo n s) [] (upd (upTo n s) n (some v)) i h,
+          upTo-suc n s (some v) e,
+        )
 
-pub rebuild-dir : (D : List Slot) (i : ℕ) (l : List Act) → AllHeld D → length (dir l) ≡ i → dir (rebuild i D l) ≡ dir l ++ D
+pub rebuild-dir : (D : List Slot) (i : ℕ) (l : List Act) → AllHeld D → length (dir l) ≡ i
+    → dir (rebuild i D l) ≡ dir l ++ D
 unfolding rebuild
 rebuild-dir [] i l a h = sym (append-nil (dir l))
 rebuild-dir (s ∷ D) i l a h =
-    let e : dir (puts classes i s (mk i ∷ l)) ≡ dir l ++ (s ∷ []) = puts-dir classes i s l h ∙ ap (λ z. dir l ++ (z ∷ [])) (upTo-all s (a .0)) in
+    let e : dir (puts classes i s (mk i ∷ l)) ≡ dir l ++ (s ∷ []) = puts-dir classes i s l h
+    ∙ ap (λ z. dir l ++ (z ∷ [])) (upTo-all s (a .0)) in
     let n : length (dir (puts classes i s (mk i ∷ l))) ≡ suc i = rw e (length-append (dir l) (s ∷ []) ∙ omega arith) in
     rebuild-dir D (suc i) (puts classes i s (mk i ∷ l)) (a .1) n ∙ rw e (append-snoc (dir l) s D)
 

@@ -1,4 +1,5 @@
--- What a tag's type makes of it: which act of the directory machine, whether a check, a splice, or read by eight bytes. Assumes nothing.
+-- What a tag's type makes of it: which act of the directory machine, whether a check, a splice, or read by eight bytes.
+-- Assumes nothing.
 use mathlib.Core.Path.{_≡_, _∙_}
 use mathlib.Core.Logic.{_⊎_, inl, inr}
 use mathlib.Core.Bool.{true, false}
@@ -7,7 +8,8 @@ use Prim.Native.Nat.{ℕ, _+_, _*_, _/_, _%_, _^_, _≤_, _<_}
 use native.Mathlib.Omega.{arith}
 use borrow.Author.Tests.{ne-eqb, eqb-true}
 use Rattle.format.specs.Tag.{tagType1, tagType2, tagType3, tagChunk, tagId}
-use Rattle.format.specs.Kind.{typeName, typeDirStruct, typeUserAttr, typeSplice, typeCreate, typeDelete, typeCheck, typeForward, typeTail, isSplice, isCheck, isWide}
+use Rattle.format.specs.Kind.{typeName, typeDirStruct, typeUserAttr, typeSplice, typeCreate, typeDelete, typeCheck}
+use Rattle.format.specs.Kind.{typeForward, typeTail, isSplice, isCheck, isWide}
 use Rattle.format.specs.Directory.{put, mk, rm, skip, act, loadOf}
 use Rattle.format.proofs.Tags.{low-type1, low-id, low-type3, low-chunk, low-size}
 
@@ -26,11 +28,13 @@ pub act-name : (t : ℕ) (d : List ℕ) → tagType3 t < 2 ^ 8 → act t d ≡ p
 unfolding act
 act-name t d h = let e : tagType1 t ≡ typeName = type1-of t ∙ omega arith in rw e
 
-pub act-struct : (t : ℕ) (d : List ℕ) → typeDirStruct ≤ tagType3 t → tagType3 t < typeDirStruct + 2 ^ 8 → act t d ≡ put (tagId t) 1 (loadOf t d)
+pub act-struct : (t : ℕ) (d : List ℕ) → typeDirStruct ≤ tagType3 t → tagType3 t < typeDirStruct + 2 ^ 8
+    → act t d ≡ put (tagId t) 1 (loadOf t d)
 unfolding act
 act-struct t d h k = let e : tagType1 t ≡ typeDirStruct = type1-of t ∙ omega arith in rw e
 
-pub act-attr : (t : ℕ) (d : List ℕ) → typeUserAttr ≤ tagType3 t → tagType3 t < typeUserAttr + 2 ^ 8 → act t d ≡ put (tagId t) (2 + tagChunk t) (loadOf t d)
+pub act-attr : (t : ℕ) (d : List ℕ) → typeUserAttr ≤ tagType3 t → tagType3 t < typeUserAttr + 2 ^ 8
+    → act t d ≡ put (tagId t) (2 + tagChunk t) (loadOf t d)
 unfolding act
 act-attr t d h k = let e : tagType1 t ≡ typeUserAttr = type1-of t ∙ omega arith in rw e
 
@@ -65,8 +69,14 @@ not-splice t (inl h) = ne-eqb (tagType1 t) typeSplice (λ q. omega (arith, type1
 not-splice t (inr h) = ne-eqb (tagType1 t) typeSplice (λ q. omega (arith, type1-of t))
 
 pub not-wide : (t : ℕ) → (tagType3 t < typeForward) ⊎ (typeTail + 2 ^ 8 ≤ tagType3 t) → isWide t ≡ false
-not-wide t (inl h) = rw (ne-eqb (tagType1 t) typeTail (λ q. omega (arith, type1-of t)), ne-eqb (tagType3 t) typeForward (λ q. omega arith))
-not-wide t (inr h) = rw (ne-eqb (tagType1 t) typeTail (λ q. omega (arith, type1-of t)), ne-eqb (tagType3 t) typeForward (λ q. omega arith))
+not-wide t (inl h) = rw (
+  ne-eqb (tagType1 t) typeTail (λ q. omega (arith, type1-of t)),
+  ne-eqb (tagType3 t) typeForward (λ q. omega arith),
+)
+not-wide t (inr h) = rw (
+  ne-eqb (tagType1 t) typeTail (λ q. omega (arith, type1-of t)),
+  ne-eqb (tagType3 t) typeForward (λ q. omega arith),
+)
 
 -- ---- a check by the other readings of its type
 ten : (t : ℕ) → isCheck t ≡ true → t / 2 ^ 27 % 2 ^ 4 ≡ 10

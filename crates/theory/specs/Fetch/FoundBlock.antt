@@ -1,5 +1,5 @@
--- What a record that fetch found says: the sizes of the pair, and which block it was read from, with that block's revision and log. Assumes
--- nothing.
+-- What a record that fetch found says: the sizes of the pair, and which block it was read from, with that block's
+-- revision and log. Assumes nothing.
 use mathlib.Core.Path.{_≡_, refl, sym, ap, _∙_}
 use mathlib.Core.Logic.{_≢_}
 use mathlib.Core.Bool.{Bool, true, false, not, _&&_, _||_}
@@ -43,20 +43,30 @@ pub record Sized (g : Geometry) (b0 b1 : List ℕ) : Type 0 where
   pub first : length b0 ≡ g .«block_size»
   pub second : length b1 ≡ g .«block_size»
 
-pub found-sized : (g : Geometry) (b0 b1 : List ℕ) (n0 n1 count seed : ℕ) (m : LfsMdir) (s : ℕ) → fetchOf g b0 b1 n0 n1 count seed ≡ fetched.Found m s → Sized g b0 b1
+pub found-sized : (g : Geometry) (b0 b1 : List ℕ) (n0 n1 count seed : ℕ) (m : LfsMdir) (s : ℕ)
+    → fetchOf g b0 b1 n0 n1 count seed ≡ fetched.Found m s → Sized g b0 b1
 unfolding fetchOf pairFits
 found-sized g b0 b1 n0 n1 count seed m s h =
     let p = past-test (not (pairFits g (length b0) (length b1) n0 n1)) _ _ m s h in
-    let t = both-true (geometryFits g && eqb (length b0) (g .«block_size») && eqb (length b1) (g .«block_size»)) (not (eqb n0 n1)) (not-false _ (p .0)) in
-    let u = both-true (geometryFits g && eqb (length b0) (g .«block_size»)) (eqb (length b1) (g .«block_size»)) (t .0) in
+    let t = both-true (geometryFits g && eqb (length b0) (g .«block_size») && eqb (length b1) (g .«block_size»))
+    (not (eqb n0 n1)) (not-false _ (p .0)) in
+    let u = both-true (geometryFits g && eqb (length b0) (g .«block_size»)) (eqb (length b1) (g .«block_size»))
+    (t .0) in
     let v = both-true (geometryFits g) (eqb (length b0) (g .«block_size»)) (u .0) in
-    record { prog = fits-prog g (v .0); block = fits-block g (v .0); first = eqb-true (length b0) (g .«block_size») (v .1); second = eqb-true (length b1) (g .«block_size») (u .1) }
+    record {
+      prog = fits-prog g (v .0);
+      block = fits-block g (v .0);
+      first = eqb-true (length b0) (g .«block_size») (v .1);
+      second = eqb-true (length b1) (g .«block_size») (u .1);
+    }
 
 -- the revision that a view names stands in the block that answers
 pub view-rev : (w : Bool) (x o : List ℕ) (v : ℕ) (es : List Event) → viewAt w x o ≡ at w v es → v ≡ le32 x
 unfolding view
-view-rev false x o v es h = sym (rank-left-is (secondFirst (le32 x) (le32 o)) (le32 x) (le32 o) (log x) (log o) v es h .0)
-view-rev true x o v es h = sym (rank-right-is (secondFirst (le32 o) (le32 x)) (le32 o) (le32 x) (log o) (log x) v es h .0)
+view-rev false x o v es h =
+    sym (rank-left-is (secondFirst (le32 x) (le32 o)) (le32 x) (le32 o) (log x) (log o) v es h .0)
+view-rev true x o v es h =
+    sym (rank-right-is (secondFirst (le32 o) (le32 x)) (le32 o) (le32 x) (log o) (log x) v es h .0)
 
 -- a found record is that of the block at place w of the two
 pub record Reads (b0 b1 : List ℕ) (n0 : ℕ) (m : LfsMdir) : Type 0 where
@@ -72,7 +82,8 @@ pub record Reads (b0 b1 : List ℕ) (n0 : ℕ) (m : LfsMdir) : Type 0 where
 
 module _ (prog n0 n1 : ℕ) (b0 b1 : List ℕ) (seed : ℕ) (m : LfsMdir) (s : ℕ) (apart : eqb n0 n1 ≡ false) where
   -- n and k are the numbers, x and o the blocks, of place w and of the other
-  reads-at : (w : Bool) (n k : ℕ) (x o : List ℕ) (rev : ℕ) (es : List Event) → x ≡ blockAt w b0 b1 → viewAt w x o ≡ at w rev es → not (eqb n n0) ≡ w
+  reads-at : (w : Bool) (n k : ℕ) (x o : List ℕ) (rev : ℕ) (es : List Event) → x ≡ blockAt w b0 b1
+      → viewAt w x o ≡ at w rev es → not (eqb n n0) ≡ w
       → fewEnough (mdirOf prog n k x rev es) (seedOf seed es) ≡ fetched.Found m s → Reads b0 b1 n0 m
   unfolding mdirOf
   reads-at w n k x o rev es ex h ew f =
@@ -94,12 +105,15 @@ module _ (prog n0 n1 : ℕ) (b0 b1 : List ℕ) (seed : ℕ) (m : LfsMdir) (s : �
   viewed-reads : (v : View) → view b0 b1 ≡ v → viewed prog n0 n1 b0 b1 seed v ≡ fetched.Found m s → Reads b0 b1 n0 m
   viewed-reads none h f = absurd (let z : _≡_ {A = ℕ} 0 1 = cc in omega arith)
   viewed-reads (at false rev es) h f = reads-at false n0 n1 b0 b1 rev es refl h (ap not (eq-eqb n0 n0 refl)) f
-  viewed-reads (at true rev es) h f = reads-at true n1 n0 b1 b0 rev es refl h (ap not (ne-eqb n1 n0 (λ q. eqb-false n0 n1 apart (sym q)))) f
+  viewed-reads (at true rev es) h f = reads-at true n1 n0 b1 b0 rev es refl h
+      (ap not (ne-eqb n1 n0 (λ q. eqb-false n0 n1 apart (sym q)))) f
 
-pub found-reads : (g : Geometry) (b0 b1 : List ℕ) (n0 n1 count seed : ℕ) (m : LfsMdir) (s : ℕ) → fetchOf g b0 b1 n0 n1 count seed ≡ fetched.Found m s → Reads b0 b1 n0 m
+pub found-reads : (g : Geometry) (b0 b1 : List ℕ) (n0 n1 count seed : ℕ) (m : LfsMdir) (s : ℕ)
+    → fetchOf g b0 b1 n0 n1 count seed ≡ fetched.Found m s → Reads b0 b1 n0 m
 unfolding fetchOf pairFits
 found-reads g b0 b1 n0 n1 count seed m s h =
     let p = past-test (not (pairFits g (length b0) (length b1) n0 n1)) _ _ m s h in
     let q = past-test (tooHigh count n0 || tooHigh count n1) _ _ m s (p .1) in
-    let r = both-true (geometryFits g && eqb (length b0) (g .«block_size») && eqb (length b1) (g .«block_size»)) (not (eqb n0 n1)) (not-false _ (p .0)) in
+    let r = both-true (geometryFits g && eqb (length b0) (g .«block_size») && eqb (length b1) (g .«block_size»))
+    (not (eqb n0 n1)) (not-false _ (p .0)) in
     viewed-reads (g .«prog_size») n0 n1 b0 b1 seed m s (not-true (eqb n0 n1) (r .1)) (view b0 b1) refl (q .1)

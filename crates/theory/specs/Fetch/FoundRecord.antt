@@ -42,7 +42,8 @@ few-found k m t s h = go (ltb 1_023 (k .count)) h
     go false h = cc
 
 -- a test that did not refuse
-pub past-test : (b : Bool) (r : Refusal) (f : Fetched) (m : LfsMdir) (s : ℕ) → cond b (Refused r) f ≡ Found m s → (b ≡ false) × (f ≡ Found m s)
+pub past-test : (b : Bool) (r : Refusal) (f : Fetched) (m : LfsMdir) (s : ℕ) → cond b (Refused r) f ≡ Found m s
+    → (b ≡ false) × (f ≡ Found m s)
 past-test true r f m s h = absurd (refused-found r m s h)
 past-test false r f m s h = (refl, h)
 
@@ -68,7 +69,8 @@ module _ (prog n0 n1 : ℕ) (b0 b1 : List ℕ) (seed : ℕ) (m : LfsMdir) (s : �
       record {
         w = true;
         rev = rev;
-        place = ap (λ (k : LfsMdir). isSecond n0 k) (sym e) ∙ ap not (ne-eqb n1 n0 (λ q. eqb-false n0 n1 apart (sym q)));
+        place = ap (λ (k : LfsMdir). isSecond n0 k) (sym e)
+            ∙ ap not (ne-eqb n1 n0 (λ q. eqb-false n0 n1 apart (sym q)));
         answers = rw l h;
         end = ap (λ (k : LfsMdir). k .off) (sym e) ∙ ap logEnd (sym l);
         endTag = ap (λ (k : LfsMdir). k .etag) (sym e) ∙ ap logEndTag (sym l);
@@ -82,5 +84,6 @@ unfolding fetchOf pairFits
 found-answers g b0 b1 n0 n1 count seed m s h =
     let p = past-test (not (pairFits g (length b0) (length b1) n0 n1)) _ _ m s h in
     let q = past-test (tooHigh count n0 || tooHigh count n1) _ _ m s (p .1) in
-    let r = both-true (geometryFits g && eqb (length b0) (g .«block_size») && eqb (length b1) (g .«block_size»)) (not (eqb n0 n1)) (not-false _ (p .0)) in
+    let r = both-true (geometryFits g && eqb (length b0) (g .«block_size») && eqb (length b1) (g .«block_size»))
+    (not (eqb n0 n1)) (not-false _ (p .0)) in
     viewed-answers (g .«prog_size») n0 n1 b0 b1 seed m s (not-true (eqb n0 n1) (r .1)) (view b0 b1) refl (q .1)

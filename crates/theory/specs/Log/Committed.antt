@@ -44,7 +44,8 @@ unfolding committed
 committed-app [] more h = refl
 committed-app (chk t c ∷ es) more h = ap (λ z. chk t c ∷ z) (committed-app es more (cc))
 committed-app (ent t d ∷ es) more h =
-    rw (committed-app es more (kept-same (ent t d) (committed es) es h)) (kept-app (ent t d) (committed es) es (committed more) h)
+    rw (committed-app es more (kept-same (ent t d) (committed es) es h))
+    (kept-app (ent t d) (committed es) es (committed more) h)
 committed-app (inv ∷ es) more h =
     rw (committed-app es more (kept-same inv (committed es) es h)) (kept-app inv (committed es) es (committed more) h)
 
@@ -52,7 +53,8 @@ committed-app (inv ∷ es) more h =
 abbrev Split : List Event → List Event → Type 0
 Split es kept = (rest : List Event) × (es ≡ kept ++ rest) × NoCheck rest
 
-kept-split : (e : Event) (es : List Event) → (NoCheck es → NoCheck (e ∷ es)) → Split es (committed es) → Split (e ∷ es) (keptBefore e (committed es))
+kept-split : (e : Event) (es : List Event) → (NoCheck es → NoCheck (e ∷ es)) → Split es (committed es)
+    → Split (e ∷ es) (keptBefore e (committed es))
 kept-split e es n r = go (committed es) refl
   where
     go : (l : List Event) → committed es ≡ l → Split (e ∷ es) (keptBefore e (committed es))
@@ -67,7 +69,8 @@ committed-split (ent t d ∷ es) = kept-split (ent t d) es (λ n. n) (committed-
 committed-split (inv ∷ es) = kept-split inv es (λ n. n) (committed-split es)
 
 -- what is committed ends in a check, or is empty
-kept-twice : (e : Event) (l : List Event) → committed (e ∷ l) ≡ keptBefore e (committed l) → committed l ≡ l → committed (keptBefore e l) ≡ keptBefore e l
+kept-twice : (e : Event) (l : List Event) → committed (e ∷ l) ≡ keptBefore e (committed l) → committed l ≡ l
+    → committed (keptBefore e l) ≡ keptBefore e l
 unfolding committed
 kept-twice e [] h k = refl
 kept-twice e (x ∷ l) h k = h ∙ rw k
@@ -84,10 +87,13 @@ kept-more e [] es h k = let q : _≡_ {A = ℕ} 0 1 = cc in omega arith
 kept-more e (x ∷ l) es h k = let q : _≡_ {A = ℕ} 0 1 = cc in omega arith
 
 -- behind a check the checksum starts anew
-pub sum-restarts : (es : List Event) (sum : ℕ) (a : List ℕ) → committed es ≡ es → (es ≡ [] → sum ≡ allOnes) → sumAfter sum es a ≡ allOnes
+pub sum-restarts : (es : List Event) (sum : ℕ) (a : List ℕ) → committed es ≡ es → (es ≡ [] → sum ≡ allOnes)
+    → sumAfter sum es a ≡ allOnes
 unfolding committed sumAfter
 sum-restarts [] sum a h n = n refl
 sum-restarts (chk t c ∷ es) sum a h n = sum-restarts es allOnes (drop (tagLength t) a) (cc) (λ q. refl)
 sum-restarts (ent t d ∷ es) sum a h n =
-    sum-restarts es (crc sum (take (tagLength t) a)) (drop (tagLength t) a) (kept-same (ent t d) (committed es) es h) (λ q. absurd (kept-more (ent t d) (committed es) es h q))
-sum-restarts (inv ∷ es) sum a h n = sum-restarts es sum a (kept-same inv (committed es) es h) (λ q. absurd (kept-more inv (committed es) es h q))
+    sum-restarts es (crc sum (take (tagLength t) a)) (drop (tagLength t) a) (kept-same (ent t d) (committed es) es h)
+    (λ q. absurd (kept-more (ent t d) (committed es) es h q))
+sum-restarts (inv ∷ es) sum a h n = sum-restarts es sum a (kept-same inv (committed es) es h)
+    (λ q. absurd (kept-more inv (committed es) es h q))

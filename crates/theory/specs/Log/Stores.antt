@@ -1,4 +1,5 @@
--- One block under stores: an append or a compaction that is stopped anywhere leaves the finished bytes, or the log as it was. Assumes nothing.
+-- One block under stores: an append or a compaction that is stopped anywhere leaves the finished bytes, or the log as
+-- it was. Assumes nothing.
 use mathlib.Core.Path.{_≡_, refl, sym, ap, _∙_}
 use mathlib.Core.Logic.{_≢_, _⊎_, inl, inr}
 use mathlib.Core.Bool.{Bool, true, false}
@@ -20,11 +21,14 @@ use Rattle.format.proofs.Words.{length-toLe32}
 use Rattle.format.proofs.Checksum.{crc-word}
 use Rattle.theory.specs.Walk.Locality.{AllContained, local}
 use Rattle.theory.specs.Walk.ReadBack.{AllGood, GoodCheck, decode}
-use Rattle.theory.specs.Walk.Erased.{NoCheck, Start, drop-erased, blanks, length-erased, length-fill, fill-front, erased-append, fill-back}
+use Rattle.theory.specs.Walk.Erased.{NoCheck, Start, drop-erased, blanks, length-erased, length-fill, fill-front}
+use Rattle.theory.specs.Walk.Erased.{erased-append, fill-back}
 use Rattle.theory.specs.Walk.Cut.{NoCoincidence, cut, Cut}
-use Rattle.theory.specs.Log.Committed.{committed-none, committed-twice, committed-split, sum-restarts, committed-app}
+use Rattle.theory.specs.Log.Committed.{committed-none, committed-twice, committed-split, sum-restarts}
+use Rattle.theory.specs.Log.Committed.{committed-app}
 
-committed-written : (is : List Item) (t c : ℕ) (more : List Event) → NoCheck more → committed (written is (chk t c ∷ more)) ≡ written is (chk t c ∷ [])
+committed-written : (is : List Item) (t c : ℕ) (more : List Event) → NoCheck more
+    → committed (written is (chk t c ∷ more)) ≡ written is (chk t c ∷ [])
 unfolding committed written
 committed-written [] t c more h = rw (committed-none more h)
 committed-written (i ∷ []) t c more h = rw (committed-none more h)
@@ -43,7 +47,8 @@ pub record CommitFits (sum p : ℕ) (is : List Item) (ct m : ℕ) : Type 0 where
 unfoldable pub commitEvents : ℕ → ℕ → List Item → ℕ → List Event
 commitEvents sum p is ct = written is (chk ct (commitSum sum p is ct) ∷ [])
 
-tail-none : (ct m : ℕ) → tagFlipped ct < 2 ^ 31 → NoCheck (walkFrom allOnes (tagFlipped ct) (drop (tagLength ct - 8) (erased m)))
+tail-none : (ct m : ℕ) → tagFlipped ct < 2 ^ 31
+    → NoCheck (walkFrom allOnes (tagFlipped ct) (drop (tagLength ct - 8) (erased m)))
 tail-none ct m h = let r = drop-erased (tagLength ct - 8) m in rw (r .1) (blanks allOnes (tagFlipped ct) (r .0) (inl h))
 
 pub committed-done : (sum p : ℕ) (is : List Item) (ct m : ℕ) → CommitFits sum p is ct m
@@ -51,22 +56,33 @@ pub committed-done : (sum p : ℕ) (is : List Item) (ct m : ℕ) → CommitFits 
 unfolding commitEvents
 committed-done sum p is ct m f =
     rw (decode is sum p ct (erased m) (f .items) (f .check) (omega (arith, length-erased m, f .room)))
-    (committed-written is ct (commitSum sum p is ct) (walkFrom allOnes (tagFlipped ct) (drop (tagLength ct - 8) (erased m))) (tail-none ct m (f .plain)))
+    (committed-written is ct (commitSum sum p is ct)
+    (walkFrom allOnes (tagFlipped ct) (drop (tagLength ct - 8) (erased m))) (tail-none ct m (f .plain)))
 
 -- ---- append: `pre` is the block up to the old end, M erased bytes follow
-pub reach : (pre : List ℕ) (M : ℕ) (es : List Event) → log (pre ++ erased M) ≡ es → es ≢ [] → AllContained es → length pre ≡ logEnd es
+pub reach : (pre : List ℕ) (M : ℕ) (es : List Event) → log (pre ++ erased M) ≡ es → es ≢ [] → AllContained es
+    → length pre ≡ logEnd es
     → (y : List ℕ) → length y ≡ M → log (pre ++ y) ≡ es ++ committed (walkFrom allOnes (logEndTag es) y)
 unfolding log walk
 reach pre M es h nonempty reg end y len =
     let four : 4 ≤ length pre = omega arith in
-    let h′ : committed (walkFrom (crc allOnes (take 4 pre)) allOnes (drop 4 pre ++ erased M)) ≡ es = rw (take-append-le 4 pre (erased M) four, drop-append-le 4 pre (erased M) four) at h in
-    let whole : committed es ≡ es = rw h′ at (committed-twice (walkFrom (crc allOnes (take 4 pre)) allOnes (drop 4 pre ++ erased M))) in
+    let h′ : committed (walkFrom (crc allOnes (take 4 pre)) allOnes (drop 4 pre ++ erased M)) ≡ es =
+    rw (take-append-le 4 pre (erased M) four, drop-append-le 4 pre (erased M) four) at h in
+    let whole : committed es ≡ es =
+    rw h′ at (committed-twice (walkFrom (crc allOnes (take 4 pre)) allOnes (drop 4 pre ++ erased M))) in
     let r = committed-split (walkFrom (crc allOnes (take 4 pre)) allOnes (drop 4 pre ++ erased M)) in
-    let l = local es (r .0) (crc allOnes (take 4 pre)) allOnes (drop 4 pre) (erased M) y (rw h′ at (r .1)) reg (omega (arith, length-drop 4 pre)) (length-erased M ∙ sym len) in
-    rw (take-append-le 4 pre y four, drop-append-le 4 pre y four, l .1, sum-restarts es (crc allOnes (take 4 pre)) (drop 4 pre) whole (λ q. absurd (nonempty q)))
+    let l = local es (r .0) (crc allOnes (take 4 pre)) allOnes (drop 4 pre) (erased M) y (rw h′ at (r .1)) reg
+    (omega (arith, length-drop 4 pre)) (length-erased M ∙ sym len) in
+    rw (
+      take-append-le 4 pre y four,
+      drop-append-le 4 pre y four,
+      l .1,
+      sum-restarts es (crc allOnes (take 4 pre)) (drop 4 pre) whole (λ q. absurd (nonempty q)),
+    )
     (committed-app es (walkFrom allOnes (logEndTag es) y) whole)
 
--- what is asked of an append: `pre` is the old block up to its end, M erased bytes follow; the new bytes and m erased ones fit there
+-- what is asked of an append: `pre` is the old block up to its end, M erased bytes follow; the new bytes and m erased
+-- ones fit there
 pub record Appends (pre : List ℕ) (M : ℕ) (es : List Event) (is : List Item) (ct m : ℕ) : Type 0 where
   pub old : log (pre ++ erased M) ≡ es
   pub nonempty : es ≢ []
@@ -87,7 +103,9 @@ pub append-cut : (pre : List ℕ) (M : ℕ) (es : List Event) (is : List Item) (
     → (room allOnes (logEndTag es) is ct m k ≡ filled allOnes (logEndTag es) is ct m)
     ⊎ (log (pre ++ room allOnes (logEndTag es) is ct m k) ≡ es)
 unfolding room filled Cut
-append-cut pre M es is ct m k a = go (cut is allOnes (logEndTag es) ct k m (omega arith) (a .fits .items) (a .fits .check) (a .fits .room) (a .fits .start) (a .fits .lucky))
+append-cut pre M es is ct m k a =
+    go (cut is allOnes (logEndTag es) ct k m (omega arith) (a .fits .items) (a .fits .check) (a .fits .room)
+    (a .fits .start) (a .fits .lucky))
   where
     N : List ℕ
     N = commitBytes allOnes (logEndTag es) is ct
@@ -108,11 +126,13 @@ unfolding filled
 append-done pre M es is ct m a =
     let N : List ℕ = commitBytes allOnes (logEndTag es) is ct in
     let len : length (N ++ erased m) ≡ M = rw (length-append N (erased m), length-erased m) (a .all) in
-    reach pre M es (a .old) (a .nonempty) (a .reg) (a .end) (N ++ erased m) len ∙ ap (λ z. es ++ z) (committed-done allOnes (logEndTag es) is ct m (a .fits))
+    reach pre M es (a .old) (a .nonempty) (a .reg) (a .end) (N ++ erased m) len
+    ∙ ap (λ z. es ++ z) (committed-done allOnes (logEndTag es) is ct m (a .fits))
 
 -- ---- compaction: a block erased, then the revision and one commit
 pub compact-cut : (rev : ℕ) (is : List Item) (ct m k : ℕ) → CommitFits (crc allOnes (toLe32 rev)) allOnes is ct m
-    → (fill k (compactBytes rev is ct) ++ erased m ≡ compacted rev is ct m) ⊎ (log (fill k (compactBytes rev is ct) ++ erased m) ≡ [])
+    → (fill k (compactBytes rev is ct) ++ erased m ≡ compacted rev is ct m)
+    ⊎ (log (fill k (compactBytes rev is ct) ++ erased m) ≡ [])
 unfolding log walk Cut compactBytes compacted
 compact-cut rev is ct m k f = go (leb k 4) refl
   where
@@ -128,7 +148,8 @@ compact-cut rev is ct m k f = go (leb k 4) refl
     logOf : List ℕ → List Event
     logOf x = committed (walkFrom (crc allOnes (take 4 x)) allOnes (drop 4 x))
 
-    go : (b : Bool) → leb k 4 ≡ b → (fill k (R ++ N) ++ erased m ≡ R ++ N ++ erased m) ⊎ (logOf (fill k (R ++ N) ++ erased m) ≡ [])
+    go : (b : Bool) → leb k 4 ≡ b → (fill k (R ++ N) ++ erased m ≡ R ++ N ++ erased m)
+        ⊎ (logOf (fill k (R ++ N) ++ erased m) ≡ [])
     go true e =
         let l4 : length (fill k R) ≡ 4 = length-fill k R ∙ four in
         let n : ℕ = length N + m in
@@ -139,7 +160,8 @@ compact-cut rev is ct m k f = go (leb k 4) refl
           take-at (fill k R) (erased n) 4 l4,
           drop-at (fill k R) (erased n) 4 l4,
         )
-        (committed-none (walkFrom (crc allOnes (fill k R)) allOnes (erased n)) (blanks (crc allOnes (fill k R)) allOnes n (inr refl))))
+        (committed-none (walkFrom (crc allOnes (fill k R)) allOnes (erased n))
+        (blanks (crc allOnes (fill k R)) allOnes n (inr refl))))
     go false e =
         rw (
           fill-back k (k - 4) R N (omega (arith, leb-false k 4 e, four)),
@@ -148,10 +170,13 @@ compact-cut rev is ct m k f = go (leb k 4) refl
           take-at R (fill (k - 4) N ++ erased m) 4 four,
           drop-at R (fill (k - 4) N ++ erased m) 4 four,
         )
-        (fin (cut is (crc allOnes R) allOnes ct (k - 4) m (crc-word R allOnes (omega arith)) (f .items) (f .check) (f .room) (f .start) (f .lucky)))
+        (fin (cut is (crc allOnes R) allOnes ct (k - 4) m (crc-word R allOnes (omega arith)) (f .items) (f .check)
+        (f .room) (f .start) (f .lucky)))
       where
-        fin : (fill (k - 4) N ++ erased m ≡ N ++ erased m) ⊎ NoCheck (walkFrom (crc allOnes R) allOnes (fill (k - 4) N ++ erased m))
-            → (R ++ (fill (k - 4) N ++ erased m) ≡ R ++ (N ++ erased m)) ⊎ (committed (walkFrom (crc allOnes R) allOnes (fill (k - 4) N ++ erased m)) ≡ [])
+        fin : (fill (k - 4) N ++ erased m ≡ N ++ erased m) ⊎ NoCheck
+            (walkFrom (crc allOnes R) allOnes (fill (k - 4) N ++ erased m))
+            → (R ++ (fill (k - 4) N ++ erased m) ≡ R ++ (N ++ erased m))
+            ⊎ (committed (walkFrom (crc allOnes R) allOnes (fill (k - 4) N ++ erased m)) ≡ [])
         fin (inl q) = inl (ap (λ z. R ++ z) q)
         fin (inr n) = inr (committed-none (walkFrom (crc allOnes R) allOnes (fill (k - 4) N ++ erased m)) n)
 
@@ -161,9 +186,15 @@ unfolding log walk compactBytes compacted
 compact-done rev is ct m f =
     let R : List ℕ = toLe32 rev in
     let N : List ℕ = commitBytes (crc allOnes R) allOnes is ct in
-    rw (append-assoc R N (erased m), take-at R (N ++ erased m) 4 (length-toLe32 rev), drop-at R (N ++ erased m) 4 (length-toLe32 rev)) (committed-done (crc allOnes R) allOnes is ct m f)
+    rw (
+      append-assoc R N (erased m),
+      take-at R (N ++ erased m) 4 (length-toLe32 rev),
+      drop-at R (N ++ erased m) 4 (length-toLe32 rev),
+    ) (committed-done (crc allOnes R) allOnes is ct m f)
 
 -- an erased block has no log
 pub erased-log : (n : ℕ) → log (erased n) ≡ []
 unfolding log walk
-erased-log n = let r = drop-erased 4 n in rw (r .1) (committed-none (walkFrom (crc allOnes (take 4 (erased n))) allOnes (erased (r .0))) (blanks (crc allOnes (take 4 (erased n))) allOnes (r .0) (inr refl)))
+erased-log n = let r = drop-erased 4 n in rw (r .1)
+    (committed-none (walkFrom (crc allOnes (take 4 (erased n))) allOnes (erased (r .0)))
+    (blanks (crc allOnes (take 4 (erased n))) allOnes (r .0) (inr refl)))

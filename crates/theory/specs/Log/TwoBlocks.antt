@@ -16,7 +16,8 @@ use Rattle.format.specs.Stores.{erased, fill, compactBytes, compacted, compacti
 use Rattle.format.proofs.Words.{le32-toLe32}
 use Rattle.format.proofs.Order.{next-first, next-stays}
 use Rattle.theory.specs.Walk.Locality.{le32-front}
-use Rattle.theory.specs.Log.Stores.{Appends, room, filled, append-cut, commitEvents, append-done, CommitFits, compact-cut, compact-done}
+use Rattle.theory.specs.Log.Stores.{Appends, room, filled, append-cut, commitEvents, append-done, CommitFits}
+use Rattle.theory.specs.Log.Stores.{compact-cut, compact-done}
 
 -- the first block answers, whatever the ranks, if the second has no log; and the reverse
 rank-left : (c : Bool) (r s : ℕ) (l : List Event) → l ≢ [] → rank c r s l [] ≡ at false r l
@@ -45,7 +46,8 @@ rank-second r s l [] n = absurd (n refl)
 rank-second r s l (e ∷ k) n = refl
 
 -- a longer log in the block that answers
-grow-left : (c : Bool) (r s : ℕ) (l l′ k : List Event) (v : ℕ) (es : List Event) → rank c r s l k ≡ at false v es → l′ ≢ [] → rank c r s l′ k ≡ at false r l′
+grow-left : (c : Bool) (r s : ℕ) (l l′ k : List Event) (v : ℕ) (es : List Event) → rank c r s l k ≡ at false v es
+    → l′ ≢ [] → rank c r s l′ k ≡ at false r l′
 unfolding rank
 grow-left false r s l [] k v es h n = absurd (n refl)
 grow-left false r s l (e ∷ l′) k v es h n = refl
@@ -53,7 +55,8 @@ grow-left true r s l [] k v es h n = absurd (n refl)
 grow-left true r s l (e ∷ l′) [] v es h n = refl
 grow-left true r s l (e ∷ l′) (x ∷ k) v es h n = cc
 
-grow-right : (c : Bool) (r s : ℕ) (l k k′ : List Event) (v : ℕ) (es : List Event) → rank c r s l k ≡ at true v es → k′ ≢ [] → rank c r s l k′ ≡ at true s k′
+grow-right : (c : Bool) (r s : ℕ) (l k k′ : List Event) (v : ℕ) (es : List Event) → rank c r s l k ≡ at true v es
+    → k′ ≢ [] → rank c r s l k′ ≡ at true s k′
 unfolding rank
 grow-right true r s l k [] v es h n = absurd (n refl)
 grow-right true r s l k (e ∷ k′) v es h n = refl
@@ -61,7 +64,8 @@ grow-right false r s l k [] v es h n = absurd (n refl)
 grow-right false r s [] k (e ∷ k′) v es h n = refl
 grow-right false r s (x ∷ l) k (e ∷ k′) v es h n = cc
 
-pub rank-left-is : (c : Bool) (r s : ℕ) (l k : List Event) (v : ℕ) (es : List Event) → rank c r s l k ≡ at false v es → (r ≡ v) × (l ≡ es) × (es ≢ [])
+pub rank-left-is : (c : Bool) (r s : ℕ) (l k : List Event) (v : ℕ) (es : List Event) → rank c r s l k ≡ at false v es
+    → (r ≡ v) × (l ≡ es) × (es ≢ [])
 unfolding rank
 rank-left-is false r s [] [] v es h = (cc, cc, λ q. let z : _≡_ {A = ℕ} 0 1 = cc in omega arith)
 rank-left-is false r s [] (e ∷ k) v es h = (cc, cc, λ q. let z : _≡_ {A = ℕ} 0 1 = cc in omega arith)
@@ -70,7 +74,8 @@ rank-left-is true r s l (e ∷ k) v es h = (cc, cc, λ q. let z : _≡_ {A = ℕ
 rank-left-is true r s [] [] v es h = (cc, cc, λ q. let z : _≡_ {A = ℕ} 0 1 = cc in omega arith)
 rank-left-is true r s (e ∷ l) [] v es h = (cc, cc, λ q. let z : _≡_ {A = ℕ} 0 1 = cc in omega arith)
 
-pub rank-right-is : (c : Bool) (r s : ℕ) (l k : List Event) (v : ℕ) (es : List Event) → rank c r s l k ≡ at true v es → (s ≡ v) × (k ≡ es) × (es ≢ [])
+pub rank-right-is : (c : Bool) (r s : ℕ) (l k : List Event) (v : ℕ) (es : List Event) → rank c r s l k ≡ at true v es
+    → (s ≡ v) × (k ≡ es) × (es ≢ [])
 unfolding rank
 rank-right-is false r s [] [] v es h = (cc, cc, λ q. let z : _≡_ {A = ℕ} 0 1 = cc in omega arith)
 rank-right-is false r s [] (e ∷ k) v es h = (cc, cc, λ q. let z : _≡_ {A = ℕ} 0 1 = cc in omega arith)
@@ -99,17 +104,21 @@ unfolding view
 view-same false x y o r l = rw (r, l)
 view-same true x y o r l = rw (r, l)
 
-view-grow : (w : Bool) (x y o : List ℕ) (v : ℕ) (es : List Event) → viewAt w x o ≡ at w v es → le32 x ≡ le32 y → log y ≢ [] → viewAt w y o ≡ at w v (log y)
+view-grow : (w : Bool) (x y o : List ℕ) (v : ℕ) (es : List Event) → viewAt w x o ≡ at w v es → le32 x ≡ le32 y
+    → log y ≢ [] → viewAt w y o ≡ at w v (log y)
 unfolding view
 view-grow false x y o v es h r n =
     let i = rank-left-is (secondFirst (le32 x) (le32 o)) (le32 x) (le32 o) (log x) (log o) v es h in
-    rw (← r) (grow-left (secondFirst (le32 x) (le32 o)) (le32 x) (le32 o) (log x) (log y) (log o) v es h n ∙ ap (λ z. at false z (log y)) (i .0))
+    rw (← r) (grow-left (secondFirst (le32 x) (le32 o)) (le32 x) (le32 o) (log x) (log y) (log o) v es h n
+    ∙ ap (λ z. at false z (log y)) (i .0))
 view-grow true x y o v es h r n =
     let i = rank-right-is (secondFirst (le32 o) (le32 x)) (le32 o) (le32 x) (log o) (log x) v es h in
-    rw (← r) (grow-right (secondFirst (le32 o) (le32 x)) (le32 o) (le32 x) (log o) (log x) (log y) v es h n ∙ ap (λ z. at true z (log y)) (i .0))
+    rw (← r) (grow-right (secondFirst (le32 o) (le32 x)) (le32 o) (le32 x) (log o) (log x) (log y) v es h n
+    ∙ ap (λ z. at true z (log y)) (i .0))
 
 -- the other block without a log does not matter
-view-alone : (w : Bool) (x o o′ : List ℕ) (v : ℕ) (es : List Event) → viewAt w x o ≡ at w v es → log o′ ≡ [] → viewAt w x o′ ≡ at w v es
+view-alone : (w : Bool) (x o o′ : List ℕ) (v : ℕ) (es : List Event) → viewAt w x o ≡ at w v es → log o′ ≡ []
+    → viewAt w x o′ ≡ at w v es
 unfolding view
 view-alone false x o o′ v es h n =
     let i = rank-left-is (secondFirst (le32 x) (le32 o)) (le32 x) (le32 o) (log x) (log o) v es h in
@@ -119,7 +128,8 @@ view-alone true x o o′ v es h n =
     rw (n, i .0, i .1) (rank-right (secondFirst (le32 o′) v) (le32 o′) v es (i .2))
 
 -- the other block with the next revision and a log answers
-view-next : (w : Bool) (x o o′ : List ℕ) (v : ℕ) (es : List Event) → viewAt w x o ≡ at w v es → v < 2 ^ 32 → le32 o′ ≡ plus32 v 1 → log o′ ≢ []
+view-next : (w : Bool) (x o o′ : List ℕ) (v : ℕ) (es : List Event) → viewAt w x o ≡ at w v es → v < 2 ^ 32
+    → le32 o′ ≡ plus32 v 1 → log o′ ≢ []
     → viewAt w x o′ ≡ at (not w) (plus32 v 1) (log o′)
 unfolding view
 view-next false x o o′ v es h small r n =
@@ -152,16 +162,19 @@ crash-append w o pre M v es is ct m k h a = go (append-cut pre M es is ct m k a)
     go : (X ≡ filled allOnes (logEndTag es) is ct m) ⊎ (log (pre ++ X) ≡ es)
         → (pre ++ X ≡ pre ++ filled allOnes (logEndTag es) is ct m) ⊎ (viewAt w (pre ++ X) o ≡ at w v es)
     go (inl e) = inl (ap (λ z. pre ++ z) e)
-    go (inr e) = inr (view-same w (pre ++ X) (pre ++ erased M) o (le32-front pre X (erased M) (omega (arith, a .end))) (e ∙ sym (a .old)) ∙ h)
+    go (inr e) = inr (view-same w (pre ++ X) (pre ++ erased M) o (le32-front pre X (erased M) (omega (arith, a .end)))
+        (e ∙ sym (a .old)) ∙ h)
 
 pub done-append : (w : Bool) (o pre : List ℕ) (M : ℕ) (v : ℕ) (es : List Event) (is : List Item) (ct m : ℕ)
     → viewAt w (pre ++ erased M) o ≡ at w v es → Appends pre M es is ct m
-    → viewAt w (pre ++ filled allOnes (logEndTag es) is ct m) o ≡ at w v (es ++ commitEvents allOnes (logEndTag es) is ct)
+    → viewAt w (pre ++ filled allOnes (logEndTag es) is ct m) o ≡ at w v
+    (es ++ commitEvents allOnes (logEndTag es) is ct)
 done-append w o pre M v es is ct m h a =
     let Y : List ℕ = filled allOnes (logEndTag es) is ct m in
     let d : log (pre ++ Y) ≡ es ++ commitEvents allOnes (logEndTag es) is ct = append-done pre M es is ct m a in
     let n : log (pre ++ Y) ≢ [] = rw d (app-some es (commitEvents allOnes (logEndTag es) is ct) (a .nonempty)) in
-    view-grow w (pre ++ erased M) (pre ++ Y) o v es h (le32-front pre (erased M) Y (omega (arith, a .end))) n ∙ ap (λ z. at w v z) d
+    view-grow w (pre ++ erased M) (pre ++ Y) o v es h (le32-front pre (erased M) Y (omega (arith, a .end))) n
+    ∙ ap (λ z. at w v z) d
 
 -- DEMAND 3, compaction: the other block after n stores; the first is the erase
 pub crash-compact : (w : Bool) (x o : List ℕ) (v : ℕ) (es : List Event) (is : List Item) (ct m n : ℕ)
@@ -175,7 +188,8 @@ crash-compact w x o v es is ct m (suc k) h f = go (compact-cut (plus32 v 1) is c
     X : List ℕ
     X = fill k (compactBytes (plus32 v 1) is ct) ++ erased m
 
-    go : (X ≡ compacted (plus32 v 1) is ct m) ⊎ (log X ≡ []) → (X ≡ compacted (plus32 v 1) is ct m) ⊎ (viewAt w x X ≡ at w v es)
+    go : (X ≡ compacted (plus32 v 1) is ct m) ⊎ (log X ≡ [])
+        → (X ≡ compacted (plus32 v 1) is ct m) ⊎ (viewAt w x X ≡ at w v es)
     go (inl e) = inl e
     go (inr e) = inr (view-alone w x o X v es h e)
 
@@ -187,7 +201,8 @@ compacted-rev rev is ct m =
 
 pub done-compact : (w : Bool) (x o : List ℕ) (v : ℕ) (es : List Event) (is : List Item) (ct m : ℕ)
     → viewAt w x o ≡ at w v es → v < 2 ^ 32 → CommitFits (crc allOnes (toLe32 (plus32 v 1))) allOnes is ct m
-    → viewAt w x (compacted (plus32 v 1) is ct m) ≡ at (not w) (plus32 v 1) (commitEvents (crc allOnes (toLe32 (plus32 v 1))) allOnes is ct)
+    → viewAt w x (compacted (plus32 v 1) is ct m) ≡ at (not w) (plus32 v 1)
+    (commitEvents (crc allOnes (toLe32 (plus32 v 1))) allOnes is ct)
 unfolding commitEvents
 done-compact w x o v es is ct m h small f =
     let r : ℕ = plus32 v 1 in

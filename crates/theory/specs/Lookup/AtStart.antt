@@ -1,5 +1,5 @@
--- A lookup at offset 0 on the bytes of a block: it reads nothing behind where the walk back begins, and it answers what the
--- place it finds holds. Assumes nothing.
+-- A lookup at offset 0 on the bytes of a block: it reads nothing behind where the walk back begins, and it answers what
+-- the place it finds holds. Assumes nothing.
 use mathlib.Core.Path.{_≡_, refl, sym, ap, _∙_}
 use mathlib.Core.Bool.{Bool, true, false, cond, _&&_}
 use mathlib.Core.List.{List, [], _∷_}
@@ -38,9 +38,11 @@ backs-in : (k : ℕ) (b : List ℕ) (off t n : ℕ) → off ≤ n → MetIn n (b
 unfolding backs
 backs-in zero b off t n h = tt
 backs-in (suc k) b off t n h =
-    go (leb (4 + tagLength t) off) refl (backs-in k b (off - tagLength t) (xor (be32 (drop (off - tagLength t) b)) t % 2 ^ 31) n (omega arith))
+    go (leb (4 + tagLength t) off) refl
+    (backs-in k b (off - tagLength t) (xor (be32 (drop (off - tagLength t) b)) t % 2 ^ 31) n (omega arith))
   where
-    go : (c : Bool) → leb (4 + tagLength t) off ≡ c → MetIn n (backs k b (off - tagLength t) (xor (be32 (drop (off - tagLength t) b)) t % 2 ^ 31))
+    go : (c : Bool) → leb (4 + tagLength t) off ≡ c
+        → MetIn n (backs k b (off - tagLength t) (xor (be32 (drop (off - tagLength t) b)) t % 2 ^ 31))
         → MetIn n (hop (backs k b) c b off t)
     go true e ih = let l : 4 + tagLength t ≤ off = leb-true (4 + tagLength t) off e in (omega arith, ih)
     go false e ih = tt
@@ -58,7 +60,8 @@ wlook-in n ids mask key d (m ∷ ms) h =
     (wlook-in n ids mask key (diffAfter ids (m .tag) key d) ms (h .1))
   where
     go : (a b c : Bool) → tagDelete (m .tag) ≡ c → FoundIn n (wlook ids mask key (diffAfter ids (m .tag) key d) ms)
-        → FoundIn n (cond a noEntry (cond b (cond c noEntry (found (m .tag) (m .off) (diffAfter ids (m .tag) key d))) (wlook ids mask key (diffAfter ids (m .tag) key d) ms)))
+        → FoundIn n (cond a noEntry (cond b (cond c noEntry (found (m .tag) (m .off) (diffAfter ids (m .tag) key d)))
+        (wlook ids mask key (diffAfter ids (m .tag) key d) ms)))
     go true b c e k = tt
     go false true true e k = tt
     go false true false e k = (h .0, e)
@@ -95,11 +98,18 @@ module _ (e : ℕ) (x y : List ℕ) (same : take e x ≡ take e y) where
   same-at i h = sym (getD-take e x i 0 h) ∙ ap (λ (l : List ℕ). getD l i 0) same ∙ getD-take e y i 0 h
 
   same-word : (p : ℕ) → p + 4 ≤ e → be32 (drop p x) ≡ be32 (drop p y)
-  same-word p h = be32-at x p ∙ rw (same-at p (omega arith), same-at (p + 1) (omega arith), same-at (p + 2) (omega arith), same-at (p + 3) (omega arith)) (sym (be32-at y p))
+  same-word p h = be32-at x p
+      ∙ rw (
+        same-at p (omega arith),
+        same-at (p + 1) (omega arith),
+        same-at (p + 2) (omega arith),
+        same-at (p + 3) (omega arith),
+      ) (sym (be32-at y p))
 
   pub same-piece : (p k : ℕ) → p + k ≤ e → take k (drop p x) ≡ take k (drop p y)
   same-piece p k h =
-      piece p k x ∙ ap (drop p) (sym (take-take (p + k) e x h) ∙ ap (take (p + k)) same ∙ take-take (p + k) e y h) ∙ sym (piece p k y)
+      piece p k x ∙ ap (drop p) (sym (take-take (p + k) e x h) ∙ ap (take (p + k)) same ∙ take-take (p + k) e y h)
+      ∙ sym (piece p k y)
 
   backs-same : (k off t : ℕ) → off ≤ e → backs k x off t ≡ backs k y off t
   unfolding backs
@@ -107,12 +117,15 @@ module _ (e : ℕ) (x y : List ℕ) (same : take e x ≡ take e y) where
   backs-same (suc k) off t h =
       go (leb (4 + tagLength t) off) refl (λ u. backs-same k (off - tagLength t) u (omega arith))
     where
-      go : (c : Bool) → leb (4 + tagLength t) off ≡ c → ((u : ℕ) → backs k x (off - tagLength t) u ≡ backs k y (off - tagLength t) u)
+      go : (c : Bool) → leb (4 + tagLength t) off ≡ c
+          → ((u : ℕ) → backs k x (off - tagLength t) u ≡ backs k y (off - tagLength t) u)
           → hop (backs k x) c x off t ≡ hop (backs k y) c y off t
       go true f ih =
           let l : 4 + tagLength t ≤ off = leb-true (4 + tagLength t) off f in
-          let w : be32 (drop (off - tagLength t) x) ≡ be32 (drop (off - tagLength t) y) = same-word (off - tagLength t) (omega (arith, tagLength-ge t)) in
-          rw w (ap (λ (z : List Met). record { tag = t; off = off - tagLength t } ∷ z) (ih (xor (be32 (drop (off - tagLength t) y)) t % 2 ^ 31)))
+          let w : be32 (drop (off - tagLength t) x) ≡ be32 (drop (off - tagLength t) y) =
+          same-word (off - tagLength t) (omega (arith, tagLength-ge t)) in
+          rw w (ap (λ (z : List Met). record { tag = t; off = off - tagLength t } ∷ z)
+          (ih (xor (be32 (drop (off - tagLength t) y)) t % 2 ^ 31)))
       go false f ih = refl
 
   pub back-same : (off t : ℕ) → off ≤ e → back x off t ≡ back y off t
@@ -121,37 +134,47 @@ module _ (e : ℕ) (x y : List ℕ) (same : take e x ≡ take e y) where
 
   -- what was found before e is read alike
   pub slice-same : (buffer : List ℕ) (f : Found) → FoundIn e f → length x ≡ length y
-      → (sliceAnswer x 0 (length buffer) f ≡ sliceAnswer y 0 (length buffer) f) × (sliceBuffer x 0 buffer f ≡ sliceBuffer y 0 buffer f)
+      → (sliceAnswer x 0 (length buffer) f ≡ sliceAnswer y 0 (length buffer) f)
+      × (sliceBuffer x 0 buffer f ≡ sliceBuffer y 0 buffer f)
   slice-same buffer noEntry h long = (refl, refl)
   slice-same buffer (found t off d) h long =
       let z : tagLength t ≡ 4 + tagSize t = length-size t (eqb-false (tagSize t) 0x3ff (h .1)) in
-      let s : take (min (tagSize t) (length buffer)) (drop (sliceStart off 0) x) ≡ take (min (tagSize t) (length buffer)) (drop (sliceStart off 0) y)
-      = same-piece (sliceStart off 0) (min (tagSize t) (length buffer)) (omega (arith, h .0, min-le-left (tagSize t) (length buffer))) in
+      let s : take (min (tagSize t) (length buffer)) (drop (sliceStart off 0) x)
+      ≡ take (min (tagSize t) (length buffer)) (drop (sliceStart off 0) y)
+      = same-piece (sliceStart off 0) (min (tagSize t) (length buffer))
+      (omega (arith, h .0, min-le-left (tagSize t) (length buffer))) in
       rw (long, s) (refl, refl)
 
 -- ---- a place that was found holds this
-size-min : (b : List ℕ) (t off : ℕ) → off + tagLength t ≤ length b → tagLength t ≡ 4 + tagSize t → length (take (tagLength t - 4) (drop 4 (drop off b))) ≡ tagSize t
+size-min : (b : List ℕ) (t off : ℕ) → off + tagLength t ≤ length b → tagLength t ≡ 4 + tagSize t
+    → length (take (tagLength t - 4) (drop 4 (drop off b))) ≡ tagSize t
 size-min b t off h z =
-    let l : length (drop 4 (drop off b)) ≡ length b - off - 4 = length-drop 4 (drop off b) ∙ ap (λ (n : ℕ). n - 4) (length-drop off b) in
+    let l : length (drop 4 (drop off b)) ≡ length b - off - 4 = length-drop 4 (drop off b)
+    ∙ ap (λ (n : ℕ). n - 4) (length-drop off b) in
     length-take-le (tagLength t - 4) (drop 4 (drop off b)) (omega arith) ∙ omega arith
 
 take-both : (n k : ℕ) (l : List ℕ) → take n (take k l) ≡ take (min k n) l
 take-both zero k l = ap (λ (n : ℕ). take n l) (sym (min-zero k))
 take-both (suc n) zero l = ap (λ (n : ℕ). take n l) (sym (zero-min (suc n)))
 take-both (suc n) (suc k) [] = sym (take-nil (min (suc k) (suc n)))
-take-both (suc n) (suc k) (x ∷ l) = ap (λ (z : List ℕ). x ∷ z) (take-both n k l) ∙ ap (λ (m : ℕ). take m (x ∷ l)) (sym (suc-min-suc k n))
+take-both (suc n) (suc k) (x ∷ l) = ap (λ (z : List ℕ). x ∷ z) (take-both n k l)
+    ∙ ap (λ (m : ℕ). take m (x ∷ l)) (sym (suc-min-suc k n))
 
 pub slice-held : (b buffer : List ℕ) (i : ℕ) (f : Found) → FoundIn (length b) f → Answers i f
-    → (sliceAnswer b 0 (length buffer) f ≡ heldGot i (holds b f)) × (sliceBuffer b 0 buffer f ≡ heldBuffer buffer (holds b f))
+    → (sliceAnswer b 0 (length buffer) f ≡ heldGot i (holds b f))
+    × (sliceBuffer b 0 buffer f ≡ heldBuffer buffer (holds b f))
 unfolding holds
 slice-held b buffer i noEntry h a = (refl, refl)
 slice-held b buffer i (found t off d) h a =
     let z : tagLength t ≡ 4 + tagSize t = length-size t (eqb-false (tagSize t) 0x3ff (h .1)) in
     let n : length (take (tagLength t - 4) (drop 4 (drop off b))) ≡ tagSize t = size-min b t off (h .0) z in
     let fits : leb (sliceEnd t off 0 (length buffer)) (length b) ≡ true
-    = le-leb (sliceEnd t off 0 (length buffer)) (length b) (omega (arith, h .0, min-le-left (tagSize t) (length buffer))) in
+    = le-leb (sliceEnd t off 0 (length buffer)) (length b)
+    (omega (arith, h .0, min-le-left (tagSize t) (length buffer))) in
     let four : tagLength t - 4 ≡ tagSize t = omega arith in
-    let at : drop 4 (drop off b) ≡ drop (sliceStart off 0) b = drop-drop 4 off b ∙ ap (λ (n : ℕ). drop n b) (sym (add-zero (off + 4))) in
-    let bytes : take (length buffer) (take (tagLength t - 4) (drop 4 (drop off b))) ≡ take (min (tagSize t) (length buffer)) (drop (sliceStart off 0) b)
+    let at : drop 4 (drop off b) ≡ drop (sliceStart off 0) b = drop-drop 4 off b
+    ∙ ap (λ (n : ℕ). drop n b) (sym (add-zero (off + 4))) in
+    let bytes : take (length buffer) (take (tagLength t - 4) (drop 4 (drop off b)))
+    ≡ take (min (tagSize t) (length buffer)) (drop (sliceStart off 0) b)
     = rw (four, at) (take-both (length buffer) (tagSize t) (drop (sliceStart off 0) b)) in
     rw (fits, n, bytes, a) (refl, refl)

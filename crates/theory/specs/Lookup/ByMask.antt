@@ -1,4 +1,5 @@
--- The lookup as document 01 words it, masks and a key and a difference that wrap, is the search for a class of a slot. Assumes nothing.
+-- The lookup as document 01 words it, masks and a key and a difference that wrap, is the search for a class of a slot.
+-- Assumes nothing.
 use mathlib.Core.Path.{_≡_, refl, sym, ap, _∙_}
 use mathlib.Core.Logic.{_≢_}
 use mathlib.Core.Bool.{Bool, true, false, _&&_}
@@ -52,22 +53,28 @@ FewBack [] = Unit {0}
 FewBack (a ∷ l) = (length (dir l) ≤ mostSlots) × FewBack l
 
 -- ---- words
-wrap-down : (g d K : ℕ) → g < 2 ^ 32 → d < 2 ^ 32 → 2 ^ 10 ≤ K → minus32 g d ≡ K → minus32 g (plus32 d (2 ^ 10)) ≡ K - 2 ^ 10
+wrap-down : (g d K : ℕ) → g < 2 ^ 32 → d < 2 ^ 32 → 2 ^ 10 ≤ K → minus32 g d ≡ K
+    → minus32 g (plus32 d (2 ^ 10)) ≡ K - 2 ^ 10
 wrap-down g d K hg hd h e = omega arith
 
-wrap-up : (g d K : ℕ) → g < 2 ^ 32 → d < 2 ^ 32 → K + 2 ^ 10 < 2 ^ 32 → minus32 g d ≡ K → minus32 g (plus32 d (2 ^ 32 - 2 ^ 10)) ≡ K + 2 ^ 10
+wrap-up : (g d K : ℕ) → g < 2 ^ 32 → d < 2 ^ 32 → K + 2 ^ 10 < 2 ^ 32 → minus32 g d ≡ K
+    → minus32 g (plus32 d (2 ^ 32 - 2 ^ 10)) ≡ K + 2 ^ 10
 wrap-up g d K hg hd h e = omega arith
 
-down : (g d T i s : ℕ) → g < 2 ^ 32 → d < 2 ^ 32 → 0 < i → minus32 g d ≡ tagOf T i s → minus32 g (plus32 d (2 ^ 10)) ≡ tagOf T (i - 1) s
+down : (g d T i s : ℕ) → g < 2 ^ 32 → d < 2 ^ 32 → 0 < i → minus32 g d ≡ tagOf T i s
+    → minus32 g (plus32 d (2 ^ 10)) ≡ tagOf T (i - 1) s
 unfolding tagOf
 down g d T i s hg hd h e =
-    let w : minus32 g (plus32 d (2 ^ 10)) ≡ T * 2 ^ 20 + i * 2 ^ 10 + s - 2 ^ 10 = wrap-down g d (T * 2 ^ 20 + i * 2 ^ 10 + s) hg hd (omega arith) e in
+    let w : minus32 g (plus32 d (2 ^ 10)) ≡ T * 2 ^ 20 + i * 2 ^ 10 + s - 2 ^ 10 =
+    wrap-down g d (T * 2 ^ 20 + i * 2 ^ 10 + s) hg hd (omega arith) e in
     w ∙ omega arith
 
-up : (g d T i s : ℕ) → g < 2 ^ 32 → d < 2 ^ 32 → T < 2 ^ 11 → i < mostSlots → s < 2 ^ 10 → minus32 g d ≡ tagOf T i s → minus32 g (plus32 d (2 ^ 32 - 2 ^ 10)) ≡ tagOf T (i + 1) s
+up : (g d T i s : ℕ) → g < 2 ^ 32 → d < 2 ^ 32 → T < 2 ^ 11 → i < mostSlots → s < 2 ^ 10 → minus32 g d ≡ tagOf T i s
+    → minus32 g (plus32 d (2 ^ 32 - 2 ^ 10)) ≡ tagOf T (i + 1) s
 unfolding tagOf
 up g d T i s hg hd ht h k e =
-    let w : minus32 g (plus32 d (2 ^ 32 - 2 ^ 10)) ≡ T * 2 ^ 20 + i * 2 ^ 10 + s + 2 ^ 10 = wrap-up g d (T * 2 ^ 20 + i * 2 ^ 10 + s) hg hd (omega arith) e in
+    let w : minus32 g (plus32 d (2 ^ 32 - 2 ^ 10)) ≡ T * 2 ^ 20 + i * 2 ^ 10 + s + 2 ^ 10 =
+    wrap-up g d (T * 2 ^ 20 + i * 2 ^ 10 + s) hg hd (omega arith) e in
     w ∙ omega arith
 
 splice-mk : (j : ℕ) → j < 2 ^ 10 → asIds (tagSplice (tagOf typeCreate j 0)) ≡ 2 ^ 10
@@ -84,7 +91,8 @@ eqb-create i j = go (eqb j i) refl
   where
     go : (b : Bool) → eqb j i ≡ b → eqb (tagOf typeCreate j 0) (tagOf typeCreate i 0) ≡ b
     go true e = let q : j ≡ i = eqb-true j i e in eq-eqb (tagOf typeCreate j 0) (tagOf typeCreate i 0) (omega arith)
-    go false e = let n : j ≢ i = eqb-false j i e in ne-eqb (tagOf typeCreate j 0) (tagOf typeCreate i 0) (λ q. n (omega arith))
+    go false e = let n : j ≢ i = eqb-false j i e in ne-eqb (tagOf typeCreate j 0) (tagOf typeCreate i 0)
+        (λ q. n (omega arith))
 
 eqb-delete : (i j : ℕ) → i < 2 ^ 10 → eqb (tagOf typeDelete j 0) (tagOf typeCreate i 0) ≡ false
 unfolding tagOf
@@ -96,7 +104,8 @@ answer-word : (type size diff T asked i s : ℕ) → diff < 2 ^ 32 → type < 2 
 unfolding tagOf
 answer-word type size diff T asked i s hd ht ha hs e = omega arith
 
-answers : (t diff T asked i s : ℕ) → diff < 2 ^ 32 → asked < 2 ^ 10 → minus32 (tagOf T asked s) diff ≡ tagOf T i s → i ≡ tagId t → t < 2 ^ 31
+answers : (t diff T asked i s : ℕ) → diff < 2 ^ 32 → asked < 2 ^ 10 → minus32 (tagOf T asked s) diff ≡ tagOf T i s
+    → i ≡ tagId t → t < 2 ^ 31
     → plus32 t diff ≡ tagOf (tagType3 t) asked (tagSize t)
 answers t diff T asked i s hd ha e is small =
     ap (λ (x : ℕ). plus32 x diff) (sym (of-fields t small) ∙ ap (λ (x : ℕ). tagOf (tagType3 t) x (tagSize t)) (sym is))
@@ -114,13 +123,15 @@ module _ (b : List ℕ) (mask T c s asked : ℕ) (q : Query mask T c) (hs : s < 
   hg : key < 2 ^ 32
   hg = omega (arith, of-valid T asked s (q .0) ha hs)
 
-  pub wlook-find : (ms : List Met) (d i : ℕ) → d < 2 ^ 32 → Shapes b ms → AllAllowed (map (seen b) ms) → FewBack (map (seen b) ms) → length (dir (map (seen b) ms)) ≤ mostSlots
+  pub wlook-find : (ms : List Met) (d i : ℕ) → d < 2 ^ 32 → Shapes b ms → AllAllowed (map (seen b) ms)
+      → FewBack (map (seen b) ms) → length (dir (map (seen b) ms)) ≤ mostSlots
       → i < length (dir (map (seen b) ms)) → minus32 key d ≡ tagOf T i s
       → (holds b (wlook true mask key d ms) ≡ find c i (map (seen b) ms)) × Answers asked (wlook true mask key d ms)
   unfolding splicedAt wlook holds find dir apply hitAct
   wlook-find [] d i hd sh r lo few hi e = (refl, tt)
   wlook-find (m ∷ ms) d i hd sh r lo few hi e =
-      go (seen b m) refl (sh .0) (r .0) hi (λ d′ i′ hd′ hi′ e′. wlook-find ms d′ i′ hd′ (sh .1) (r .1) (lo .1) (lo .0) hi′ e′)
+      go (seen b m) refl (sh .0) (r .0) hi (λ d′ i′ hd′ hi′ e′. wlook-find ms d′ i′ hd′ (sh .1) (r .1) (lo .1) (lo .0)
+      hi′ e′)
     where
       l : List Act
       l = map (seen b) ms
@@ -128,12 +139,16 @@ module _ (b : List ℕ) (mask T c s asked : ℕ) (q : Query mask T c) (hs : s < 
       i-low : i < mostSlots
       i-low = omega arith
 
-      miss : (a : Act) → seen b m ≡ a → (i′ : ℕ) → i′ < 2 ^ 10 → eqb (bitAnd (m .tag) mask) (bitAnd (tagOf T i′ s) mask) ≡ hitAct c i′ a
+      miss : (a : Act) → seen b m ≡ a → (i′ : ℕ) → i′ < 2 ^ 10
+          → eqb (bitAnd (m .tag) mask) (bitAnd (tagOf T i′ s) mask) ≡ hitAct c i′ a
       miss a ea i′ h = q .1 (m .tag) i′ s (bytesAt b m) h hs ∙ ap (hitAct c i′) (sym (seen-act b m) ∙ ea)
 
-      go : (a : Act) → seen b m ≡ a → Shape (m .tag) (bytesAt b m) a → Allowed a (length (dir l)) → i < length (apply (dir l) (seen b m))
-          → ((d′ i′ : ℕ) → d′ < 2 ^ 32 → i′ < length (dir l) → minus32 key d′ ≡ tagOf T i′ s → (holds b (wlook true mask key d′ ms) ≡ find c i′ l) × Answers asked (wlook true mask key d′ ms))
-          → (holds b (wlook true mask key d (m ∷ ms)) ≡ find c i (a ∷ l)) × Answers asked (wlook true mask key d (m ∷ ms))
+      go : (a : Act) → seen b m ≡ a → Shape (m .tag) (bytesAt b m) a → Allowed a (length (dir l))
+          → i < length (apply (dir l) (seen b m))
+          → ((d′ i′ : ℕ) → d′ < 2 ^ 32 → i′ < length (dir l) → minus32 key d′ ≡ tagOf T i′ s
+          → (holds b (wlook true mask key d′ ms) ≡ find c i′ l) × Answers asked (wlook true mask key d′ ms))
+          → (holds b (wlook true mask key d (m ∷ ms)) ≡ find c i (a ∷ l))
+          × Answers asked (wlook true mask key d (m ∷ ms))
       go (mk j) ea sp ru h ih = sub (leb j i) refl (eqb j i) refl
         where
           t1 : tagType1 (m .tag) ≡ typeSplice
@@ -151,13 +166,26 @@ module _ (b : List ℕ) (mask T c s asked : ℕ) (q : Query mask T c) (hs : s < 
           len : length (apply (dir l) (seen b m)) ≡ suc (length (dir l))
           len = rw ea (length-ins (dir l) j empty ru)
 
-          sub : (bl : Bool) → leb j i ≡ bl → (be : Bool) → eqb j i ≡ be → (holds b (wlook true mask key d (m ∷ ms)) ≡ find c i (mk j ∷ l)) × Answers asked (wlook true mask key d (m ∷ ms))
+          sub : (bl : Bool) → leb j i ≡ bl → (be : Bool) → eqb j i ≡ be
+              → (holds b (wlook true mask key d (m ∷ ms)) ≡ find c i (mk j ∷ l))
+              × Answers asked (wlook true mask key d (m ∷ ms))
           sub true el true ee = rw (e, t1, t2, of-id T i s (omega (arith, i-low)) hs, el, t3, ee) (refl, tt)
           sub true el false ee =
               let n : j ≢ i = eqb-false j i ee in
               let le : j ≤ i = leb-true j i el in
               let pos : 0 < i = omega arith in
-              rw (e, t1, t2, of-id T i s (omega (arith, i-low)) hs, el, t3, ee, t4, down key d T i s hg hd pos e, miss (mk j) ea (i - 1) (omega (arith, i-low)))
+              rw (
+                e,
+                t1,
+                t2,
+                of-id T i s (omega (arith, i-low)) hs,
+                el,
+                t3,
+                ee,
+                t4,
+                down key d T i s hg hd pos e,
+                miss (mk j) ea (i - 1) (omega (arith, i-low)),
+              )
               (ih (plus32 d (2 ^ 10)) (i - 1) (omega arith) (omega (arith, len)) (down key d T i s hg hd pos e))
           sub false el be ee =
               rw (e, t1, t2, of-id T i s (omega (arith, i-low)) hs, el, e, miss (mk j) ea i (omega (arith, i-low)))
@@ -179,10 +207,22 @@ module _ (b : List ℕ) (mask T c s asked : ℕ) (q : Query mask T c) (hs : s < 
           len : length (apply (dir l) (seen b m)) ≡ length (dir l) - 1
           len = rw ea (length-del (dir l) j ru)
 
-          sub : (bl : Bool) → leb j i ≡ bl → (holds b (wlook true mask key d (m ∷ ms)) ≡ find c i (rm j ∷ l)) × Answers asked (wlook true mask key d (m ∷ ms))
+          sub : (bl : Bool) → leb j i ≡ bl → (holds b (wlook true mask key d (m ∷ ms)) ≡ find c i (rm j ∷ l))
+              × Answers asked (wlook true mask key d (m ∷ ms))
           sub true el =
-              rw (e, t1, t2, of-id T i s (omega (arith, i-low)) hs, el, t3, t4, up key d T i s hg hd (q .0) i-low hs e, miss (rm j) ea (i + 1) (omega (arith, i-low)))
-              (ih (plus32 d (2 ^ 32 - 2 ^ 10)) (i + 1) (omega arith) (omega (arith, len)) (up key d T i s hg hd (q .0) i-low hs e))
+              rw (
+                e,
+                t1,
+                t2,
+                of-id T i s (omega (arith, i-low)) hs,
+                el,
+                t3,
+                t4,
+                up key d T i s hg hd (q .0) i-low hs e,
+                miss (rm j) ea (i + 1) (omega (arith, i-low)),
+              )
+              (ih (plus32 d (2 ^ 32 - 2 ^ 10)) (i + 1) (omega arith) (omega (arith, len))
+              (up key d T i s hg hd (q .0) i-low hs e))
           sub false el =
               rw (e, t1, t2, of-id T i s (omega (arith, i-low)) hs, el, e, miss (rm j) ea i (omega (arith, i-low)))
               (ih d i hd (omega (arith, len)) e)
@@ -191,11 +231,15 @@ module _ (b : List ℕ) (mask T c s asked : ℕ) (q : Query mask T c) (hs : s < 
           len : length (apply (dir l) (seen b m)) ≡ length (dir l)
           len = rw ea (length-set (dir l) j (upd (getD (dir l) j empty) k v))
 
-          sub : (hb : Bool) → eqb j i && eqb c k ≡ hb → (rb : Bool) → tagDelete (m .tag) ≡ rb → (holds b (wlook true mask key d (m ∷ ms)) ≡ find c i (put j k v ∷ l)) × Answers asked (wlook true mask key d (m ∷ ms))
-          sub true eh true er = rw (sp .0, e, miss (put j k v) ea i (omega (arith, i-low)), eh, er, sp .1, er) (refl, tt)
+          sub : (hb : Bool) → eqb j i && eqb c k ≡ hb → (rb : Bool) → tagDelete (m .tag) ≡ rb
+              → (holds b (wlook true mask key d (m ∷ ms)) ≡ find c i (put j k v ∷ l))
+              × Answers asked (wlook true mask key d (m ∷ ms))
+          sub true eh true er = rw (sp .0, e, miss (put j k v) ea i (omega (arith, i-low)), eh, er, sp .1, er)
+              (refl, tt)
           sub true eh false er =
               let is : j ≡ i = eqb-true j i (both-true (eqb j i) (eqb c k) eh .0) in
               rw (sp .0, e, miss (put j k v) ea i (omega (arith, i-low)), eh, er, sp .1, er)
               (refl, answers (m .tag) d T asked i s hd ha e (sym is ∙ sp .2) (sp .3))
-          sub false eh rb er = rw (sp .0, e, miss (put j k v) ea i (omega (arith, i-low)), eh) (ih d i hd (omega (arith, len)) e)
+          sub false eh rb er = rw (sp .0, e, miss (put j k v) ea i (omega (arith, i-low)), eh)
+              (ih d i hd (omega (arith, len)) e)
       go skip ea sp ru h ih = rw (sp, e, miss skip ea i (omega (arith, i-low))) (ih d i hd (rw ea at h) e)

@@ -1,4 +1,5 @@
--- The directory lookups as queries: a mask and a type that match exactly the tags of one class of one slot. Assumes nothing.
+-- The directory lookups as queries: a mask and a type that match exactly the tags of one class of one slot. Assumes
+-- nothing.
 use mathlib.Core.Path.{_≡_, refl, sym, ap, ap₂, _∙_}
 use mathlib.Core.Logic.{_≢_}
 use mathlib.Core.Bool.{Bool, true, false, cond, _&&_}
@@ -27,7 +28,8 @@ pub mask-type1 : (n : ℕ) → bitAnd n maskType1 ≡ tagType1 n * 2 ^ 20 + tagI
 mask-type1 n =
     ap (λ x. bitAnd x maskType1) (sym (split n 28))
     ∙ and-block 28 (n / 2 ^ 28) 7 (n % 2 ^ 28) 0xf_fc00 (omega arith) (omega arith)
-    ∙ ap₂ (λ x y. x * 2 ^ 28 + y) (and-mask (n / 2 ^ 28) 3) (and-high (n % 2 ^ 28) 10 10 ∙ ap (λ x. x * 2 ^ 10) (low-field n))
+    ∙ ap₂ (λ x y. x * 2 ^ 28 + y) (and-mask (n / 2 ^ 28) 3) (and-high (n % 2 ^ 28) 10 10
+    ∙ ap (λ x. x * 2 ^ 10) (low-field n))
     ∙ omega arith
 
 pub mask-type3 : (n : ℕ) → bitAnd n maskType3 ≡ tagType3 n * 2 ^ 20 + tagId n * 2 ^ 10
@@ -48,21 +50,25 @@ both a b c d e f h k = go (eqb c d) refl (eqb e f) refl
     go true p false q = ne-eqb a b (λ z. eqb-false e f q (h z .1))
     go false p y q = ne-eqb a b (λ z. eqb-false c d p (h z .0))
 
-fields : (K I T i : ℕ) → I < 2 ^ 10 → i < 2 ^ 10 → eqb (K * 2 ^ 20 + I * 2 ^ 10) (T * 2 ^ 20 + i * 2 ^ 10) ≡ eqb I i && eqb K T
+fields : (K I T i : ℕ) → I < 2 ^ 10 → i < 2 ^ 10 → eqb (K * 2 ^ 20 + I * 2 ^ 10) (T * 2 ^ 20 + i * 2 ^ 10) ≡ eqb I i
+    && eqb K T
 fields K I T i h k =
     both (K * 2 ^ 20 + I * 2 ^ 10) (T * 2 ^ 20 + i * 2 ^ 10) I i K T
     (λ e. let f : K ≡ T = same-top K I T i h k e in (omega arith, f)) (λ e f. omega arith)
 
 -- a tag against a key of type T, id i and size s
 type1-hit : (t T i s : ℕ) → T < 2 ^ 11 → i < 2 ^ 10 → s < 2 ^ 10
-    → eqb (bitAnd t maskType1) (bitAnd (tagOf T i s) maskType1) ≡ eqb (tagId t) i && eqb (tagType1 t) (T / 2 ^ 8 * 2 ^ 8)
+    → eqb (bitAnd t maskType1) (bitAnd (tagOf T i s) maskType1) ≡ eqb (tagId t) i
+    && eqb (tagType1 t) (T / 2 ^ 8 * 2 ^ 8)
 type1-hit t T i s a h k =
-    rw (mask-type1 t, mask-type1 (tagOf T i s), of-type1 T i s a h k, of-id T i s h k) (fields (tagType1 t) (tagId t) (T / 2 ^ 8 * 2 ^ 8) i (omega arith) h)
+    rw (mask-type1 t, mask-type1 (tagOf T i s), of-type1 T i s a h k, of-id T i s h k)
+    (fields (tagType1 t) (tagId t) (T / 2 ^ 8 * 2 ^ 8) i (omega arith) h)
 
 type3-hit : (t T i s : ℕ) → T < 2 ^ 11 → i < 2 ^ 10 → s < 2 ^ 10
     → eqb (bitAnd t maskType3) (bitAnd (tagOf T i s) maskType3) ≡ eqb (tagId t) i && eqb (tagType3 t) T
 type3-hit t T i s a h k =
-    rw (mask-type3 t, mask-type3 (tagOf T i s), of-type3 T i s a h k, of-id T i s h k) (fields (tagType3 t) (tagId t) T i (omega arith) h)
+    rw (mask-type3 t, mask-type3 (tagOf T i s), of-type3 T i s a h k, of-id T i s h k)
+    (fields (tagType3 t) (tagId t) T i (omega arith) h)
 
 -- ---- a query of class c: the mask and the type T match what puts something under c of slot i
 unfoldable pub hitAct : ℕ → ℕ → Act → Bool
@@ -72,7 +78,8 @@ hitAct c i (rm j) = false
 hitAct c i skip = false
 
 abbrev pub Query : ℕ → ℕ → ℕ → Type 0
-Query mask T c = (T < 2 ^ 11) × ((t i s : ℕ) (x : List ℕ) → i < 2 ^ 10 → s < 2 ^ 10 → eqb (bitAnd t mask) (bitAnd (tagOf T i s) mask) ≡ hitAct c i (act t x))
+Query mask T c = (T < 2 ^ 11) × ((t i s : ℕ) (x : List ℕ) → i < 2 ^ 10 → s < 2 ^ 10
+    → eqb (bitAnd t mask) (bitAnd (tagOf T i s) mask) ≡ hitAct c i (act t x))
 
 hit-act : (c i t : ℕ) (x : List ℕ) → hitAct c i (act t x)
     ≡ cond (isName t) (eqb (tagId t) i && eqb c 0) (cond (isStruct t) (eqb (tagId t) i && eqb c 1)
@@ -81,8 +88,11 @@ unfolding hitAct act
 hit-act c i t x = go (isName t) (isStruct t) (isAttr t) (eqb (tagType3 t) typeCreate) (eqb (tagType3 t) typeDelete)
   where
     go : (b0 b2 b3 bc bd : Bool)
-        → hitAct c i (cond b0 (put (tagId t) 0 (loadOf t x)) (cond b2 (put (tagId t) 1 (loadOf t x)) (cond b3 (put (tagId t) (2 + tagChunk t) (loadOf t x)) (cond bc (mk (tagId t)) (cond bd (rm (tagId t)) skip)))))
-        ≡ cond b0 (eqb (tagId t) i && eqb c 0) (cond b2 (eqb (tagId t) i && eqb c 1) (cond b3 (eqb (tagId t) i && eqb c (2 + tagChunk t)) false))
+        → hitAct c i (cond b0 (put (tagId t) 0 (loadOf t x))
+        (cond b2 (put (tagId t) 1 (loadOf t x)) (cond b3 (put (tagId t) (2 + tagChunk t) (loadOf t x))
+        (cond bc (mk (tagId t)) (cond bd (rm (tagId t)) skip)))))
+        ≡ cond b0 (eqb (tagId t) i && eqb c 0) (cond b2 (eqb (tagId t) i && eqb c 1)
+        (cond b3 (eqb (tagId t) i && eqb c (2 + tagChunk t)) false))
     go true b2 b3 bc bd = refl
     go false true b3 bc bd = refl
     go false false true bc bd = refl
@@ -96,10 +106,15 @@ and-no false = refl
 
 -- the name, "type under 0x700"
 pub query-name : Query maskType1 typeName 0
-query-name = (omega arith, λ t i s x h k. type1-hit t typeName i s (omega arith) h k ∙ sym (hit-act 0 i t x ∙ go t i (isName t) refl (isStruct t) (isAttr t)))
+query-name = (
+  omega arith,
+  λ t i s x h k. type1-hit t typeName i s (omega arith) h k ∙ sym (hit-act 0 i t x
+      ∙ go t i (isName t) refl (isStruct t) (isAttr t)),
+)
   where
     go : (t i : ℕ) (b0 : Bool) → isName t ≡ b0 → (b2 b3 : Bool)
-        → cond b0 (eqb (tagId t) i && eqb 0 0) (cond b2 (eqb (tagId t) i && eqb 0 1) (cond b3 (eqb (tagId t) i && eqb 0 (2 + tagChunk t)) false))
+        → cond b0 (eqb (tagId t) i && eqb 0 0) (cond b2 (eqb (tagId t) i && eqb 0 1)
+        (cond b3 (eqb (tagId t) i && eqb 0 (2 + tagChunk t)) false))
         ≡ eqb (tagId t) i && isName t
     go t i true e b2 b3 = rw e
     go t i false e true b3 = rw e
@@ -108,10 +123,15 @@ query-name = (omega arith, λ t i s x h k. type1-hit t typeName i s (omega arith
 
 -- the struct, "under 0x700"
 pub query-struct : Query maskType1 typeDirStruct 1
-query-struct = (omega arith, λ t i s x h k. type1-hit t typeDirStruct i s (omega arith) h k ∙ sym (hit-act 1 i t x ∙ go t i (isName t) refl (isStruct t) refl (isAttr t)))
+query-struct = (
+  omega arith,
+  λ t i s x h k. type1-hit t typeDirStruct i s (omega arith) h k ∙ sym (hit-act 1 i t x
+      ∙ go t i (isName t) refl (isStruct t) refl (isAttr t)),
+)
   where
     go : (t i : ℕ) (b0 : Bool) → isName t ≡ b0 → (b2 : Bool) → isStruct t ≡ b2 → (b3 : Bool)
-        → cond b0 (eqb (tagId t) i && eqb 1 0) (cond b2 (eqb (tagId t) i && eqb 1 1) (cond b3 (eqb (tagId t) i && eqb 1 (2 + tagChunk t)) false))
+        → cond b0 (eqb (tagId t) i && eqb 1 0) (cond b2 (eqb (tagId t) i && eqb 1 1)
+        (cond b3 (eqb (tagId t) i && eqb 1 (2 + tagChunk t)) false))
         ≡ eqb (tagId t) i && isStruct t
     go t i true e b2 f b3 = let z : tagType1 t ≡ typeName = eqb-true (tagType1 t) typeName e in rw z
     go t i false e true f b3 = rw f
@@ -124,12 +144,16 @@ query-attr u hu = (
   omega arith,
   λ t i s x h k.
       type3-hit t (typeUserAttr + u) i s (omega arith) h k
-      ∙ sym (hit-act (2 + u) i t x ∙ rw (type1-of t, chunk-of t) (go (eqb (tagId t) i) (tagType3 t) (eqb (tagType3 t / 2 ^ 8 * 2 ^ 8) typeName) refl (eqb (tagType3 t / 2 ^ 8 * 2 ^ 8) typeDirStruct) refl (eqb (tagType3 t / 2 ^ 8 * 2 ^ 8) typeUserAttr) refl)),
+      ∙ sym (hit-act (2 + u) i t x ∙ rw (type1-of t, chunk-of t)
+      (go (eqb (tagId t) i) (tagType3 t) (eqb (tagType3 t / 2 ^ 8 * 2 ^ 8) typeName) refl
+      (eqb (tagType3 t / 2 ^ 8 * 2 ^ 8) typeDirStruct) refl (eqb (tagType3 t / 2 ^ 8 * 2 ^ 8) typeUserAttr) refl)),
 )
   where
-    go : (a : Bool) (Y : ℕ) (b0 : Bool) → eqb (Y / 2 ^ 8 * 2 ^ 8) typeName ≡ b0 → (b2 : Bool) → eqb (Y / 2 ^ 8 * 2 ^ 8) typeDirStruct ≡ b2
+    go : (a : Bool) (Y : ℕ) (b0 : Bool) → eqb (Y / 2 ^ 8 * 2 ^ 8) typeName ≡ b0 → (b2 : Bool)
+        → eqb (Y / 2 ^ 8 * 2 ^ 8) typeDirStruct ≡ b2
         → (b3 : Bool) → eqb (Y / 2 ^ 8 * 2 ^ 8) typeUserAttr ≡ b3
-        → cond b0 (a && eqb (2 + u) 0) (cond b2 (a && eqb (2 + u) 1) (cond b3 (a && eqb (2 + u) (2 + Y % 2 ^ 8)) false)) ≡ a && eqb Y (typeUserAttr + u)
+        → cond b0 (a && eqb (2 + u) 0) (cond b2 (a && eqb (2 + u) 1) (cond b3 (a && eqb (2 + u) (2 + Y % 2 ^ 8)) false))
+        ≡ a && eqb Y (typeUserAttr + u)
     go a Y true e b2 f b3 g =
         let z : Y / 2 ^ 8 * 2 ^ 8 ≡ typeName = eqb-true (Y / 2 ^ 8 * 2 ^ 8) typeName e in
         rw (ne-eqb (2 + u) 0 (λ q. omega arith), ne-eqb Y (typeUserAttr + u) (λ q. omega arith))
@@ -142,7 +166,8 @@ query-attr u hu = (
         z = eqb-true (Y / 2 ^ 8 * 2 ^ 8) typeUserAttr g
 
         fin : (b : Bool) → eqb Y (typeUserAttr + u) ≡ b → eqb (2 + u) (2 + Y % 2 ^ 8) ≡ b
-        fin true q = let w : Y ≡ typeUserAttr + u = eqb-true Y (typeUserAttr + u) q in eq-eqb (2 + u) (2 + Y % 2 ^ 8) (omega arith)
+        fin true q = let w : Y ≡ typeUserAttr + u = eqb-true Y (typeUserAttr + u) q in eq-eqb (2 + u) (2 + Y % 2 ^ 8)
+            (omega arith)
         fin false q =
             let w : Y ≢ typeUserAttr + u = eqb-false Y (typeUserAttr + u) q in
             ne-eqb (2 + u) (2 + Y % 2 ^ 8) (λ p. w (omega (arith, z)))

@@ -34,7 +34,8 @@ abbrev MoveTags : List Met → Type 0
 MoveTags [] = Unit {0}
 MoveTags (m ∷ ms) = (isMove (m .tag) ≡ true → m .tag ≡ tagOf typeMove noSlot 12) × MoveTags ms
 
-move-tag : (c t : ℕ) → t < 2 ^ 31 → ruleHolds (ruleOf true (tagType3 t)) c (tagId t) (tagSize t) ≡ true → isMove t ≡ true → t ≡ tagOf typeMove noSlot 12
+move-tag : (c t : ℕ) → t < 2 ^ 31 → ruleHolds (ruleOf true (tagType3 t)) c (tagId t) (tagSize t) ≡ true
+    → isMove t ≡ true → t ≡ tagOf typeMove noSlot 12
 unfolding ruleOf ruleHolds
 move-tag c t small h e =
     let is : tagType3 t ≡ typeMove = eqb-true (tagType3 t) typeMove e in
@@ -51,8 +52,10 @@ places-moves (ent t d ∷ es) c off st h =
     let r = both-true (ruleHolds R c (tagId t) (tagSize t)) (regularFrom (countAfter R c) es) h in
     (move-tag c t (st .0 .0) (r .0), places-moves es (countAfter R c) (off + tagLength t) (st .1) (r .1))
 places-moves (chk t x ∷ es) c off st h =
-    let r = both-true (between 4 1_022 (tagSize t)) (regularFrom c es) h in
-    ((λ e. let z : _≡_ {A = Bool} true false = sym e ∙ check-move t (st .0 .1) in cc), places-moves es c (off + tagLength t) (st .1) (r .1))
+    let r = both-true (between 4 1_022 (tagSize t)) (regularFrom c es) h in (
+      (λ e. let z : _≡_ {A = Bool} true false = sym e ∙ check-move t (st .0 .1) in cc),
+      places-moves es c (off + tagLength t) (st .1) (r .1),
+    )
 places-moves (inv ∷ es) c off st h = absurd st
 
 moves-rev : (l r : List Met) → MoveTags l → MoveTags r → MoveTags (reverseAux l r)
@@ -60,26 +63,35 @@ moves-rev [] r h k = k
 moves-rev (m ∷ l) r h k = moves-rev l (m ∷ r) (h .1) (h .0, k)
 
 -- the end tag is a check, with bit 31 or without
-moves-top : (b : List ℕ) (off t : ℕ) → isCheck (t % 2 ^ 31) ≡ true → MoveTags (back b off (t % 2 ^ 31)) → MoveTags (back b off t)
-moves-top b off t c = rw (back-step b off t, back-step b off (t % 2 ^ 31), low-length t) (go (leb (4 + tagLength t) off))
+moves-top : (b : List ℕ) (off t : ℕ) → isCheck (t % 2 ^ 31) ≡ true → MoveTags (back b off (t % 2 ^ 31))
+    → MoveTags (back b off t)
+moves-top b off t c = rw (back-step b off t, back-step b off (t % 2 ^ 31), low-length t)
+    (go (leb (4 + tagLength t) off))
   where
     no : isMove t ≡ false
     no = rw (low-type3 t) at (check-move (t % 2 ^ 31) c)
 
     go : (x : Bool) → MoveTags (hop (back b) x b off (t % 2 ^ 31)) → MoveTags (hop (back b) x b off t)
-    go true h = ((λ e. let z : _≡_ {A = Bool} true false = sym e ∙ no in cc), rw (low-length t, ← xor-low (be32 (drop (off - tagLength t) b)) t) at (h .1))
+    go true h = (
+      (λ e. let z : _≡_ {A = Bool} true false = sym e ∙ no in cc),
+      rw (low-length t, ← xor-low (be32 (drop (off - tagLength t) b)) t) at (h .1),
+    )
     go false h = tt
 
-pub wlook-moved : (low : ℕ) (ms : List Met) → low < 2 ^ 20 → MoveTags ms → Answers noSlot (wlook false maskMove (maskMove + low) 0 ms)
+pub wlook-moved : (low : ℕ) (ms : List Met) → low < 2 ^ 20 → MoveTags ms
+    → Answers noSlot (wlook false maskMove (maskMove + low) 0 ms)
 unfolding wlook splicedAt tagOf
 wlook-moved low [] h k = tt
 wlook-moved low (m ∷ ms) h k =
     let key : minus32 (maskMove + low) 0 ≡ maskMove + low = omega arith in
-    rw (key, move-hit (m .tag) low h) (go (isMove (m .tag)) refl (tagDelete (m .tag)) (k .0) (wlook-moved low ms h (k .1)))
+    rw (key, move-hit (m .tag) low h) (go (isMove (m .tag)) refl (tagDelete (m .tag)) (k .0)
+    (wlook-moved low ms h (k .1)))
   where
-    go : (is : Bool) → isMove (m .tag) ≡ is → (gone : Bool) → (isMove (m .tag) ≡ true → m .tag ≡ tagOf typeMove noSlot 12)
+    go : (is : Bool) → isMove (m .tag) ≡ is → (gone : Bool)
+        → (isMove (m .tag) ≡ true → m .tag ≡ tagOf typeMove noSlot 12)
         → Answers noSlot (wlook false maskMove (maskMove + low) 0 ms)
-        → Answers noSlot (cond is (cond gone noEntry (found (m .tag) (m .off) 0)) (wlook false maskMove (maskMove + low) 0 ms))
+        → Answers noSlot (cond is (cond gone noEntry (found (m .tag) (m .off) 0))
+        (wlook false maskMove (maskMove + low) 0 ms))
     go true e true f ih = tt
     go true e false f ih = rw (f e)
     go false e gone f ih = ih
@@ -93,6 +105,8 @@ move-answer b low some h reg l =
     let sp = committed-split (walkFrom (crc allOnes (take 4 b)) allOnes (drop 4 b)) in
     let whole : committed es ≡ es = committed-twice (walkFrom (crc allOnes (take 4 b)) allOnes (drop 4 b)) in
     let ch = chains es (sp .0) (crc allOnes (take 4 b)) allOnes b 4 (sp .1) reg in
-    let ck : isCheck (logEndTag es % 2 ^ 31) ≡ true = last-check es b 4 allOnes whole (λ z. absurd (some z)) (ch .0) (ch .2) in
+    let ck : isCheck (logEndTag es % 2 ^ 31) ≡ true = last-check es b 4 allOnes whole (λ z. absurd (some z)) (ch .0)
+    (ch .2) in
     wlook-moved low (back b (logEnd es) (logEndTag es)) l
-    (moves-top b (logEnd es) (logEndTag es) ck (rw (back-log es b (ch .0)) (moves-rev (places 4 es) [] (places-moves es 0 4 (log-stands b) h) tt)))
+    (moves-top b (logEnd es) (logEndTag es) ck
+    (rw (back-log es b (ch .0)) (moves-rev (places 4 es) [] (places-moves es 0 4 (log-stands b) h) tt)))

@@ -38,7 +38,8 @@ pub move-hit : (t low : ℕ) → low < 2 ^ 20 → eqb (bitAnd t maskMove) (bitAn
 move-hit t low h = rw (and-high t 11 20, and-high (maskMove + low) 11 20, move-top low h) (go (isMove t) refl)
   where
     go : (b : Bool) → isMove t ≡ b → eqb (tagType3 t * 2 ^ 20) (typeMove * 2 ^ 20) ≡ b
-    go true e = let q : tagType3 t ≡ typeMove = eqb-true (tagType3 t) typeMove e in eq-eqb (tagType3 t * 2 ^ 20) (typeMove * 2 ^ 20) (omega arith)
+    go true e = let q : tagType3 t ≡ typeMove = eqb-true (tagType3 t) typeMove e in eq-eqb (tagType3 t * 2 ^ 20)
+        (typeMove * 2 ^ 20) (omega arith)
     go false e =
         let q : tagType3 t ≢ typeMove = eqb-false (tagType3 t) typeMove e in
         ne-eqb (tagType3 t * 2 ^ 20) (typeMove * 2 ^ 20) (λ z. q (omega arith))
@@ -49,15 +50,18 @@ lastMove b [] = none
 lastMove b (m ∷ ms) = cond (isMove (m .tag)) (loadOf (m .tag) (bytesAt b m)) (lastMove b ms)
 
 -- it is what the lookup by mask finds, "no ids": nothing is added to the difference
-pub wlook-move : (b : List ℕ) (low : ℕ) (ms : List Met) → low < 2 ^ 20 → holds b (wlook false maskMove (maskMove + low) 0 ms) ≡ lastMove b ms
+pub wlook-move : (b : List ℕ) (low : ℕ) (ms : List Met) → low < 2 ^ 20
+    → holds b (wlook false maskMove (maskMove + low) 0 ms) ≡ lastMove b ms
 unfolding holds wlook lastMove splicedAt
 wlook-move b low [] h = refl
 wlook-move b low (m ∷ ms) h =
     let key : minus32 (maskMove + low) 0 ≡ maskMove + low = omega arith in
     rw (key, move-hit (m .tag) low h) (go (isMove (m .tag)) (tagDelete (m .tag)) refl (wlook-move b low ms h))
   where
-    go : (is gone : Bool) → tagDelete (m .tag) ≡ gone → holds b (wlook false maskMove (maskMove + low) 0 ms) ≡ lastMove b ms
-        → holds b (cond is (cond (tagDelete (m .tag)) noEntry (found (m .tag) (m .off) 0)) (wlook false maskMove (maskMove + low) 0 ms))
+    go : (is gone : Bool) → tagDelete (m .tag) ≡ gone → holds b (wlook false maskMove (maskMove + low) 0 ms)
+        ≡ lastMove b ms
+        → holds b (cond is (cond (tagDelete (m .tag)) noEntry (found (m .tag) (m .off) 0))
+        (wlook false maskMove (maskMove + low) 0 ms))
         ≡ cond is (loadOf (m .tag) (bytesAt b m)) (lastMove b ms)
     go true true e ih = rw e
     go true false e ih = rw e
@@ -75,7 +79,8 @@ check-move t h =
     let c : tagType3 t < typeCheck + 2 ^ 7 = check-type3 t h .1 in
     ne-eqb (tagType3 t) typeMove (λ q. omega arith)
 
-pub lastMove-places : (es : List Event) (b : List ℕ) (off : ℕ) (R : List Met) → Told b off es → Eights es → lastMove b (reverseAux (places off es) R) ≡ moveOf (lastMove b R) es
+pub lastMove-places : (es : List Event) (b : List ℕ) (off : ℕ) (R : List Met) → Told b off es → Eights es
+    → lastMove b (reverseAux (places off es) R) ≡ moveOf (lastMove b R) es
 unfolding places lastMove moveOf
 lastMove-places [] b off R h w = refl
 lastMove-places (ent t d ∷ es) b off R h w =
@@ -90,9 +95,11 @@ unfolding lastMove
 lastMove-nil b = refl
 
 -- the end tag is a check: no move state, with bit 31 or without
-lastMove-top : (b : List ℕ) (off t : ℕ) → isCheck (t % 2 ^ 31) ≡ true → lastMove b (back b off t) ≡ lastMove b (back b off (t % 2 ^ 31))
+lastMove-top : (b : List ℕ) (off t : ℕ) → isCheck (t % 2 ^ 31) ≡ true
+    → lastMove b (back b off t) ≡ lastMove b (back b off (t % 2 ^ 31))
 unfolding lastMove
-lastMove-top b off t c = rw (back-step b off t, back-step b off (t % 2 ^ 31), low-length t) (go (leb (4 + tagLength t) off))
+lastMove-top b off t c = rw (back-step b off t, back-step b off (t % 2 ^ 31), low-length t)
+    (go (leb (4 + tagLength t) off))
   where
     no : isMove t ≡ false
     no = rw (low-type3 t) at (check-move (t % 2 ^ 31) c)
@@ -109,10 +116,14 @@ move-lookup b es h nonempty reg eight =
     let sp = committed-split (walkFrom (crc allOnes (take 4 b)) allOnes (drop 4 b)) in
     let whole : committed es ≡ es = rw h at (committed-twice (walkFrom (crc allOnes (take 4 b)) allOnes (drop 4 b))) in
     let ch = chains es (sp .0) (crc allOnes (take 4 b)) allOnes b 4 (rw h at (sp .1)) reg in
-    let ck : isCheck (logEndTag es % 2 ^ 31) ≡ true = last-check es b 4 allOnes whole (λ z. absurd (nonempty z)) (ch .0) (ch .2) in
-    lastMove-top b (logEnd es) (logEndTag es) ck ∙ ap (lastMove b) (back-log es b (ch .0)) ∙ lastMove-places es b 4 [] (ch .2) eight ∙ ap (λ z. moveOf z es) (lastMove-nil b)
+    let ck : isCheck (logEndTag es % 2 ^ 31) ≡ true = last-check es b 4 allOnes whole (λ z. absurd (nonempty z)) (ch .0)
+    (ch .2) in
+    lastMove-top b (logEnd es) (logEndTag es) ck ∙ ap (lastMove b) (back-log es b (ch .0))
+    ∙ lastMove-places es b 4 [] (ch .2) eight ∙ ap (λ z. moveOf z es) (lastMove-nil b)
 
 -- and by the lookup: mask 0x7ff, no ids, a key of any id and size
-pub move-found : (b : List ℕ) (es : List Event) (low : ℕ) → log b ≡ es → es ≢ [] → AllContained es → Eights es → low < 2 ^ 20
+pub move-found : (b : List ℕ) (es : List Event) (low : ℕ) → log b ≡ es → es ≢ [] → AllContained es → Eights es
+    → low < 2 ^ 20
     → holds b (wlook false maskMove (maskMove + low) 0 (back b (logEnd es) (logEndTag es))) ≡ moveOf none es
-move-found b es low h nonempty reg eight l = wlook-move b low (back b (logEnd es) (logEndTag es)) l ∙ move-lookup b es h nonempty reg eight
+move-found b es low h nonempty reg eight l = wlook-move b low (back b (logEnd es) (logEndTag es)) l
+    ∙ move-lookup b es h nonempty reg eight

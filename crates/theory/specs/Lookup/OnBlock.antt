@@ -1,4 +1,5 @@
--- The lookup by mask, key and difference, on the bytes of a block with a regular log, is the directory's. Assumes nothing.
+-- The lookup by mask, key and difference, on the bytes of a block with a regular log, is the directory's. Assumes
+-- nothing.
 use mathlib.Core.Path.{_≡_, refl, ap, _∙_}
 use mathlib.Core.Logic.{_≢_}
 use mathlib.Core.Bool.{Bool, true, false}
@@ -40,21 +41,27 @@ EventShapes (inv ∷ es) = EventShapes es
 check-one : (t : ℕ) → isCheck t ≡ true → isSplice t ≡ false
 check-one t h = rw (check-type1 t h)
 
-shapes-places : (es : List Event) (b : List ℕ) (off : ℕ) → Told b off es → Eights es → EventShapes es → Shapes b (places off es)
+shapes-places : (es : List Event) (b : List ℕ) (off : ℕ) → Told b off es → Eights es → EventShapes es
+    → Shapes b (places off es)
 unfolding places seen
 shapes-places [] b off h w s = tt
-shapes-places (ent t d ∷ es) b off h w s = (rw (← h .0 (w .0)) (s .0), shapes-places es b (off + tagLength t) (h .1) (w .1) (s .1))
-shapes-places (chk t c ∷ es) b off h w s =
-    (rw (act-check t (take (tagLength t - 4) (drop 4 (drop off b))) (h .0)) (check-one t (h .0)), shapes-places es b (off + tagLength t) (h .1) w s)
+shapes-places (ent t d ∷ es) b off h w s =
+    (rw (← h .0 (w .0)) (s .0), shapes-places es b (off + tagLength t) (h .1) (w .1) (s .1))
+shapes-places (chk t c ∷ es) b off h w s = (
+  rw (act-check t (take (tagLength t - 4) (drop 4 (drop off b))) (h .0)) (check-one t (h .0)),
+  shapes-places es b (off + tagLength t) (h .1) w s,
+)
 shapes-places (inv ∷ es) b off h w s = absurd h
 
 -- the last event of a committed log is a check
-pub last-check : (es : List Event) (b : List ℕ) (off p : ℕ) → committed es ≡ es → (es ≡ [] → isCheck (p % 2 ^ 31) ≡ true) → Chain b off p es → Told b off es
+pub last-check : (es : List Event) (b : List ℕ) (off p : ℕ) → committed es ≡ es
+    → (es ≡ [] → isCheck (p % 2 ^ 31) ≡ true) → Chain b off p es → Told b off es
     → isCheck (tagAfter p es % 2 ^ 31) ≡ true
 unfolding committed tagAfter
 last-check [] b off p w n ch h = n refl
 last-check (ent t d ∷ es) b off p w n ch h =
-    last-check es b (off + tagLength t) t (kept-same (ent t d) (committed es) es w) (λ q. absurd (kept-more (ent t d) (committed es) es w q)) (ch .1) (h .1)
+    last-check es b (off + tagLength t) t (kept-same (ent t d) (committed es) es w)
+    (λ q. absurd (kept-more (ent t d) (committed es) es w q)) (ch .1) (h .1)
 last-check (chk t c ∷ es) b off p w n ch h =
     last-check es b (off + tagLength t) (tagFlipped t) (cc) (λ q. rw (flipped-low t (ch .0 .1)) (h .0)) (ch .1) (h .1)
 last-check (inv ∷ es) b off p w n ch h = absurd h
@@ -64,15 +71,20 @@ shapes-rev b [] r h k = k
 shapes-rev b (m ∷ l) r h k = shapes-rev b l (m ∷ r) (h .1) (h .0, k)
 
 -- the end tag's bit 31 does not matter: it is a check's
-shapes-without-top : (b : List ℕ) (off t : ℕ) → isCheck (t % 2 ^ 31) ≡ true → Shapes b (back b off (t % 2 ^ 31)) → Shapes b (back b off t)
+shapes-without-top : (b : List ℕ) (off t : ℕ) → isCheck (t % 2 ^ 31) ≡ true → Shapes b (back b off (t % 2 ^ 31))
+    → Shapes b (back b off t)
 unfolding seen
-shapes-without-top b off t ck = rw (back-step b off t, back-step b off (t % 2 ^ 31), low-length t) (go (leb (4 + tagLength t) off))
+shapes-without-top b off t ck = rw (back-step b off t, back-step b off (t % 2 ^ 31), low-length t)
+    (go (leb (4 + tagLength t) off))
   where
     head : (x : List ℕ) → Shape t x (act t x)
     head x = rw (← act-without-top t x, act-check (t % 2 ^ 31) x ck) (rw (low-type1 t) at (check-one (t % 2 ^ 31) ck))
 
     go : (c : Bool) → Shapes b (hop (back b) c b off (t % 2 ^ 31)) → Shapes b (hop (back b) c b off t)
-    go true h = (head (take (tagLength t - 4) (drop 4 (drop (off - tagLength t) b))), rw (low-length t, ← xor-low (be32 (drop (off - tagLength t) b)) t) at (h .1))
+    go true h = (
+      head (take (tagLength t - 4) (drop 4 (drop (off - tagLength t) b))),
+      rw (low-length t, ← xor-low (be32 (drop (off - tagLength t) b)) t) at (h .1),
+    )
     go false h = tt
 
 -- the count stays at most 1,023
@@ -80,7 +92,8 @@ abbrev pub FewFrom : ℕ → List Act → Type 0
 FewFrom n [] = Unit {0}
 FewFrom n (a ∷ l) = (slotsAfter n a ≤ mostSlots) × FewFrom (slotsAfter n a) l
 
-few-rev : (l r : List Act) → AllowedFrom (length (dir r)) l → FewFrom (length (dir r)) l → length (dir r) ≤ mostSlots → FewBack r → FewBack (reverseAux l r) × (length (dir (reverseAux l r)) ≤ mostSlots)
+few-rev : (l r : List Act) → AllowedFrom (length (dir r)) l → FewFrom (length (dir r)) l → length (dir r) ≤ mostSlots
+    → FewBack r → FewBack (reverseAux l r) × (length (dir (reverseAux l r)) ≤ mostSlots)
 unfolding dir
 few-rev [] r f h n k = (k, n)
 few-rev (a ∷ l) r f h n k =
@@ -105,28 +118,41 @@ pub regular-searchable : (es : List Event) → RegularLog es → Searchable es
 unfolding dirOf dir
 regular-searchable es r =
     let lo = few-rev (acts es) [] (r .base .rules) (r .few) (omega arith) tt in
-    record { reg = r .base .reg; eight = r .base .eight; shapes = r .shapes; rules = allowed-newest (acts es) (r .base .rules); low = lo .0; few = lo .1 }
+    record {
+      reg = r .base .reg;
+      eight = r .base .eight;
+      shapes = r .shapes;
+      rules = allowed-newest (acts es) (r .base .rules);
+      low = lo .0;
+      few = lo .1;
+    }
 
 -- a directory lookup on the bytes of a block whose log is es, by a mask and a key of type T, id i and size s
 abbrev pub looked : List ℕ → List Event → ℕ → ℕ → ℕ → ℕ → Option Load
 looked b es mask T i s = holds b (wlook true mask (tagOf T i s) 0 (back b (logEnd es) (logEndTag es)))
 
 -- it finds what class c of slot i holds
-pub block-lookup : (b : List ℕ) (es : List Event) (mask T c s i : ℕ) → log b ≡ es → es ≢ [] → Searchable es → Query mask T c → s < 2 ^ 10 → i < length (dirOf es)
-    → (looked b es mask T i s ≡ getD (dirOf es) i empty c) × Answers i (wlook true mask (tagOf T i s) 0 (back b (logEnd es) (logEndTag es)))
+pub block-lookup : (b : List ℕ) (es : List Event) (mask T c s i : ℕ) → log b ≡ es → es ≢ [] → Searchable es
+    → Query mask T c → s < 2 ^ 10 → i < length (dirOf es)
+    → (looked b es mask T i s ≡ getD (dirOf es) i empty c)
+    × Answers i (wlook true mask (tagOf T i s) 0 (back b (logEnd es) (logEndTag es)))
 unfolding log walk dirOf dir
 block-lookup b es mask T c s i h nonempty r q hs hi =
     let sp = committed-split (walkFrom (crc allOnes (take 4 b)) allOnes (drop 4 b)) in
     let whole : committed es ≡ es = rw h at (committed-twice (walkFrom (crc allOnes (take 4 b)) allOnes (drop 4 b))) in
     let ch = chains es (sp .0) (crc allOnes (take 4 b)) allOnes b 4 (rw h at (sp .1)) (r .reg) in
     let bl : back b (logEnd es) (logEndTag es % 2 ^ 31) ≡ reverse (places 4 es) = back-log es b (ch .0) in
-    let ck : isCheck (logEndTag es % 2 ^ 31) ≡ true = last-check es b 4 allOnes whole (λ z. absurd (nonempty z)) (ch .0) (ch .2) in
+    let ck : isCheck (logEndTag es % 2 ^ 31) ≡ true = last-check es b 4 allOnes whole (λ z. absurd (nonempty z)) (ch .0)
+    (ch .2) in
     let sh : Shapes b (back b (logEnd es) (logEndTag es))
-    = shapes-without-top b (logEnd es) (logEndTag es) ck (rw bl (shapes-rev b (places 4 es) [] (shapes-places es b 4 (ch .2) (r .eight) (r .shapes)) tt)) in
+    = shapes-without-top b (logEnd es) (logEndTag es) ck
+    (rw bl (shapes-rev b (places 4 es) [] (shapes-places es b 4 (ch .2) (r .eight) (r .shapes)) tt)) in
     let ms : map (seen b) (back b (logEnd es) (logEndTag es)) ≡ reverse (acts es)
-    = back-without-top b (logEnd es) (logEndTag es) ∙ ap (map (seen b)) bl ∙ map-reverseAux (seen b) (places 4 es) [] ∙ ap reverse (seen-places es b 4 (ch .2) (r .eight)) in
+    = back-without-top b (logEnd es) (logEndTag es) ∙ ap (map (seen b)) bl ∙ map-reverseAux (seen b) (places 4 es) []
+    ∙ ap reverse (seen-places es b 4 (ch .2) (r .eight)) in
     let few : length (dir (reverse (acts es))) ≤ mostSlots = r .few in
     let small : tagOf T i s < 2 ^ 31 = of-valid T i s (q .0) (omega arith) hs in
     let key : minus32 (tagOf T i s) 0 ≡ tagOf T i s = omega arith in
-    let f = wlook-find b mask T c s i q hs (omega arith) (back b (logEnd es) (logEndTag es)) 0 i (omega arith) sh (rw ms (r .rules)) (rw ms (r .low)) (rw ms few) (rw ms hi) key in
+    let f = wlook-find b mask T c s i q hs (omega arith) (back b (logEnd es) (logEndTag es)) 0 i (omega arith) sh
+    (rw ms (r .rules)) (rw ms (r .low)) (rw ms few) (rw ms hi) key in
     (f .0 ∙ rw ms (find-dir (reverse (acts es)) c i (r .rules) hi), f .1)

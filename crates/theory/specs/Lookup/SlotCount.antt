@@ -1,5 +1,5 @@
--- The rules forwards, over the number of slots: what is allowed, that the count is the number of slots, and that a commit keeps it so.
--- Assumes nothing.
+-- The rules forwards, over the number of slots: what is allowed, that the count is the number of slots, and that a
+-- commit keeps it so. Assumes nothing.
 use mathlib.Core.Path.{_≡_, refl, ap, _∙_}
 use mathlib.Core.List.{List, [], _∷_, reverse, reverseAux}
 use Prim.Native.Nat.{ℕ, suc, _-_}
@@ -43,7 +43,8 @@ unfolding dir
 allowed-newest l f = allowed-rev l [] tt f
 
 -- the count is the number of slots
-pub slots-all : (l : List Act) (D : List Slot) → AllowedFrom (length D) l → length (applyAll D l) ≡ slotsAfterAll (length D) l
+pub slots-all : (l : List Act) (D : List Slot) → AllowedFrom (length D) l
+    → length (applyAll D l) ≡ slotsAfterAll (length D) l
 unfolding applyAll slotsAfterAll
 slots-all [] D f = refl
 slots-all (a ∷ l) D f =

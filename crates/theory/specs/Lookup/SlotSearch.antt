@@ -1,5 +1,5 @@
--- The search back for a slot's class over the bytes of a block with a regular log finds what the directory holds there; and so does the search
--- for the move state. Assumes nothing.
+-- The search back for a slot's class over the bytes of a block with a regular log finds what the directory holds there;
+-- and so does the search for the move state. Assumes nothing.
 use mathlib.Core.Path.{_≡_, ap, _∙_}
 use mathlib.Core.Logic.{_≢_}
 use mathlib.Core.Option.{none}
@@ -24,13 +24,15 @@ use Rattle.theory.specs.Lookup.OnBlock.{RegularLog}
 use Rattle.theory.specs.Lookup.MoveState.{lastMove, move-lookup}
 
 -- the walk back from a log's end, read as acts, is the log's acts, newest first
-pub back-acts : (b : List ℕ) (es : List Event) → log b ≡ es → AllContained es → Eights es → map (seen b) (back b (logEnd es) (logEndTag es)) ≡ reverse (acts es)
+pub back-acts : (b : List ℕ) (es : List Event) → log b ≡ es → AllContained es → Eights es
+    → map (seen b) (back b (logEnd es) (logEndTag es)) ≡ reverse (acts es)
 unfolding log walk
 back-acts b es h reg eight =
     let sp = committed-split (walkFrom (crc allOnes (take 4 b)) allOnes (drop 4 b)) in
     let ch = chains es (sp .0) (crc allOnes (take 4 b)) allOnes b 4 (rw h at (sp .1)) reg in
     let bl : back b (logEnd es) (logEndTag es % 2 ^ 31) ≡ reverse (places 4 es) = back-log es b (ch .0) in
-    back-without-top b (logEnd es) (logEndTag es) ∙ ap (map (seen b)) bl ∙ map-reverseAux (seen b) (places 4 es) [] ∙ ap reverse (seen-places es b 4 (ch .2) eight)
+    back-without-top b (logEnd es) (logEndTag es) ∙ ap (map (seen b)) bl ∙ map-reverseAux (seen b) (places 4 es) []
+    ∙ ap reverse (seen-places es b 4 (ch .2) eight)
 
 -- the log ends inside the block
 pub log-inside : (b : List ℕ) (es : List Event) → log b ≡ es → AllContained es → 4 ≤ length b → logEnd es ≤ length b
@@ -44,7 +46,9 @@ pub directory-find : (b : List ℕ) (es : List Event) (c i : ℕ) → log b ≡ 
     → find c i (map (seen b) (back b (logEnd es) (logEndTag es))) ≡ getD (dirOf es) i empty c
 unfolding dirOf
 directory-find b es c i h r hi =
-    rw (back-acts b es h (r .base .reg) (r .base .eight)) (find-dir (reverse (acts es)) c i (allowed-newest (acts es) (r .base .rules)) hi)
+    rw (back-acts b es h (r .base .reg) (r .base .eight))
+    (find-dir (reverse (acts es)) c i (allowed-newest (acts es) (r .base .rules)) hi)
 
-pub move-last : (b : List ℕ) (es : List Event) → log b ≡ es → es ≢ [] → RegularLog es → lastMove b (back b (logEnd es) (logEndTag es)) ≡ moveOf none es
+pub move-last : (b : List ℕ) (es : List Event) → log b ≡ es → es ≢ [] → RegularLog es
+    → lastMove b (back b (logEnd es) (logEndTag es)) ≡ moveOf none es
 move-last b es h some r = move-lookup b es h some (r .base .reg) (r .base .eight)

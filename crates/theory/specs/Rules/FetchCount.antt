@@ -1,4 +1,5 @@
--- Fetch's count, by names and splices as document 01 words it, is the number of slots in a regular log. Assumes nothing.
+-- Fetch's count, by names and splices as document 01 words it, is the number of slots in a regular log. Assumes
+-- nothing.
 use mathlib.Core.Path.{_≡_, refl, sym, ap, _∙_}
 use mathlib.Core.Logic.{_⊎_, inl, inr}
 use mathlib.Core.Bool.{true, false, _&&_}
@@ -11,7 +12,8 @@ use Rattle.format.specs.Tag.{tagType1, tagType3, tagChunk, tagId, tagSize}
 use Rattle.format.specs.Kind.{typeName, typeSplice, typeCreate, typeDelete, typeCheck, isName, isSplice}
 use Rattle.format.specs.Walk.{Event, ent, chk, inv}
 use Rattle.format.specs.Record.{counted, countOf}
-use Rattle.format.specs.Regular.{Rule, ruleOf, between, ruleHolds, countAfter, regularFrom, Regular, create, delete, name, inlined, eight, attribute, tail, move, forward, bad}
+use Rattle.format.specs.Regular.{Rule, ruleOf, between, ruleHolds, countAfter, regularFrom, Regular, create, delete}
+use Rattle.format.specs.Regular.{name, inlined, eight, attribute, tail, move, forward, bad}
 use Rattle.format.specs.Directory.{acts}
 use Rattle.theory.specs.Walk.Step.{both-true}
 use Rattle.theory.specs.Directory.Machine.{mostSlots}
@@ -35,7 +37,8 @@ unfolding counted
 neither c t h k = rw (not-name t h, not-splice t k)
 
 -- ---- what an entry that passes its rule makes of the count
-pub ruled-count : (R : Rule) (c t : ℕ) → Says (tagType3 t) R → ruleHolds R c (tagId t) (tagSize t) ≡ true → c ≤ mostSlots → counted c t ≡ countAfter R c
+pub ruled-count : (R : Rule) (c t : ℕ) → Says (tagType3 t) R → ruleHolds R c (tagId t) (tagSize t) ≡ true
+    → c ≤ mostSlots → counted c t ≡ countAfter R c
 unfolding counted ruleHolds countAfter
 ruled-count create c t s h low =
     let r = both-true (leb (tagId t) c && leb c 1_022) (eqb (tagSize t) 0) h in
@@ -57,7 +60,8 @@ ruled-count forward c t s h low = neither c t (omega arith) (inr (omega arith))
 ruled-count bad c t s h low = absurd (let z : _≡_ {A = ℕ} 0 1 = cc in omega arith)
 
 -- ---- so fetch's count of a regular log is the number of its slots
-count-slots : (es : List Event) (c : ℕ) → regularFrom c es ≡ true → c ≤ mostSlots → countOf c es ≡ slotsAfterAll c (acts es)
+count-slots : (es : List Event) (c : ℕ) → regularFrom c es ≡ true → c ≤ mostSlots
+    → countOf c es ≡ slotsAfterAll c (acts es)
 unfolding regularFrom countOf acts slotsAfterAll slotsAfter
 count-slots [] c h low = refl
 count-slots (ent t d ∷ es) c h low =
@@ -65,7 +69,8 @@ count-slots (ent t d ∷ es) c h low =
     let r = both-true (ruleHolds R c (tagId t) (tagSize t)) (regularFrom (countAfter R c) es) h in
     let says : Says (tagType3 t) R = rule-says (tagType3 t) true in
     let u = ruled R c t d says (r .0) in
-    ap (λ (n : ℕ). countOf n es) (ruled-count R c t says (r .0) low) ∙ count-slots es (countAfter R c) (r .1) (u .few low)
+    ap (λ (n : ℕ). countOf n es) (ruled-count R c t says (r .0) low)
+    ∙ count-slots es (countAfter R c) (r .1) (u .few low)
     ∙ ap (λ (n : ℕ). slotsAfterAll n (acts es)) (sym (u .slots))
 count-slots (chk t x ∷ es) c h low =
     let r = both-true (between 4 1_022 (tagSize t)) (regularFrom c es) h in

@@ -1,4 +1,5 @@
--- Entries that a commit's judging finds good, and the items that they make: as long as their tags say, each passing its rule. Assumes nothing.
+-- Entries that a commit's judging finds good, and the items that they make: as long as their tags say, each passing its
+-- rule. Assumes nothing.
 use mathlib.Core.Path.{_≡_, refl}
 use mathlib.Core.Bool.{Bool, true, false, cond, _||_}
 use mathlib.Core.List.{List, [], _∷_}
@@ -10,7 +11,8 @@ use borrow.Author.Tests.{leb-true}
 use Rattle.format.specs.Tag.{tagType3, tagId, tagSize, tagOf}
 use Rattle.format.specs.Regular.{ruleOf, ruleHolds, countAfter}
 use Rattle.format.specs.Commit.{itemsHold}
-use Rattle.format.specs.Entries.{isRemoval, entryBody, itemsOf, entryItem, entryRule, inBuffer, entryHolds, judge, bad, good}
+use Rattle.format.specs.Entries.{isRemoval, entryBody, itemsOf, entryItem, entryRule, inBuffer, entryHolds, judge, bad}
+use Rattle.format.specs.Entries.{good}
 use Rattle.format.specs.declared.Entry.{Entry}
 use Rattle.format.proofs.Tags.{of-type3}
 use Rattle.theory.specs.Walk.Step.{both-true}
@@ -19,20 +21,24 @@ use Rattle.theory.specs.Rules.RuledEntry.{ruled, rule-says}
 use Rattle.theory.specs.Rules.MadeItem.{Fields, rule-fields, made-holds, Made, AllMade, item-made}
 
 -- ---- an entry's data: as many bytes as its length says, or none for a removal
-pub body-length : (dat : List ℕ) (e : Entry) → inBuffer dat e ≡ true → length (entryBody dat e) ≡ cond (isRemoval e) 0 (e .len)
+pub body-length : (dat : List ℕ) (e : Entry) → inBuffer dat e ≡ true
+    → length (entryBody dat e) ≡ cond (isRemoval e) 0 (e .len)
 unfolding entryBody
 body-length dat e h = go (isRemoval e) h
   where
-    go : (b : Bool) → b || leb (e .off + e .len) (length dat) ≡ true → length (cond b [] (take (e .len) (drop (e .off) dat))) ≡ cond b 0 (e .len)
+    go : (b : Bool) → b || leb (e .off + e .len) (length dat) ≡ true
+        → length (cond b [] (take (e .len) (drop (e .off) dat))) ≡ cond b 0 (e .len)
     go true k = refl
-    go false k = rw (length-take (e .len) (drop (e .off) dat), length-drop (e .off) dat) (omega (arith, leb-true (e .off + e .len) (length dat) k))
+    go false k = rw (length-take (e .len) (drop (e .off) dat), length-drop (e .off) dat)
+        (omega (arith, leb-true (e .off + e .len) (length dat) k))
 
 -- ---- one good entry, at a count of at most 1,023
 pub record GoodEntry (dat : List ℕ) (c : ℕ) (e : Entry) : Type 0 where
   pub fields : Fields (e .kind) (e .id) (e .len)
   pub made : Made (entryItem dat e)
   pub type′ : tagType3 (tagOf (e .kind) (e .id) (e .len)) ≡ e .kind
-  pub holds : ruleHolds (ruleOf false (tagType3 (tagOf (e .kind) (e .id) (e .len)))) c (tagId (tagOf (e .kind) (e .id) (e .len))) (tagSize (tagOf (e .kind) (e .id) (e .len))) ≡ true
+  pub holds : ruleHolds (ruleOf false (tagType3 (tagOf (e .kind) (e .id) (e .len)))) c
+      (tagId (tagOf (e .kind) (e .id) (e .len))) (tagSize (tagOf (e .kind) (e .id) (e .len))) ≡ true
   pub few : countAfter (entryRule e) c ≤ mostSlots
 
 pub good-entry : (dat : List ℕ) (c : ℕ) (e : Entry) → c ≤ mostSlots → entryHolds dat c e ≡ true → GoodEntry dat c e
@@ -40,10 +46,17 @@ good-entry dat c e low h =
     let r = both-true (ruleHolds (entryRule e) c (e .id) (e .len)) (inBuffer dat e) h in
     let f = rule-fields false (e .kind) c (e .id) (e .len) low (r .0) in
     let t : ℕ = tagOf (e .kind) (e .id) (e .len) in
-    let is : tagType3 (tagOf (e .kind) (e .id) (e .len)) ≡ e .kind = of-type3 (e .kind) (e .id) (e .len) (f .type′) (f .id′) (f .size′) in
+    let is : tagType3 (tagOf (e .kind) (e .id) (e .len)) ≡ e .kind =
+    of-type3 (e .kind) (e .id) (e .len) (f .type′) (f .id′) (f .size′) in
     let k = made-holds false (e .kind) c (e .id) (e .len) low (r .0) in
     let u = ruled (ruleOf false (tagType3 t)) c t (entryBody dat e) (rule-says (tagType3 t) false) k in
-    record { fields = f; made = item-made (e .kind) (e .id) (e .len) (entryBody dat e) f (body-length dat e (r .1)); type′ = is; holds = k; few = rw is at (u .few low) }
+    record {
+      fields = f;
+      made = item-made (e .kind) (e .id) (e .len) (entryBody dat e) f (body-length dat e (r .1));
+      type′ = is;
+      holds = k;
+      few = rw is at (u .few low);
+    }
 
 -- ---- a list of them
 pub good-bad : (i c : ℕ) → bad i ≡ good c → ⊥
@@ -53,13 +66,17 @@ pub record GoodEntries (dat : List ℕ) (c : ℕ) (es : List Entry) : Type 0 whe
   pub made : AllMade (itemsOf dat es)
   pub hold : itemsHold c (itemsOf dat es) ≡ true
 
-pub judged-good : (dat : List ℕ) (es : List Entry) (i c c′ : ℕ) → c ≤ mostSlots → judge dat i c es ≡ good c′ → GoodEntries dat c es
+pub judged-good : (dat : List ℕ) (es : List Entry) (i c c′ : ℕ) → c ≤ mostSlots → judge dat i c es ≡ good c′
+    → GoodEntries dat c es
 unfolding judge itemsHold
 judged-good dat [] i c c′ low h = record { made = tt; hold = refl }
-judged-good dat (e ∷ es) i c c′ low h = go (entryHolds dat c e) refl h (judged-good dat es (suc i) (countAfter (entryRule e) c) c′)
+judged-good dat (e ∷ es) i c c′ low h = go (entryHolds dat c e) refl h
+    (judged-good dat es (suc i) (countAfter (entryRule e) c) c′)
   where
-    go : (b : Bool) → entryHolds dat c e ≡ b → cond b (judge dat (suc i) (countAfter (entryRule e) c) es) (bad i) ≡ good c′
-        → (countAfter (entryRule e) c ≤ mostSlots → judge dat (suc i) (countAfter (entryRule e) c) es ≡ good c′ → GoodEntries dat (countAfter (entryRule e) c) es)
+    go : (b : Bool) → entryHolds dat c e ≡ b → cond b (judge dat (suc i) (countAfter (entryRule e) c) es) (bad i)
+        ≡ good c′
+        → (countAfter (entryRule e) c ≤ mostSlots → judge dat (suc i) (countAfter (entryRule e) c) es ≡ good c′
+        → GoodEntries dat (countAfter (entryRule e) c) es)
         → GoodEntries dat c (e ∷ es)
     go false k h on = absurd (good-bad i c′ h)
     go true k h on =

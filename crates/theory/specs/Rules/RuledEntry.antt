@@ -10,14 +10,18 @@ use lib.ListN.{length}
 use lib.Dec.{eqb, leb, ltb}
 use borrow.Author.Tests.{eqb-true, leb-true, ltb-true, eqb-false}
 use Rattle.format.specs.Tag.{tagType3, tagChunk, tagId, tagSize, removalSize, tagDelete, tagLength, tagOf}
-use Rattle.format.specs.Kind.{typeFile, typeDirectory, typeSuperblock, typeDirStruct, typeInlineStruct, typeCtzStruct, typeUserAttr, typeSplice, typeCreate, typeDelete, typeCheck, typeForward, typeTail, typeHardTail, typeMove, noSlot, isCheck, isWide}
+use Rattle.format.specs.Kind.{typeFile, typeDirectory, typeSuperblock, typeDirStruct, typeInlineStruct, typeCtzStruct}
+use Rattle.format.specs.Kind.{typeUserAttr, typeSplice, typeCreate, typeDelete, typeCheck, typeForward, typeTail}
+use Rattle.format.specs.Kind.{typeHardTail, typeMove, noSlot, isCheck, isWide}
 use Rattle.format.specs.Walk.{bodyLength}
-use Rattle.format.specs.Regular.{Rule, ruleOf, between, ruleHolds, countAfter, create, delete, name, inlined, eight, attribute, tail, move, forward, bad}
+use Rattle.format.specs.Regular.{Rule, ruleOf, between, ruleHolds, countAfter, create, delete, name, inlined, eight}
+use Rattle.format.specs.Regular.{attribute, tail, move, forward, bad}
 use Rattle.format.specs.Directory.{put, skip, empty, mk, rm, act, loadOf}
 use Rattle.format.proofs.Tags.{length-size, of-fields}
 use Rattle.theory.specs.Walk.Step.{both-true, not-true}
 use Rattle.theory.specs.Directory.Machine.{Allowed, mostSlots}
-use Rattle.theory.specs.Directory.Types.{not-check, not-splice, not-wide, act-other, act-create, act-delete, act-name, act-struct, act-attr, chunk-of}
+use Rattle.theory.specs.Directory.Types.{not-check, not-splice, not-wide, act-other, act-create, act-delete}
+use Rattle.theory.specs.Directory.Types.{act-name, act-struct, act-attr, chunk-of}
 use Rattle.theory.specs.Blocks.ActItems.{TypeOf}
 use Rattle.theory.specs.Blocks.SlotItems.{PutOk}
 use Rattle.theory.specs.Lookup.SlotCount.{slotsAfter}
@@ -52,14 +56,17 @@ module _ (type : ℕ) where
       go (inl e) = let q : type ≡ a = eqb-true type a e in (omega arith, omega arith)
       go (inr e) = let q : type ≡ b = eqb-true type b e in (omega arith, omega arith)
 
-  names : (logged : Bool) → eqb type typeFile || eqb type typeDirectory || (logged && eqb type typeSuperblock) ≡ true → type < 2 ^ 8
+  names : (logged : Bool) → eqb type typeFile || eqb type typeDirectory || (logged && eqb type typeSuperblock) ≡ true
+      → type < 2 ^ 8
   names logged h = go (one-true (eqb type typeFile || eqb type typeDirectory) (logged && eqb type typeSuperblock) h)
     where
-      go : (eqb type typeFile || eqb type typeDirectory ≡ true) ⊎ (logged && eqb type typeSuperblock ≡ true) → type < 2 ^ 8
+      go : (eqb type typeFile || eqb type typeDirectory ≡ true) ⊎ (logged && eqb type typeSuperblock ≡ true)
+          → type < 2 ^ 8
       go (inl e) = omega (arith, two typeFile typeDirectory (omega arith) e .1)
       go (inr e) = omega (arith, eqb-true type typeSuperblock (both-true logged (eqb type typeSuperblock) e .1))
 
-  attrs : leb typeUserAttr type && ltb type (typeUserAttr + 2 ^ 8) ≡ true → (typeUserAttr ≤ type) × (type < typeUserAttr + 2 ^ 8)
+  attrs : leb typeUserAttr type && ltb type (typeUserAttr + 2 ^ 8) ≡ true
+      → (typeUserAttr ≤ type) × (type < typeUserAttr + 2 ^ 8)
   attrs h =
       let r = both-true (leb typeUserAttr type) (ltb type (typeUserAttr + 2 ^ 8)) h in
       (leb-true typeUserAttr type (r .0), ltb-true type (typeUserAttr + 2 ^ 8) (r .1))
@@ -89,7 +96,8 @@ pub record Ruled (c : ℕ) (R : Rule) (t : ℕ) (d : List ℕ) : Type 0 where
   pub load : R ≡ ruleOf true (tagType3 t) → length d ≡ bodyLength t → PutOk (act t d)
 
 -- names, structs, attributes: what is put under class k of a slot that is there
-module _ (c t k : ℕ) (d : List ℕ) (R : Rule) (is : act t d ≡ put (tagId t) k (loadOf t d)) (low : tagType3 t < typeSplice) (there : tagId t < c)
+module _ (c t k : ℕ) (d : List ℕ) (R : Rule) (is : act t d ≡ put (tagId t) k (loadOf t d))
+    (low : tagType3 t < typeSplice) (there : tagId t < c)
     (same : countAfter R c ≡ c) (class : TypeOf k (tagType3 t)) (any : ruleHolds R 1 0 (tagSize t) ≡ true) where
   ruled-put : Ruled c R t d
   unfolding slotsAfter bodyLength
@@ -116,7 +124,8 @@ module _ (c t k : ℕ) (d : List ℕ) (R : Rule) (is : act t d ≡ put (tagId t)
           (class, omega arith, rw (← r, m) any)
 
 -- tails, move states, forward checks: no slot is touched
-module _ (c t : ℕ) (d : List ℕ) (R : Rule) (high : typeCheck + 2 ^ 7 ≤ tagType3 t) (same : countAfter R c ≡ c) (wide : isWide t ≡ true → tagLength t ≡ 12) where
+module _ (c t : ℕ) (d : List ℕ) (R : Rule) (high : typeCheck + 2 ^ 7 ≤ tagType3 t) (same : countAfter R c ≡ c)
+    (wide : isWide t ≡ true → tagLength t ≡ 12) where
   ruled-skip : Ruled c R t d
   unfolding slotsAfter
   ruled-skip =
@@ -132,7 +141,8 @@ module _ (c t : ℕ) (d : List ℕ) (R : Rule) (high : typeCheck + 2 ^ 7 ≤ tag
       }
 
 -- creates and deletes
-module _ (t type : ℕ) (is : tagType3 t ≡ type) (splice : (type ≡ typeCreate) ⊎ (type ≡ typeDelete)) (empty : tagSize t ≡ 0) where
+module _ (t type : ℕ) (is : tagType3 t ≡ type) (splice : (type ≡ typeCreate) ⊎ (type ≡ typeDelete))
+    (empty : tagSize t ≡ 0) where
   spliced-plain : (isCheck t ≡ false) × (isWide t ≡ false)
   spliced-plain = go splice
     where
@@ -146,7 +156,8 @@ module _ (t type : ℕ) (is : tagType3 t ≡ type) (splice : (type ≡ typeCreat
 eight-long : (t : ℕ) → tagSize t ≡ 8 → tagLength t ≡ 12
 eight-long t h = length-size t (λ q. omega arith) ∙ ap (λ (n : ℕ). 4 + n) h
 
-pub ruled : (R : Rule) (c t : ℕ) (d : List ℕ) → Says (tagType3 t) R → ruleHolds R c (tagId t) (tagSize t) ≡ true → Ruled c R t d
+pub ruled : (R : Rule) (c t : ℕ) (d : List ℕ) → Says (tagType3 t) R → ruleHolds R c (tagId t) (tagSize t) ≡ true
+    → Ruled c R t d
 unfolding ruleHolds countAfter slotsAfter
 ruled create c t d s h =
     let r = both-true (leb (tagId t) c && leb c 1_022) (eqb (tagSize t) 0) h in
@@ -182,18 +193,21 @@ ruled name c t d s h =
     ruled-put c t 0 d name (act-name t d s) (omega arith) (ltb-true (tagId t) c (r .0)) refl s (r .1)
 ruled inlined c t d s h =
     let r = both-true (ltb (tagId t) c) (leb (tagSize t) 1_022) h in
-    ruled-put c t 1 d inlined (act-struct t d (omega arith) (omega arith)) (omega arith) (ltb-true (tagId t) c (r .0)) refl (omega arith, omega arith) (r .1)
+    ruled-put c t 1 d inlined (act-struct t d (omega arith) (omega arith)) (omega arith) (ltb-true (tagId t) c (r .0))
+    refl (omega arith, omega arith) (r .1)
 ruled eight c t d s h =
     let r = both-true (ltb (tagId t) c) (eqb (tagSize t) 8) h in
     let low : typeDirStruct ≤ tagType3 t = s .0 in
     let high : tagType3 t ≤ typeCtzStruct = s .1 in
-    ruled-put c t 1 d eight (act-struct t d low (omega arith)) (omega arith) (ltb-true (tagId t) c (r .0)) refl (low, omega arith) (r .1)
+    ruled-put c t 1 d eight (act-struct t d low (omega arith)) (omega arith) (ltb-true (tagId t) c (r .0)) refl
+    (low, omega arith) (r .1)
 ruled attribute c t d s h =
     let r = both-true (ltb (tagId t) c) (leb (tagSize t) removalSize) h in
     let low : typeUserAttr ≤ tagType3 t = s .0 in
     let high : tagType3 t < typeUserAttr + 2 ^ 8 = s .1 in
     let two : 2 + tagChunk t ≡ suc (suc (tagChunk t)) = omega arith in
-    ruled-put c t (2 + tagChunk t) d attribute (act-attr t d low high) (omega arith) (ltb-true (tagId t) c (r .0)) refl (rw two (omega (arith, chunk-of t), omega arith)) (r .1)
+    ruled-put c t (2 + tagChunk t) d attribute (act-attr t d low high) (omega arith) (ltb-true (tagId t) c (r .0)) refl
+    (rw two (omega (arith, chunk-of t), omega arith)) (r .1)
 ruled tail c t d s h =
     let r = both-true (eqb (tagId t) noSlot) (eqb (tagSize t) 8) h in
     ruled-skip c t d tail (omega (arith, s .0)) refl (λ w. eight-long t (eqb-true (tagSize t) 8 (r .1)))

@@ -17,7 +17,8 @@ use Rattle.format.specs.Regular.{Regular}
 use Rattle.format.specs.Commit.{Item, checkTag, commitBytes, written}
 use Rattle.format.specs.Stores.{appending}
 use Rattle.format.specs.Entries.{itemsOf}
-use Rattle.format.specs.Writer.{accepted, commitFits, blockAt, isSecond, verdictOf, Images, storedTo, imagesAfter, allStores, unlimited, commitImages}
+use Rattle.format.specs.Writer.{accepted, commitFits, blockAt, isSecond, verdictOf, Images, storedTo, imagesAfter}
+use Rattle.format.specs.Writer.{allStores, unlimited, commitImages}
 use Rattle.format.specs.declared.Geometry.{Geometry}
 use Rattle.format.specs.declared.LfsMdir.{LfsMdir}
 use Rattle.format.specs.declared.Entry.{Entry}
@@ -39,7 +40,8 @@ use Rattle.theory.specs.Stopped.ReadsAsBefore.{reads-as, refound, refoun
 use Rattle.theory.specs.Commit.MachineAfter.{commit-ran}
 
 -- ---- a commit
-module _ (g : Geometry) (b0 b1 : List ℕ) (n0 n1 count seed : ℕ) (entries : List Entry) (dat : List ℕ) (w : Bool) (is : List Item) (size : ℕ)
+module _ (g : Geometry) (b0 b1 : List ℕ) (n0 n1 count seed : ℕ) (entries : List Entry) (dat : List ℕ) (w : Bool)
+    (is : List Item) (size : ℕ)
     (h : verdictOf g b0 b1 n0 n1 count seed entries dat ≡ accepted w is size) where
   abbrev x : List ℕ
   x = blockAt w b0 b1
@@ -50,7 +52,9 @@ module _ (g : Geometry) (b0 b1 : List ℕ) (n0 n1 count seed : ℕ) (entries : L
   commit-found : (m : LfsMdir) × (s : ℕ) × (fetchOf g b0 b1 n0 n1 count seed ≡ fetched.Found m s)
   unfolding verdictOf
   commit-found =
-      let f = found-then (fetchOf g b0 b1 n0 n1 count seed) _ w is size (past (not (commitFits g (length b0) (length b1) n0 n1 (length entries) (length dat))) Invalid _ w is size h .1) in
+      let f = found-then (fetchOf g b0 b1 n0 n1 count seed) _ w is size
+      (past (not (commitFits g (length b0) (length b1) n0 n1 (length entries) (length dat))) Invalid _ w is size h
+      .1) in
       (f .m, f .s, f .found)
 
   appends : AppendsTo b0 b1 entries dat w is size
@@ -62,16 +66,20 @@ module _ (g : Geometry) (b0 b1 : List ℕ) (n0 n1 count seed : ℕ) (entries : L
   place : isSecond n0 (commit-found .0) ≡ w
   place =
       let a = found-answers g b0 b1 n0 n1 count seed (commit-found .0) (commit-found .1) (commit-found .2) in
-      a .place ∙ same-place b0 b1 (a .w) w (a .rev) (appends .rev) (log (blockAt (a .w) b0 b1)) (log (blockAt w b0 b1)) (a .answers) (appends .answers)
+      a .place ∙ same-place b0 b1 (a .w) w (a .rev) (appends .rev) (log (blockAt (a .w) b0 b1)) (log (blockAt w b0 b1))
+      (a .answers) (appends .answers)
 
   -- the images after n stores: only the block that answers is altered
-  commit-written : (n : ℕ) → (blockAt w (commitImages g b0 b1 n0 n1 count seed entries dat n .b0) (commitImages g b0 b1 n0 n1 count seed entries dat n .b1) ≡ storedTo x is size n)
-      × (blockAt (not w) (commitImages g b0 b1 n0 n1 count seed entries dat n .b0) (commitImages g b0 b1 n0 n1 count seed entries dat n .b1) ≡ o)
+  commit-written : (n : ℕ) → (blockAt w (commitImages g b0 b1 n0 n1 count seed entries dat n .b0)
+      (commitImages g b0 b1 n0 n1 count seed entries dat n .b1) ≡ storedTo x is size n)
+      × (blockAt (not w) (commitImages g b0 b1 n0 n1 count seed entries dat n .b0)
+      (commitImages g b0 b1 n0 n1 count seed entries dat n .b1) ≡ o)
   unfolding commitImages
   commit-written n = rw h (go w)
     where
       go : (v : Bool) → (let i : Images = imagesAfter n b0 b1 (accepted v is size) in
-          (blockAt v (i .b0) (i .b1) ≡ storedTo (blockAt v b0 b1) is size n) × (blockAt (not v) (i .b0) (i .b1) ≡ blockAt (not v) b0 b1))
+          (blockAt v (i .b0) (i .b1) ≡ storedTo (blockAt v b0 b1) is size n)
+          × (blockAt (not v) (i .b0) (i .b1) ≡ blockAt (not v) b0 b1))
       go false = (refl, refl)
       go true = (refl, refl)
 
@@ -86,7 +94,8 @@ module _ (g : Geometry) (b0 b1 : List ℕ) (n0 n1 count seed : ℕ) (entries : L
 
   stored-length : (k : ℕ) → k ≤ allStores is → length (appending x (log x) is (checkTag size) k) ≡ length x
   unfolding appending
-  stored-length k hk = length-paste x (logEnd (log x)) (commitBytes allOnes (logEndTag (log x)) is (checkTag size)) k (omega (arith, room)) (omega (arith, bytes-length))
+  stored-length k hk = length-paste x (logEnd (log x)) (commitBytes allOnes (logEndTag (log x)) is (checkTag size)) k
+      (omega (arith, room)) (omega (arith, bytes-length))
 
   stored-front : (k : ℕ) → take (logEnd (log x)) (appending x (log x) is (checkTag size) k) ≡ take (logEnd (log x)) x
   unfolding appending
@@ -94,7 +103,8 @@ module _ (g : Geometry) (b0 b1 : List ℕ) (n0 n1 count seed : ℕ) (entries : L
       let e : ℕ = logEnd (log x) in
       let N : List ℕ = commitBytes allOnes (logEndTag (log x)) is (checkTag size) in
       rw (append-assoc (take e x) (take k N) (drop (e + k) x))
-      (take-append-le e (take e x) (take k N ++ drop (e + k) x) (omega (arith, room, length-take-le e x (omega (arith, room)))) ∙ take-take e e x (le-refl e))
+      (take-append-le e (take e x) (take k N ++ drop (e + k) x)
+      (omega (arith, room, length-take-le e x (omega (arith, room)))) ∙ take-take e e x (le-refl e))
 
   all-stores : min unlimited (allStores is) ≡ allStores is
   all-stores =
@@ -117,30 +127,37 @@ module _ (g : Geometry) (b0 b1 : List ℕ) (n0 n1 count seed : ℕ) (entries : L
   finished-block : blockAt w (f .b0) (f .b1) ≡ appending x (log x) is (checkTag size) (allStores is)
   finished-block = commit-written unlimited .0 ∙ ap (appending x (log x) is (checkTag size)) all-stores
 
-  after : (k : ℕ) → k ≤ allStores is → AfterAppend w o (appends .rev) (log x) is (checkTag size) (appending x (log x) is (checkTag size) k) (appending x (log x) is (checkTag size) (allStores is))
+  after : (k : ℕ) → k ≤ allStores is → AfterAppend w o (appends .rev) (log x) is (checkTag size)
+      (appending x (log x) is (checkTag size) k) (appending x (log x) is (checkTag size) (allStores is))
   after k hk = accepted-stopped x (log x) is size takes w o (appends .rev) (appends .answers) k hk
 
   commit-either : (n : ℕ) → ((i n .b0 ≡ f .b0) × (i n .b1 ≡ f .b1)) ⊎ ReadsAs g n0 n1 b0 b1 (i n .b0) (i n .b1)
   commit-either n = go (after (min n (allStores is)) (min-le-right n (allStores is)) .either)
     where
-      go : (appending x (log x) is (checkTag size) (min n (allStores is)) ≡ appending x (log x) is (checkTag size) (allStores is))
+      go : (appending x (log x) is (checkTag size) (min n (allStores is)) ≡ appending x (log x) is (checkTag size)
+          (allStores is))
           ⊎ (viewAt w (appending x (log x) is (checkTag size) (min n (allStores is))) o ≡ at w (appends .rev) (log x))
           → ((i n .b0 ≡ f .b0) × (i n .b1 ≡ f .b1)) ⊎ ReadsAs g n0 n1 b0 b1 (i n .b0) (i n .b1)
       go (inl e) =
-          inl (both-blocks w (i n .b0) (i n .b1) (f .b0) (f .b1) (commit-written n .0 ∙ e ∙ sym finished-block) (commit-written n .1 ∙ sym (commit-written unlimited .1)))
+          inl (both-blocks w (i n .b0) (i n .b1) (f .b0) (f .b1) (commit-written n .0 ∙ e ∙ sym finished-block)
+          (commit-written n .1 ∙ sym (commit-written unlimited .1)))
       go (inr e) =
-          inr (reads-as g n0 n1 count seed b0 b1 (i n .b0) (i n .b1) (image-lengths n .0) (image-lengths n .1) (commit-found .0) (commit-found .1) (commit-found .2) (appends .rev) (log x) w
-          (appends .answers) (rw (commit-written n .0, commit-written n .1) e) (rw (commit-written n .0) (stored-front (min n (allStores is)))))
+          inr (reads-as g n0 n1 count seed b0 b1 (i n .b0) (i n .b1) (image-lengths n .0) (image-lengths n .1)
+          (commit-found .0) (commit-found .1) (commit-found .2) (appends .rev) (log x) w
+          (appends .answers) (rw (commit-written n .0, commit-written n .1) e)
+          (rw (commit-written n .0) (stored-front (min n (allStores is)))))
 
   -- ---- the finished pair
   abbrev finishedLog : List Event
   finishedLog = log x ++ commitEvents allOnes (logEndTag (log x)) is (checkTag size)
 
-  finished-view : viewAt w (blockAt w (f .b0) (f .b1)) (blockAt (not w) (f .b0) (f .b1)) ≡ at w (appends .rev) finishedLog
+  finished-view : viewAt w (blockAt w (f .b0) (f .b1)) (blockAt (not w) (f .b0) (f .b1))
+      ≡ at w (appends .rev) finishedLog
   finished-view = rw (finished-block, commit-written unlimited .1) (after 0 (omega arith) .finished)
 
   finished-log : log (blockAt w (f .b0) (f .b1)) ≡ finishedLog
-  finished-log = view-log w (blockAt w (f .b0) (f .b1)) (blockAt (not w) (f .b0) (f .b1)) (appends .rev) finishedLog finished-view .0
+  finished-log = view-log w (blockAt w (f .b0) (f .b1)) (blockAt (not w) (f .b0) (f .b1)) (appends .rev) finishedLog
+      finished-view .0
 
   regular-finished : Regular finishedLog ≡ true
   regular-finished = finished-regular x (log x) is size takes
@@ -149,11 +166,14 @@ module _ (g : Geometry) (b0 b1 : List ℕ) (n0 n1 count seed : ℕ) (entries : L
   commit-finished =
       let few = few-slots (blockAt w (f .b0) (f .b1)) finishedLog finished-log regular-finished in
       let L = image-lengths unlimited in
-      let k = refound g n0 n1 count seed b0 b1 (f .b0) (f .b1) (L .0) (L .1) (commit-found .0) (commit-found .1) (commit-found .2) (appends .rev) finishedLog few w finished-view in
-      let p = refound-place g n0 n1 count seed b0 b1 (f .b0) (f .b1) (L .0) (L .1) (commit-found .0) (commit-found .1) (commit-found .2) (appends .rev) finishedLog w in
+      let k = refound g n0 n1 count seed b0 b1 (f .b0) (f .b1) (L .0) (L .1) (commit-found .0) (commit-found .1)
+      (commit-found .2) (appends .rev) finishedLog few w finished-view in
+      let p = refound-place g n0 n1 count seed b0 b1 (f .b0) (f .b1) (L .0) (L .1) (commit-found .0) (commit-found .1)
+      (commit-found .2) (appends .rev) finishedLog w in
       let s = shows g (f .b0) (f .b1) n0 n1 count seed _ _ k w p (rw finished-log regular-finished) in
       let e : machineOf (log (blockAt w (f .b0) (f .b1))) ≡ ran (machineOf (log x)) (written (itemsOf dat entries) [])
-      = ap machineOf finished-log ∙ commit-ran (log x) allOnes (logEndTag (log x)) is (checkTag size) ∙ ap (λ (l : List Item). ran (machineOf (log x)) (written l [])) (appends .items) in
+      = ap machineOf finished-log ∙ commit-ran (log x) allOnes (logEndTag (log x)) is (checkTag size)
+      ∙ ap (λ (l : List Item). ran (machineOf (log x)) (written l [])) (appends .items) in
       subst (λ (M : Machine). Shows g n0 n1 (f .b0) (f .b1) M) e s
 
   -- the call's own fetch of it
@@ -163,11 +183,14 @@ module _ (g : Geometry) (b0 b1 : List ℕ) (n0 n1 count seed : ℕ) (entries : L
       (commit-finished .dir, commit-finished .read seed, commit-finished .fetched count seed low)
 
   pub commit-before : Shows g n0 n1 b0 b1 (machineOf (log x))
-  commit-before = shows g b0 b1 n0 n1 count seed (commit-found .0) (commit-found .1) (commit-found .2) w place (takes .regular)
+  commit-before = shows g b0 b1 n0 n1 count seed (commit-found .0) (commit-found .1) (commit-found .2) w place
+      (takes .regular)
 
 -- DEMAND 3, COMMIT
-pub stopped-commit : (g : Geometry) (b0 b1 : List ℕ) (n0 n1 count seed : ℕ) (entries : List Entry) (dat : List ℕ) (n : ℕ)
-    → CommitStopped g b0 b1 n0 n1 count seed entries dat (commitImages g b0 b1 n0 n1 count seed entries dat n .b0) (commitImages g b0 b1 n0 n1 count seed entries dat n .b1)
+pub stopped-commit : (g : Geometry) (b0 b1 : List ℕ) (n0 n1 count seed : ℕ) (entries : List Entry) (dat : List ℕ)
+    (n : ℕ)
+    → CommitStopped g b0 b1 n0 n1 count seed entries dat (commitImages g b0 b1 n0 n1 count seed entries dat n .b0)
+    (commitImages g b0 b1 n0 n1 count seed entries dat n .b1)
 stopped-commit g b0 b1 n0 n1 count seed entries dat n w is size h =
     record {
       either = commit-either g b0 b1 n0 n1 count seed entries dat w is size h n;

@@ -18,7 +18,8 @@ use Rattle.format.specs.Directory.{dirOf}
 use Rattle.format.specs.Commit.{Item, checkTag}
 use Rattle.format.specs.Stores.{erased, fill, compactBytes, compacted, compacting}
 use Rattle.format.specs.Writer.{checkLength, blockAt, isSecond, Images, unlimited}
-use Rattle.format.specs.Compaction.{compactAccepted, compactCheckAt, compactStores, compactedTo, compactVerdict, compactImages}
+use Rattle.format.specs.Compaction.{compactAccepted, compactCheckAt, compactStores, compactedTo, compactVerdict}
+use Rattle.format.specs.Compaction.{compactImages}
 use Rattle.format.specs.declared.Geometry.{Geometry}
 use Rattle.format.specs.declared.LfsMdir.{LfsMdir}
 use Rattle.format.specs.declared.Fetched.the-variants as fetched
@@ -30,7 +31,9 @@ use Rattle.theory.specs.Blocks.Compact.{AfterCompact}
 use Rattle.theory.specs.Compact.Acceptance.{compacted-regular}
 use Rattle.theory.specs.Fetch.FoundRecord.{found-answers}
 use Rattle.theory.specs.Fetch.FoundBlock.{found-sized}
-use Rattle.theory.specs.Compact.AcceptedVerdict.{found-then, behindOf, CompactsTo, accepted-compaction, compaction-written, compaction-length, compaction-stopped, compaction-keeps}
+use Rattle.theory.specs.Compact.AcceptedVerdict.{found-then, behindOf, CompactsTo, accepted-compaction}
+use Rattle.theory.specs.Compact.AcceptedVerdict.{compaction-written, compaction-length, compaction-stopped}
+use Rattle.theory.specs.Compact.AcceptedVerdict.{compaction-keeps}
 use Rattle.format.specs.Machine.{Machine, machineOf}
 use Rattle.format.specs.Stopped.{Bytes, Shows, ReadsAs, CompactStopped}
 use Rattle.theory.specs.Stopped.Shown.{found-tested, shows}
@@ -55,7 +58,8 @@ turned true x y = refl
 turned false x y = refl
 
 module _ (g : Geometry) (b0 b1 : List ℕ) (n0 n1 count seed : ℕ) (w : Bool) (rev : ℕ) (is : List Item) (size : ℕ)
-    (h : compactVerdict g b0 b1 n0 n1 count seed ≡ compactAccepted w rev is size) (bytes : Bytes (blockAt w b0 b1)) where
+    (h : compactVerdict g b0 b1 n0 n1 count seed ≡ compactAccepted w rev is size)
+    (bytes : Bytes (blockAt w b0 b1)) where
   abbrev x : List ℕ
   x = blockAt w b0 b1
 
@@ -81,13 +85,15 @@ module _ (g : Geometry) (b0 b1 : List ℕ) (n0 n1 count seed : ℕ) (w : Bool) (
   place : isSecond n0 (compact-found .0) ≡ w
   place =
       let a = found-answers g b0 b1 n0 n1 count seed (compact-found .0) (compact-found .1) (compact-found .2) in
-      a .place ∙ same-place b0 b1 (a .w) w (a .rev) (le32 x) (log (blockAt (a .w) b0 b1)) (log x) (a .answers) (compacts .answers)
+      a .place ∙ same-place b0 b1 (a .w) w (a .rev) (le32 x) (log (blockAt (a .w) b0 b1)) (log x) (a .answers)
+      (compacts .answers)
 
   bytes-length : length (compactBytes rev is (checkTag size)) + rest ≡ length o
   unfolding compacted
   bytes-length =
       sym (ap (λ (k : ℕ). length (compactBytes rev is (checkTag size)) + k) (length-erased rest))
-      ∙ sym (length-append (compactBytes rev is (checkTag size)) (erased rest)) ∙ compaction-length g b0 b1 n0 n1 count seed w rev is size h
+      ∙ sym (length-append (compactBytes rev is (checkTag size)) (erased rest))
+      ∙ compaction-length g b0 b1 n0 n1 count seed w rev is size h
 
   image-length : (n : ℕ) → length (compacting o rev is (checkTag size) rest n) ≡ length o
   unfolding compacting
@@ -102,11 +108,13 @@ module _ (g : Geometry) (b0 b1 : List ℕ) (n0 n1 count seed : ℕ) (w : Bool) (
   abbrev f : Images
   f = compactImages g b0 b1 n0 n1 count seed unlimited
 
-  left : (n : ℕ) → (blockAt (not w) (i n .b0) (i n .b1) ≡ compactedTo o rev is size n) × (blockAt w (i n .b0) (i n .b1) ≡ x)
+  left : (n : ℕ) → (blockAt (not w) (i n .b0) (i n .b1) ≡ compactedTo o rev is size n)
+      × (blockAt w (i n .b0) (i n .b1) ≡ x)
   left n = compaction-written g b0 b1 n0 n1 count seed w rev is size h n
 
   image-lengths : (n : ℕ) → (length (i n .b0) ≡ length b0) × (length (i n .b1) ≡ length b1)
-  image-lengths n = lengths w (i n .b0) (i n .b1) b0 b1 (ap length (left n .1)) (ap length (left n .0) ∙ image-length (min n (compactStores is)))
+  image-lengths n = lengths w (i n .b0) (i n .b1) b0 b1 (ap length (left n .1))
+      (ap length (left n .0) ∙ image-length (min n (compactStores is)))
 
   all-stores : min unlimited (compactStores is) ≡ compactStores is
   all-stores =
@@ -117,7 +125,8 @@ module _ (g : Geometry) (b0 b1 : List ℕ) (n0 n1 count seed : ℕ) (w : Bool) (
   unfolding compacting compacted
   whole =
       ap (λ (l : List ℕ). l ++ erased rest)
-      (fill-all (compactCheckAt is + checkLength) (compactBytes rev is (checkTag size)) (omega (arith, bytes-length, compacts .room)))
+      (fill-all (compactCheckAt is + checkLength) (compactBytes rev is (checkTag size))
+      (omega (arith, bytes-length, compacts .room)))
 
   finished-block : blockAt (not w) (f .b0) (f .b1) ≡ finished
   finished-block =
@@ -137,20 +146,24 @@ module _ (g : Geometry) (b0 b1 : List ℕ) (n0 n1 count seed : ℕ) (w : Bool) (
           (both-blocks w (i n .b0) (i n .b1) (f .b0) (f .b1) (left n .1 ∙ sym (left unlimited .1))
           (left n .0 ∙ e ∙ sym finished-block))
       go (inr e) =
-          inr (reads-as g n0 n1 count seed b0 b1 (i n .b0) (i n .b1) (image-lengths n .0) (image-lengths n .1) (compact-found .0) (compact-found .1) (compact-found .2) (le32 x) (log x) w
+          inr (reads-as g n0 n1 count seed b0 b1 (i n .b0) (i n .b1) (image-lengths n .0) (image-lengths n .1)
+          (compact-found .0) (compact-found .1) (compact-found .2) (le32 x) (log x) w
           (compacts .answers) (rw (left n .0, left n .1) e) (ap (take (logEnd (log x))) (left n .1)))
 
   -- ---- the finished pair
-  finished-view : viewAt (not w) (blockAt (not w) (f .b0) (f .b1)) (blockAt (not (not w)) (f .b0) (f .b1)) ≡ at (not w) rev finishedLog
+  finished-view : viewAt (not w) (blockAt (not w) (f .b0) (f .b1)) (blockAt (not (not w)) (f .b0) (f .b1))
+      ≡ at (not w) rev finishedLog
   finished-view =
       rw (not-not w, finished-block, left unlimited .1)
       (sym (turned w x finished) ∙ after 0 .finished ∙ rw (compacts .next))
 
   finished-log : log (blockAt (not w) (f .b0) (f .b1)) ≡ finishedLog
-  finished-log = view-log (not w) (blockAt (not w) (f .b0) (f .b1)) (blockAt (not (not w)) (f .b0) (f .b1)) rev finishedLog finished-view .0
+  finished-log = view-log (not w) (blockAt (not w) (f .b0) (f .b1)) (blockAt (not (not w)) (f .b0) (f .b1)) rev
+      finishedLog finished-view .0
 
   regular-finished : Regular finishedLog ≡ true
-  regular-finished = rw (compacts .next, compacts .items) (compacted-regular x (le32 x) (log x) (behindOf (log x)) size rest (compacts .compacts))
+  regular-finished = rw (compacts .next, compacts .items)
+      (compacted-regular x (le32 x) (log x) (behindOf (log x)) size rest (compacts .compacts))
 
   same-machine : machineOf finishedLog ≡ machineOf (log x)
   same-machine =
@@ -162,8 +175,10 @@ module _ (g : Geometry) (b0 b1 : List ℕ) (n0 n1 count seed : ℕ) (w : Bool) (
   compact-finished =
       let few = few-slots (blockAt (not w) (f .b0) (f .b1)) finishedLog finished-log regular-finished in
       let L = image-lengths unlimited in
-      let k = refound g n0 n1 count seed b0 b1 (f .b0) (f .b1) (L .0) (L .1) (compact-found .0) (compact-found .1) (compact-found .2) rev finishedLog few (not w) finished-view in
-      let p = refound-place g n0 n1 count seed b0 b1 (f .b0) (f .b1) (L .0) (L .1) (compact-found .0) (compact-found .1) (compact-found .2) rev finishedLog (not w) in
+      let k = refound g n0 n1 count seed b0 b1 (f .b0) (f .b1) (L .0) (L .1) (compact-found .0) (compact-found .1)
+      (compact-found .2) rev finishedLog few (not w) finished-view in
+      let p = refound-place g n0 n1 count seed b0 b1 (f .b0) (f .b1) (L .0) (L .1) (compact-found .0) (compact-found .1)
+      (compact-found .2) rev finishedLog (not w) in
       let s = shows g (f .b0) (f .b1) n0 n1 count seed _ _ k (not w) p (rw finished-log regular-finished) in
       subst (λ (M : Machine). Shows g n0 n1 (f .b0) (f .b1) M) (ap machineOf finished-log ∙ same-machine) s
 
@@ -174,11 +189,13 @@ module _ (g : Geometry) (b0 b1 : List ℕ) (n0 n1 count seed : ℕ) (w : Bool) (
       (compact-finished .dir, compact-finished .read seed, compact-finished .fetched count seed low)
 
   pub compact-before : Shows g n0 n1 b0 b1 (machineOf (log x))
-  compact-before = shows g b0 b1 n0 n1 count seed (compact-found .0) (compact-found .1) (compact-found .2) w place (compacts .compacts .regular)
+  compact-before = shows g b0 b1 n0 n1 count seed (compact-found .0) (compact-found .1) (compact-found .2) w place
+      (compacts .compacts .regular)
 
 -- DEMAND 3, COMPACTION
 pub stopped-compaction : (g : Geometry) (b0 b1 : List ℕ) (n0 n1 count seed n : ℕ) → Bytes b0 → Bytes b1
-    → CompactStopped g b0 b1 n0 n1 count seed (compactImages g b0 b1 n0 n1 count seed n .b0) (compactImages g b0 b1 n0 n1 count seed n .b1)
+    → CompactStopped g b0 b1 n0 n1 count seed (compactImages g b0 b1 n0 n1 count seed n .b0)
+    (compactImages g b0 b1 n0 n1 count seed n .b1)
 stopped-compaction g b0 b1 n0 n1 count seed n y0 y1 w rev is size h =
     let y = block-bytes w b0 b1 y0 y1 in
     record {

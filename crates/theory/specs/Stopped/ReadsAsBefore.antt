@@ -1,4 +1,5 @@
--- Images whose view is the old one, and whose answering block is the old one up to the end of its log, read as the old images did. Assumes nothing.
+-- Images whose view is the old one, and whose answering block is the old one up to the end of its log, read as the old
+-- images did. Assumes nothing.
 use mathlib.Core.Path.{_≡_, refl, sym, ap, _∙_}
 use mathlib.Core.Bool.{Bool, true, false, not, cond, _&&_, _||_}
 use mathlib.Core.List.{List}
@@ -12,7 +13,8 @@ use Rattle.format.specs.Log.{logEnd, logEndTag}
 use Rattle.format.specs.Record.{countOf, seedOf}
 use Rattle.format.specs.View.{View, at, view}
 use Rattle.format.specs.Fetch.{geometryFits, pairFits, tooHigh, mdirOf, fewEnough, viewed, fetchOf}
-use Rattle.format.specs.Lookup.{recordFits, searched, sliceAnswer, sliceBuffer, getsliceFits, getsliceOf, getsliceBuffer}
+use Rattle.format.specs.Lookup.{recordFits, searched, sliceAnswer, sliceBuffer, getsliceFits, getsliceOf}
+use Rattle.format.specs.Lookup.{getsliceBuffer}
 use Rattle.format.specs.Writer.{blockAt, isSecond}
 use Rattle.format.specs.declared.Geometry.{Geometry}
 use Rattle.format.specs.declared.LfsMdir.{LfsMdir}
@@ -27,8 +29,10 @@ use Rattle.theory.specs.Stopped.Shown.{found-tested, fetch-viewed}
 use Rattle.format.specs.Stopped.{unmarked, Finds, ReadsAs}
 
 -- ---- n is the answering block's number, k the other's; x stood in it, and y stands in it now
-module _ (prog n k v : ℕ) (es : List Event) (x y : List ℕ) (same : take (logEnd es) y ≡ take (logEnd es) x) (long : length y ≡ length x) where
-  searched-same : (gdisk : LfsGstate) (mask key : ℕ) → searched y (mdirOf prog n k y v es) gdisk mask key ≡ searched x (mdirOf prog n k x v es) gdisk mask key
+module _ (prog n k v : ℕ) (es : List Event) (x y : List ℕ) (same : take (logEnd es) y ≡ take (logEnd es) x)
+    (long : length y ≡ length x) where
+  searched-same : (gdisk : LfsGstate) (mask key : ℕ) → searched y (mdirOf prog n k y v es) gdisk mask key
+      ≡ searched x (mdirOf prog n k x v es) gdisk mask key
   unfolding searched mdirOf
   searched-same gdisk mask key = rw (back-same (logEnd es) y x same (logEnd es) (logEndTag es) (le-refl (logEnd es)))
 
@@ -37,17 +41,21 @@ module _ (prog n k v : ℕ) (es : List Event) (x y : List ℕ) (same : take (log
   inside gdisk mask key = searched-in (logEnd es) x (mdirOf prog n k x v es) gdisk mask key (le-refl (logEnd es))
 
   sliced-same : (gdisk : LfsGstate) (mask key : ℕ) (buffer : List ℕ)
-      → (sliceAnswer y 0 (length buffer) (searched y (mdirOf prog n k y v es) gdisk mask key) ≡ sliceAnswer x 0 (length buffer) (searched x (mdirOf prog n k x v es) gdisk mask key))
-      × (sliceBuffer y 0 buffer (searched y (mdirOf prog n k y v es) gdisk mask key) ≡ sliceBuffer x 0 buffer (searched x (mdirOf prog n k x v es) gdisk mask key))
+      → (sliceAnswer y 0 (length buffer) (searched y (mdirOf prog n k y v es) gdisk mask key)
+      ≡ sliceAnswer x 0 (length buffer) (searched x (mdirOf prog n k x v es) gdisk mask key))
+      × (sliceBuffer y 0 buffer (searched y (mdirOf prog n k y v es) gdisk mask key)
+      ≡ sliceBuffer x 0 buffer (searched x (mdirOf prog n k x v es) gdisk mask key))
   sliced-same gdisk mask key buffer =
       rw (searched-same gdisk mask key)
-      (slice-same (logEnd es) y x same buffer (searched x (mdirOf prog n k x v es) gdisk mask key) (inside gdisk mask key) long)
+      (slice-same (logEnd es) y x same buffer (searched x (mdirOf prog n k x v es) gdisk mask key)
+      (inside gdisk mask key) long)
 
 -- ---- fetch on two blocks whose view is known: w tells which answers
 abbrev numberAt : Bool → ℕ → ℕ → ℕ
 numberAt w n0 n1 = cond w n1 n0
 
--- two images of the right sizes and numbers, with a view of few slots, are found: from every seed, for every block count
+-- two images of the right sizes and numbers, with a view of few slots, are found: from every seed, for every block
+-- count
 module _ (g : Geometry) (n0 n1 : ℕ) (i0 i1 : List ℕ) (fits : pairFits g (length i0) (length i1) n0 n1 ≡ true) (v : ℕ)
     (es : List Event) (few : ltb 1_023 (countOf 0 es) ≡ false) where
   abbrev recordAt : Bool → LfsMdir
@@ -110,7 +118,8 @@ module _ (g : Geometry) (n0 n1 count seed : ℕ) (b0 b1 i0 i1 : List ℕ) (long0
 
   looked-up : (w : Bool) → take (logEnd es) (blockAt w i0 i1) ≡ take (logEnd es) (blockAt w b0 b1)
       → (gdisk : LfsGstate) (mask key : ℕ) (buffer : List ℕ)
-      → (getsliceOf g i0 i1 n0 n1 (new w) gdisk mask key 0 buffer ≡ getsliceOf g b0 b1 n0 n1 (old w) gdisk mask key 0 buffer)
+      → (getsliceOf g i0 i1 n0 n1 (new w) gdisk mask key 0 buffer ≡ getsliceOf g b0 b1 n0 n1 (old w) gdisk mask key 0
+      buffer)
       × (getsliceBuffer g i0 i1 n0 n1 (new w) gdisk mask key 0 buffer
       ≡ getsliceBuffer g b0 b1 n0 n1 (old w) gdisk mask key 0 buffer)
   unfolding getsliceOf getsliceBuffer getsliceFits recordFits mdirOf
@@ -132,11 +141,14 @@ module _ (g : Geometry) (n0 n1 count seed : ℕ) (b0 b1 i0 i1 : List ℕ) (long0
       sym (fetch-viewed g b0 b1 n0 n1 count seed old-fits (found-tested g b0 b1 n0 n1 count seed m s f .low)) ∙ f
 
   -- what was found counts few slots
-  found-few : (w : Bool) → viewAt w (blockAt w b0 b1) (blockAt (not w) b0 b1) ≡ at w v es → ltb 1_023 (countOf 0 es) ≡ false
+  found-few : (w : Bool) → viewAt w (blockAt w b0 b1) (blockAt (not w) b0 b1) ≡ at w v es
+      → ltb 1_023 (countOf 0 es) ≡ false
   found-few false h =
-      rw (counts false) at (few-counted (old false) m (seedOf seed es) s (sym (ap (viewed prog n0 n1 b0 b1 seed) h) ∙ found))
+      rw (counts false) at (few-counted (old false) m (seedOf seed es) s (sym (ap (viewed prog n0 n1 b0 b1 seed) h)
+      ∙ found))
   found-few true h =
-      rw (counts true) at (few-counted (old true) m (seedOf seed es) s (sym (ap (viewed prog n0 n1 b0 b1 seed) h) ∙ found))
+      rw (counts true) at (few-counted (old true) m (seedOf seed es) s (sym (ap (viewed prog n0 n1 b0 b1 seed) h)
+      ∙ found))
 
   pub reads-as : (w : Bool) → viewAt w (blockAt w b0 b1) (blockAt (not w) b0 b1) ≡ at w v es
       → viewAt w (blockAt w i0 i1) (blockAt (not w) i0 i1) ≡ at w v es

@@ -1,5 +1,5 @@
--- A pair with a regular log shows the machine of that log: fetch's record counts its slots, and the directory lookups, by `lfs_dir_getslice`'s own
--- definition on the bytes, answer what the machine has. Assumes nothing.
+-- A pair with a regular log shows the machine of that log: fetch's record counts its slots, and the directory lookups,
+-- by `lfs_dir_getslice`'s own definition on the bytes, answer what the machine has. Assumes nothing.
 use mathlib.Core.Path.{_≡_, refl, sym, _∙_}
 use mathlib.Core.Logic.{_≢_}
 use mathlib.Core.Bool.{Bool, true, false, not, cond, _&&_, _||_}
@@ -17,7 +17,8 @@ use Rattle.format.specs.Fetch.{pairFits, tooHigh, mdirOf, fewEnough, viewed, fe
 use Rattle.format.specs.Record.{seedOf}
 use Rattle.format.specs.Back.{back}
 use Rattle.format.specs.Look.{wlook}
-use Rattle.format.specs.Lookup.{recordFits, blockOf, hasIds, searchedFrom, searched, longestBuffer, getsliceFits, getsliceOf, getsliceBuffer}
+use Rattle.format.specs.Lookup.{recordFits, blockOf, hasIds, searchedFrom, searched, longestBuffer, getsliceFits}
+use Rattle.format.specs.Lookup.{getsliceOf, getsliceBuffer}
 use Rattle.format.specs.Regular.{Regular}
 use Rattle.format.specs.Tag.{tagOf}
 use Rattle.format.specs.Directory.{dirOf}
@@ -38,7 +39,8 @@ use Rattle.theory.specs.Lookup.SlotSearch.{log-inside}
 use Rattle.theory.specs.Fetch.FoundRecord.{few-found, past-test}
 use Rattle.theory.specs.Fetch.FoundBlock.{Reads, found-sized, found-reads}
 use Rattle.theory.specs.Compact.AcceptedVerdict.{slots-counted}
-use Rattle.format.specs.Machine.{machineOf, Ask, name, struct, attribute, move, askMask, askKey, askFits, askId, asked, heldGot, heldBuffer}
+use Rattle.format.specs.Machine.{machineOf, Ask, name, struct, attribute, move, askMask, askKey, askFits, askId, asked}
+use Rattle.format.specs.Machine.{heldGot, heldBuffer}
 use Rattle.theory.specs.Fetch.Places.{block-length}
 use Rattle.theory.specs.Lookup.AtStart.{back-in, wlook-in, slice-held}
 use Rattle.theory.specs.Lookup.MoveAnswer.{move-answer}
@@ -47,29 +49,42 @@ use Rattle.format.specs.Stopped.{Finds, Shows}
 -- ---- the search, on the bytes of a block with a regular log
 module _ (x : List ℕ) (some : log x ≢ []) (regular : Regular (log x) ≡ true) where
   pub ask-found : (a : Ask) (size : ℕ) → askFits (machineOf (log x)) a ≡ true → size < 2 ^ 10
-      → (holds x (wlook (hasIds (askMask a)) (askMask a) (askKey a size) 0 (back x (logEnd (log x)) (logEndTag (log x)))) ≡ asked (machineOf (log x)) a)
-      × Answers (askId a) (wlook (hasIds (askMask a)) (askMask a) (askKey a size) 0 (back x (logEnd (log x)) (logEndTag (log x))))
+      → (holds x (wlook (hasIds (askMask a)) (askMask a) (askKey a size) 0
+      (back x (logEnd (log x)) (logEndTag (log x)))) ≡ asked (machineOf (log x)) a)
+      × Answers (askId a) (wlook (hasIds (askMask a)) (askMask a) (askKey a size) 0
+      (back x (logEnd (log x)) (logEndTag (log x))))
   unfolding tagOf
   ask-found (name id) size h k =
-      block-lookup x (log x) _ _ 0 size id refl some (regular-searchable (log x) (regular-log x (log x) refl regular)) query-name k (ltb-true id (length (dirOf (log x))) h)
+      block-lookup x (log x) _ _ 0 size id refl some (regular-searchable (log x) (regular-log x (log x) refl regular))
+      query-name k (ltb-true id (length (dirOf (log x))) h)
   ask-found (struct id) size h k =
-      block-lookup x (log x) _ _ 1 size id refl some (regular-searchable (log x) (regular-log x (log x) refl regular)) query-struct k (ltb-true id (length (dirOf (log x))) h)
+      block-lookup x (log x) _ _ 1 size id refl some (regular-searchable (log x) (regular-log x (log x) refl regular))
+      query-struct k (ltb-true id (length (dirOf (log x))) h)
   ask-found (attribute id u) size h k =
       let r = both-true (ltb id (length (dirOf (log x)))) (ltb u 0x100) h in
-      block-lookup x (log x) _ _ (2 + u) size id refl some (regular-searchable (log x) (regular-log x (log x) refl regular)) (query-attr u (ltb-true u 0x100 (r .1))) k (ltb-true id (length (dirOf (log x))) (r .0))
+      block-lookup x (log x) _ _ (2 + u) size id refl some
+      (regular-searchable (log x) (regular-log x (log x) refl regular)) (query-attr u (ltb-true u 0x100 (r .1))) k
+      (ltb-true id (length (dirOf (log x))) (r .0))
   ask-found move size h k =
-      let r : RegularLog (log x) = regular-log x (log x) refl regular in
-      (move-found x (log x) size refl some (r .base .reg) (r .base .eight) (omega arith), move-answer x size some regular (r .base .reg) (omega arith))
+      let r : RegularLog (log x) = regular-log x (log x) refl regular in (
+        move-found x (log x) size refl some (r .base .reg) (r .base .eight) (omega arith),
+        move-answer x size some regular (r .base .reg) (omega arith),
+      )
 
 -- ---- a record that fetch found passes the lookups' own test
-same-numbers : (n0 n1 : ℕ) → (pairSync (record { n0 = n0; n1 = n1 }) (record { n0 = n0; n1 = n1 }) ≡ true) × (pairSync (record { n0 = n1; n1 = n0 }) (record { n0 = n0; n1 = n1 }) ≡ true)
-same-numbers n0 n1 = (rw (eq-eqb n0 n0 refl, eq-eqb n1 n1 refl), rw (eq-eqb n0 n0 refl, eq-eqb n1 n1 refl) (or-true (eqb n1 n0 && eqb n0 n1)))
+same-numbers : (n0 n1 : ℕ) → (pairSync (record { n0 = n0; n1 = n1 }) (record { n0 = n0; n1 = n1 }) ≡ true)
+    × (pairSync (record { n0 = n1; n1 = n0 }) (record { n0 = n0; n1 = n1 }) ≡ true)
+same-numbers n0 n1 = (
+  rw (eq-eqb n0 n0 refl, eq-eqb n1 n1 refl),
+  rw (eq-eqb n0 n0 refl, eq-eqb n1 n1 refl) (or-true (eqb n1 n0 && eqb n0 n1)),
+)
   where
     or-true : (b : Bool) → b || true ≡ true
     or-true true = refl
     or-true false = refl
 
-viewed-pair : (prog n0 n1 : ℕ) (b0 b1 : List ℕ) (seed : ℕ) (v : View) (m : LfsMdir) (s : ℕ) → viewed prog n0 n1 b0 b1 seed v ≡ Found m s
+viewed-pair : (prog n0 n1 : ℕ) (b0 b1 : List ℕ) (seed : ℕ) (v : View) (m : LfsMdir) (s : ℕ)
+    → viewed prog n0 n1 b0 b1 seed v ≡ Found m s
     → pairSync (m .pair) (record { n0 = n0; n1 = n1 }) ≡ true
 unfolding mdirOf
 viewed-pair prog n0 n1 b0 b1 seed none m s h = cc
@@ -86,12 +101,17 @@ pub record Tested (g : Geometry) (b0 b1 : List ℕ) (n0 n1 count : ℕ) (m : Lfs
   pub low : tooHigh count n0 || tooHigh count n1 ≡ false
   pub pair : pairSync (m .pair) (record { n0 = n0; n1 = n1 }) ≡ true
 
-pub found-tested : (g : Geometry) (b0 b1 : List ℕ) (n0 n1 count seed : ℕ) (m : LfsMdir) (s : ℕ) → fetchOf g b0 b1 n0 n1 count seed ≡ Found m s → Tested g b0 b1 n0 n1 count m
+pub found-tested : (g : Geometry) (b0 b1 : List ℕ) (n0 n1 count seed : ℕ) (m : LfsMdir) (s : ℕ)
+    → fetchOf g b0 b1 n0 n1 count seed ≡ Found m s → Tested g b0 b1 n0 n1 count m
 unfolding fetchOf
 found-tested g b0 b1 n0 n1 count seed m s h =
     let p = past-test (not (pairFits g (length b0) (length b1) n0 n1)) _ _ m s h in
     let q = past-test (tooHigh count n0 || tooHigh count n1) _ _ m s (p .1) in
-    record { fits = not-false _ (p .0); low = q .0; pair = viewed-pair (g .«prog_size») n0 n1 b0 b1 seed (view b0 b1) m s (q .1) }
+    record {
+      fits = not-false _ (p .0);
+      low = q .0;
+      pair = viewed-pair (g .«prog_size») n0 n1 b0 b1 seed (view b0 b1) m s (q .1);
+    }
 
 -- ---- what fetch finds once it finds from every seed, and for every block count that the numbers pass
 few-again : (k m : LfsMdir) (t s u : ℕ) → fewEnough k t ≡ Found m s → fewEnough k u ≡ Found m u
@@ -112,7 +132,8 @@ viewed-again prog n0 n1 b0 b1 seed (at true rev es) m s h =
     (λ u. seedOf u es, λ u. few-again (mdirOf prog n1 n0 b1 rev es) m (seedOf seed es) s (seedOf u es) h)
 
 -- fetch is what it makes of the view, where its tests pass
-pub fetch-viewed : (g : Geometry) (b0 b1 : List ℕ) (n0 n1 count seed : ℕ) → pairFits g (length b0) (length b1) n0 n1 ≡ true
+pub fetch-viewed : (g : Geometry) (b0 b1 : List ℕ) (n0 n1 count seed : ℕ)
+    → pairFits g (length b0) (length b1) n0 n1 ≡ true
     → tooHigh count n0 || tooHigh count n1 ≡ false
     → fetchOf g b0 b1 n0 n1 count seed ≡ viewed (g .«prog_size») n0 n1 b0 b1 seed (view b0 b1)
 unfolding fetchOf
@@ -127,7 +148,8 @@ found-anywhere g b0 b1 n0 n1 count seed m s h =
     (v .0, λ count′ seed′ low. fetch-viewed g b0 b1 n0 n1 count′ seed′ (t .fits) low ∙ v .1 seed′)
 
 -- a record's block, by either name
-pub block-is : (b0 b1 : List ℕ) (n0 : ℕ) (m : LfsMdir) (w : Bool) → isSecond n0 m ≡ w → blockOf b0 b1 n0 m ≡ blockAt w b0 b1
+pub block-is : (b0 b1 : List ℕ) (n0 : ℕ) (m : LfsMdir) (w : Bool) → isSecond n0 m ≡ w
+    → blockOf b0 b1 n0 m ≡ blockAt w b0 b1
 block-is b0 b1 n0 m w h = go (eqb (m .pair .n0) n0) w h
   where
     go : (c w : Bool) → not c ≡ w → cond c b0 b1 ≡ blockAt w b0 b1
@@ -141,7 +163,8 @@ off true p q = refl
 off false p q = refl
 
 -- ---- THE DIRECTORY LOOKUPS ARE THE MACHINE'S
-module _ (g : Geometry) (b0 b1 : List ℕ) (n0 n1 count seed : ℕ) (m : LfsMdir) (s : ℕ) (f : fetchOf g b0 b1 n0 n1 count seed ≡ Found m s) where
+module _ (g : Geometry) (b0 b1 : List ℕ) (n0 n1 count seed : ℕ) (m : LfsMdir) (s : ℕ)
+    (f : fetchOf g b0 b1 n0 n1 count seed ≡ Found m s) where
   module _ (w : Bool) (place : isSecond n0 m ≡ w) (regular : Regular (log (blockAt w b0 b1)) ≡ true) where
     abbrev x : List ℕ
     x = blockAt w b0 b1
@@ -170,27 +193,40 @@ module _ (g : Geometry) (b0 b1 : List ℕ) (n0 n1 count seed : ℕ) (m : LfsMdir
     inside : m .off ≤ length (blockAt w b0 b1)
     inside =
         rw end
-        (log-inside x (log x) refl (regular-log x (log x) refl regular .base .reg) (omega (arith, long, found-sized g b0 b1 n0 n1 count seed m s f .block .0)))
+        (log-inside x (log x) refl (regular-log x (log x) refl regular .base .reg)
+        (omega (arith, long, found-sized g b0 b1 n0 n1 count seed m s f .block .0)))
 
     fits : (buffer : List ℕ) → length buffer ≤ longestBuffer → getsliceFits g b0 b1 n0 n1 m buffer ≡ true
     unfolding getsliceFits recordFits
     fits buffer h =
         let t = found-tested g b0 b1 n0 n1 count seed m s f in
-        rw (t .fits, t .pair, le-leb (m .off) (g .«block_size») (rw long at inside), le-leb (length buffer) longestBuffer h)
+        rw (
+          t .fits,
+          t .pair,
+          le-leb (m .off) (g .«block_size») (rw long at inside),
+          le-leb (length buffer) longestBuffer h,
+        )
 
-    still : (mask key : ℕ) (gdisk : LfsGstate) → gstateHasMoveHere gdisk (m .pair) ≡ false → searched x m gdisk mask key ≡ searchedFrom x m mask key 0
+    still : (mask key : ℕ) (gdisk : LfsGstate) → gstateHasMoveHere gdisk (m .pair) ≡ false
+        → searched x m gdisk mask key ≡ searchedFrom x m mask key 0
     unfolding searched
     still mask key gdisk h = rw h (off (hasIds mask) _ _)
 
     pub ask-answered : (a : Ask) (gdisk : LfsGstate) (size : ℕ) (buffer : List ℕ)
-        → askFits (machineOf (log (blockAt w b0 b1))) a ≡ true → gstateHasMoveHere gdisk (m .pair) ≡ false → size < 2 ^ 10 → length buffer ≤ longestBuffer
-        → (getsliceOf g b0 b1 n0 n1 m gdisk (askMask a) (askKey a size) 0 buffer ≡ heldGot (askId a) (asked (machineOf (log (blockAt w b0 b1))) a))
-        × (getsliceBuffer g b0 b1 n0 n1 m gdisk (askMask a) (askKey a size) 0 buffer ≡ heldBuffer buffer (asked (machineOf (log (blockAt w b0 b1))) a))
+        → askFits (machineOf (log (blockAt w b0 b1))) a ≡ true → gstateHasMoveHere gdisk (m .pair) ≡ false
+        → size < 2 ^ 10 → length buffer ≤ longestBuffer
+        → (getsliceOf g b0 b1 n0 n1 m gdisk (askMask a) (askKey a size) 0 buffer
+        ≡ heldGot (askId a) (asked (machineOf (log (blockAt w b0 b1))) a))
+        × (getsliceBuffer g b0 b1 n0 n1 m gdisk (askMask a) (askKey a size) 0 buffer
+        ≡ heldBuffer buffer (asked (machineOf (log (blockAt w b0 b1))) a))
     unfolding getsliceOf getsliceBuffer
     ask-answered a gdisk size buffer ha hm hs hb =
         let k = ask-found x some regular a size ha hs in
-        let i = wlook-in (length x) (hasIds (askMask a)) (askMask a) (askKey a size) 0 (back x (logEnd (log x)) (logEndTag (log x))) (back-in x (logEnd (log x)) (logEndTag (log x)) (length x) (rw end at inside)) in
-        let r = slice-held x buffer (askId a) (wlook (hasIds (askMask a)) (askMask a) (askKey a size) 0 (back x (logEnd (log x)) (logEndTag (log x)))) i (k .1) in
+        let i = wlook-in (length x) (hasIds (askMask a)) (askMask a) (askKey a size) 0
+        (back x (logEnd (log x)) (logEndTag (log x)))
+        (back-in x (logEnd (log x)) (logEndTag (log x)) (length x) (rw end at inside)) in
+        let r = slice-held x buffer (askId a) (wlook (hasIds (askMask a)) (askMask a) (askKey a size) 0
+        (back x (logEnd (log x)) (logEndTag (log x)))) i (k .1) in
         rw (fits buffer hb, block, still (askMask a) (askKey a size) gdisk hm, end, tag, ← k .0) r
 
     pub shows : Shows g n0 n1 b0 b1 (machineOf (log (blockAt w b0 b1)))

@@ -1,4 +1,5 @@
--- A commit cut short: the first k bytes stored, the others still erased. It is the finished one, or no check is accepted in it. Assumes nothing.
+-- A commit cut short: the first k bytes stored, the others still erased. It is the finished one, or no check is
+-- accepted in it. Assumes nothing.
 use mathlib.Core.Path.{_≡_, refl, sym, ap, _∙_}
 use mathlib.Core.Logic.{_≢_, _⊎_, inl, inr}
 use mathlib.Core.Bool.{Bool, true, false}
@@ -20,7 +21,8 @@ use Rattle.format.proofs.Checksum.{crc-word}
 use Rattle.format.proofs.Tags.{top-valid, top-check, top-xor}
 use Rattle.theory.specs.Walk.Step.{not-true}
 use Rattle.theory.specs.Walk.ReadBack.{GoodCheck, read-chk, GoodItem, read-ent, AllGood}
-use Rattle.theory.specs.Walk.Erased.{NoCheck, Start, erased-append, blank, blanks, fill-front, stub, length-fill, fill-top, fill-le, length-erased, fill-back}
+use Rattle.theory.specs.Walk.Erased.{NoCheck, Start, erased-append, blank, blanks, fill-front, stub, length-fill}
+use Rattle.theory.specs.Walk.Erased.{fill-top, fill-le, length-erased, fill-back}
 
 -- document 01's coincidence does not hold
 abbrev pub NoCoincidence : ℕ → ℕ → List Item → ℕ → Type 0
@@ -36,9 +38,14 @@ in-tag : (sum p t : ℕ) (k : ℕ) (z : List ℕ) (m : ℕ) → Start p → t < 
     → (isCheck t ≡ true → (j : ℕ) → 0 < j → j < 4 → crc sum (fill j (toBe32 (xor t p))) ≢ allOnes)
     → NoCheck (walkFrom sum p (fill k (toBe32 (xor t p) ++ z) ++ erased m))
 unfolding fill
-in-tag sum p t zero z m start small hk co = rw (erased-append (length (toBe32 (xor t p) ++ z)) m) (blanks sum p (length (toBe32 (xor t p) ++ z) + m) start)
+in-tag sum p t zero z m start small hk co = rw (erased-append (length (toBe32 (xor t p) ++ z)) m)
+    (blanks sum p (length (toBe32 (xor t p) ++ z) + m) start)
 in-tag sum p t (suc k) z m start small hk co =
-    rw (fill-front (suc k) (toBe32 w) z (omega (arith, length-toBe32 w)), append-assoc b (erased (length z)) (erased m), erased-append (length z) m)
+    rw (
+      fill-front (suc k) (toBe32 w) z (omega (arith, length-toBe32 w)),
+      append-assoc b (erased (length z)) (erased m),
+      erased-append (length z) m,
+    )
     (stub sum p b n (length-fill (suc k) (toBe32 w) ∙ length-toBe32 w) (top-valid t t′ (sym top) small)
     (λ h. co (top-check t t′ (sym top) ∙ h) (suc k) (omega arith) hk))
   where
@@ -55,16 +62,19 @@ in-tag sum p t (suc k) z m start small hk co =
     t′ = xor (be32 (b ++ erased n)) p
 
     top : t′ / 2 ^ 24 ≡ t / 2 ^ 24
-    top = top-xor (be32 (b ++ erased n)) w p (fill-top (suc k) w (erased n) (omega arith)) ∙ ap (λ x. x / 2 ^ 24) (xor-undo t p)
+    top = top-xor (be32 (b ++ erased n)) w p (fill-top (suc k) w (erased n) (omega arith))
+        ∙ ap (λ x. x / 2 ^ 24) (xor-undo t p)
 
 -- a cut in the check's checksum
 cut-chk : (sum p ct j m : ℕ) → sum < 2 ^ 32 → GoodCheck ct → tagLength ct ≤ 8 + m → (b : Bool)
     → eqb (crc sum (toBe32 (xor ct p))) (le32 (fill j (toLe32 (crc sum (toBe32 (xor ct p)))) ++ erased m)) ≡ b
-    → Cut sum p (toBe32 (xor ct p) ++ fill j (toLe32 (crc sum (toBe32 (xor ct p)))) ++ erased m) (toBe32 (xor ct p) ++ toLe32 (crc sum (toBe32 (xor ct p))) ++ erased m)
+    → Cut sum p (toBe32 (xor ct p) ++ fill j (toLe32 (crc sum (toBe32 (xor ct p)))) ++ erased m)
+    (toBe32 (xor ct p) ++ toLe32 (crc sum (toBe32 (xor ct p))) ++ erased m)
 unfolding Cut
 cut-chk sum p ct j m small gc fits true e =
     let c : ℕ = crc sum (toBe32 (xor ct p)) in
-    let f : fill j (toLe32 c) ≡ toLe32 c = fill-le j c (erased m) (crc-word (toBe32 (xor ct p)) sum small) (eqb-true c (le32 (fill j (toLe32 c) ++ erased m)) e) in
+    let f : fill j (toLe32 c) ≡ toLe32 c = fill-le j c (erased m) (crc-word (toBe32 (xor ct p)) sum small)
+    (eqb-true c (le32 (fill j (toLe32 c) ++ erased m)) e) in
     inl (ap (λ z. toBe32 (xor ct p) ++ z ++ erased m) f)
 cut-chk sum p ct j m small gc fits false e =
     let c : ℕ = crc sum (toBe32 (xor ct p)) in
@@ -95,23 +105,32 @@ cut-data i N sum p j m g h =
 -- a cut behind an entry
 cut-more : (i : Item) (N N′ : List ℕ) (sum p m : ℕ) → GoodItem i
     → Cut (crc sum (toBe32 (xor (i .tag) p) ++ i .body)) (i .tag) (N′ ++ erased m) (N ++ erased m)
-    → Cut sum p (toBe32 (xor (i .tag) p) ++ (i .body ++ N′) ++ erased m) (toBe32 (xor (i .tag) p) ++ (i .body ++ N) ++ erased m)
+    → Cut sum p (toBe32 (xor (i .tag) p) ++ (i .body ++ N′) ++ erased m)
+    (toBe32 (xor (i .tag) p) ++ (i .body ++ N) ++ erased m)
 unfolding Cut
 cut-more i N N′ sum p m g h =
     let T : List ℕ = toBe32 (xor (i .tag) p) in
     let d : List ℕ = i .body in
-    rw (append-assoc T (d ++ N′) (erased m), append-assoc d N′ (erased m), append-assoc T (d ++ N) (erased m), append-assoc d N (erased m)) (go h)
+    rw (
+      append-assoc T (d ++ N′) (erased m),
+      append-assoc d N′ (erased m),
+      append-assoc T (d ++ N) (erased m),
+      append-assoc d N (erased m),
+    ) (go h)
   where
     T : List ℕ
     T = toBe32 (xor (i .tag) p)
 
     go : (N′ ++ erased m ≡ N ++ erased m) ⊎ NoCheck (walkFrom (crc sum (T ++ i .body)) (i .tag) (N′ ++ erased m))
-        → (T ++ (i .body ++ (N′ ++ erased m)) ≡ T ++ (i .body ++ (N ++ erased m))) ⊎ NoCheck (walkFrom sum p (T ++ (i .body ++ (N′ ++ erased m))))
+        → (T ++ (i .body ++ (N′ ++ erased m)) ≡ T ++ (i .body ++ (N ++ erased m))) ⊎ NoCheck
+        (walkFrom sum p (T ++ (i .body ++ (N′ ++ erased m))))
     go (inl e) = inl (ap (λ z. T ++ (i .body ++ z)) e)
-    go (inr n) = inr (rw (read-ent sum p (i .tag) (i .body) (N′ ++ erased m) (g .small) (g .entry) (g .long) (g .eight)) n)
+    go (inr n) = inr (rw (read-ent sum p (i .tag) (i .body) (N′ ++ erased m) (g .small) (g .entry) (g .long) (g .eight))
+        n)
 
 -- THE CUT: stopped after any k bytes, the commit stands whole or is not accepted
-pub cut : (is : List Item) (sum p ct k m : ℕ) → sum < 2 ^ 32 → AllGood is → GoodCheck ct → tagLength ct ≤ 8 + m → Start p → NoCoincidence sum p is ct
+pub cut : (is : List Item) (sum p ct k m : ℕ) → sum < 2 ^ 32 → AllGood is → GoodCheck ct → tagLength ct ≤ 8 + m
+    → Start p → NoCoincidence sum p is ct
     → Cut sum p (fill k (commitBytes sum p is ct) ++ erased m) (commitBytes sum p is ct ++ erased m)
 unfolding commitBytes Cut
 cut [] sum p ct k m small good gc fits start co = go (leb 4 k) refl
@@ -119,12 +138,16 @@ cut [] sum p ct k m small good gc fits start co = go (leb 4 k) refl
     c : ℕ
     c = crc sum (toBe32 (xor ct p))
 
-    go : (b : Bool) → leb 4 k ≡ b → Cut sum p (fill k (toBe32 (xor ct p) ++ toLe32 c) ++ erased m) (toBe32 (xor ct p) ++ toLe32 c ++ erased m)
+    go : (b : Bool) → leb 4 k ≡ b → Cut sum p (fill k (toBe32 (xor ct p) ++ toLe32 c) ++ erased m)
+        (toBe32 (xor ct p) ++ toLe32 c ++ erased m)
     go false e = inr (in-tag sum p ct k (toLe32 c) m start (gc .small) (leb-false 4 k e) (λ h. co))
     go true e =
-        rw (fill-back k (k - 4) (toBe32 (xor ct p)) (toLe32 c) (omega (arith, length-toBe32 (xor ct p), leb-true 4 k e)))
+        rw (fill-back k (k - 4) (toBe32 (xor ct p)) (toLe32 c)
+        (omega (arith, length-toBe32 (xor ct p), leb-true 4 k e)))
         (cut-chk sum p ct (k - 4) m small gc fits (eqb c (le32 (fill (k - 4) (toLe32 c) ++ erased m))) refl)
-cut (i ∷ is) sum p ct k m small good gc fits start co = go (leb 4 k) refl (leb (k - 4) (length (i .body))) refl (λ j. cut is (crc sum (toBe32 (xor (i .tag) p) ++ i .body)) (i .tag) ct j m (crc-word (toBe32 (xor (i .tag) p) ++ i .body) sum small) (good .1) gc fits (inl (good .0 .small)) co)
+cut (i ∷ is) sum p ct k m small good gc fits start co = go (leb 4 k) refl (leb (k - 4) (length (i .body))) refl
+    (λ j. cut is (crc sum (toBe32 (xor (i .tag) p) ++ i .body)) (i .tag) ct j m
+    (crc-word (toBe32 (xor (i .tag) p) ++ i .body) sum small) (good .1) gc fits (inl (good .0 .small)) co)
   where
     N : List ℕ
     N = commitBytes (crc sum (toBe32 (xor (i .tag) p) ++ i .body)) (i .tag) is ct
@@ -135,7 +158,8 @@ cut (i ∷ is) sum p ct k m small good gc fits start co = go (leb 4 k) refl (leb
     go : (b : Bool) → leb 4 k ≡ b → (b′ : Bool) → leb (k - 4) (length (i .body)) ≡ b′
         → ((j : ℕ) → Cut (crc sum (T ++ i .body)) (i .tag) (fill j N ++ erased m) (N ++ erased m))
         → Cut sum p (fill k (T ++ (i .body ++ N)) ++ erased m) (T ++ (i .body ++ N) ++ erased m)
-    go false e b′ e′ ih = inr (in-tag sum p (i .tag) k (i .body ++ N) m start (good .0 .small) (leb-false 4 k e) (λ h. absurd (not-true (isCheck (i .tag)) (good .0 .entry) h)))
+    go false e b′ e′ ih = inr (in-tag sum p (i .tag) k (i .body ++ N) m start (good .0 .small) (leb-false 4 k e)
+        (λ h. absurd (not-true (isCheck (i .tag)) (good .0 .entry) h)))
     go true e true e′ ih =
         rw (fill-back k (k - 4) T (i .body ++ N) (omega (arith, length-toBe32 (xor (i .tag) p), leb-true 4 k e)))
         (inr (cut-data i N sum p (k - 4) m (good .0) (leb-true (k - 4) (length (i .body)) e′)))
@@ -143,6 +167,7 @@ cut (i ∷ is) sum p ct k m small good gc fits start co = go (leb 4 k) refl (leb
         let j : ℕ = k - 4 - length (i .body) in
         rw (
           fill-back k (k - 4) T (i .body ++ N) (omega (arith, length-toBe32 (xor (i .tag) p), leb-true 4 k e)),
-          fill-back (k - 4) (k - 4 - length (i .body)) (i .body) N (omega (arith, leb-false (k - 4) (length (i .body)) e′)),
+          fill-back (k - 4) (k - 4 - length (i .body)) (i .body) N
+              (omega (arith, leb-false (k - 4) (length (i .body)) e′)),
         )
         (cut-more i N (fill j N) sum p m (good .0) (ih j))

@@ -46,7 +46,8 @@ length-fill (suc k) (b ∷ l) = ap suc (length-fill k l)
 
 pub fill-front : (k : ℕ) (a l : List ℕ) → k ≤ length a → fill k (a ++ l) ≡ fill k a ++ erased (length l)
 unfolding fill
-fill-front zero a l h = ap (λ n. erased n) (length-append a l) ∙ sym (replicate-append-replicate (length a) (length l) erasedByte)
+fill-front zero a l h = ap (λ n. erased n) (length-append a l)
+    ∙ sym (replicate-append-replicate (length a) (length l) erasedByte)
 fill-front (suc k) [] l h = absurd (omega arith)
 fill-front (suc k) (b ∷ a) l h = ap (λ z. b ∷ z) (fill-front k a l (omega arith))
 
@@ -90,7 +91,12 @@ blank sum p (suc (suc zero)) h = short sum p (erased 2) (omega arith)
 blank sum p (suc (suc (suc zero))) h = short sum p (erased 3) (omega arith)
 blank sum p (suc (suc (suc (suc n)))) h =
     let N : ℕ = suc (suc (suc (suc n))) in
-    rw (walk-step sum p (erased N), erased-be32 n, class-invalid (xor allOnes p) (length (erased N)) (omega (arith, length-erased N)) (allOnes-invalid p h)) tt
+    rw (
+      walk-step sum p (erased N),
+      erased-be32 n,
+      class-invalid (xor allOnes p) (length (erased N)) (omega
+          (arith, length-erased N)) (allOnes-invalid p h),
+    ) tt
 
 -- four bytes and then erased ones: no commit, unless they are a check and the checksum so far is 0xffffffff
 pub stub : (sum p : ℕ) (b : List ℕ) (n : ℕ) → length b ≡ 4 → xor (be32 (b ++ erased n)) p < 2 ^ 31
@@ -106,7 +112,8 @@ stub sum p b n lb small co = rw (walk-step sum p (b ++ erased n)) (go (classOf t
 
     next : (s′ : ℕ) → NoCheck (walkFrom s′ t (drop (tagLength t) (b ++ erased n)))
     next s′ =
-        let r : (m : ℕ) × (drop (tagLength t) (b ++ erased n) ≡ erased m) = drop-past b (tagLength t) n (omega (arith, tagLength-ge t)) in
+        let r : (m : ℕ) × (drop (tagLength t) (b ++ erased n) ≡ erased m) =
+        drop-past b (tagLength t) n (omega (arith, tagLength-ge t)) in
         rw (r .1) (blank s′ t (r .0) small)
 
     go : (K : Class) → classOf t L ≡ K → NoCheck (stepOf (walkFrom) K t sum (b ++ erased n))
@@ -114,8 +121,19 @@ stub sum p b n lb small co = rw (walk-step sum p (b ++ erased n)) (go (classOf t
     go invalid k = tt
     go check k =
         let h = check-says t L k in
-        let n4 : 4 ≤ n = omega (arith, h .0 .reach, behind-check t (h .1), length-append b (erased n), length-erased n) in
-        rw (take-at b (erased n) 4 lb, drop-at b (erased n) 4 lb, erased-le32 n n4, ne-eqb (crc sum b) allOnes (co (h .1))) tt
+        let n4 : 4 ≤ n = omega (
+          arith,
+          h .0 .reach,
+          behind-check t (h .1),
+          length-append b (erased n),
+          length-erased n,
+        ) in
+        rw (
+          take-at b (erased n) 4 lb,
+          drop-at b (erased n) 4 lb,
+          erased-le32 n n4,
+          ne-eqb (crc sum b) allOnes (co (h .1)),
+        ) tt
     go entry k = next (crc sum (take (tagLength t) (b ++ erased n)))
 
 -- erased bytes from a block's start (previous tag 0xffffffff), or behind a tag with bit 31 clear
@@ -155,10 +173,12 @@ fill-nil (suc k) = refl
 one-byte : (c a : ℕ) → a < 2 ^ 8 → c ≡ a + 0xff * 2 ^ 8 + 0xff * 2 ^ 16 + 0xff * 2 ^ 24 → c / 2 ^ 8 ≡ 2 ^ 24 - 1
 one-byte c a h e = omega arith
 
-two-bytes : (c a b : ℕ) → a < 2 ^ 8 → b < 2 ^ 8 → c ≡ a + b * 2 ^ 8 + 0xff * 2 ^ 16 + 0xff * 2 ^ 24 → c / 2 ^ 16 ≡ 2 ^ 16 - 1
+two-bytes : (c a b : ℕ) → a < 2 ^ 8 → b < 2 ^ 8 → c ≡ a + b * 2 ^ 8 + 0xff * 2 ^ 16 + 0xff * 2 ^ 24
+    → c / 2 ^ 16 ≡ 2 ^ 16 - 1
 two-bytes c a b h k e = omega arith
 
-ones-3 : (c : ℕ) → c / 2 ^ 8 ≡ 2 ^ 24 - 1 → (0xff ≡ c / 2 ^ 8 % 2 ^ 8) × (0xff ≡ c / 2 ^ 16 % 2 ^ 8) × (0xff ≡ c / 2 ^ 24)
+ones-3 : (c : ℕ) → c / 2 ^ 8 ≡ 2 ^ 24 - 1 → (0xff ≡ c / 2 ^ 8 % 2 ^ 8) × (0xff ≡ c / 2 ^ 16 % 2 ^ 8)
+    × (0xff ≡ c / 2 ^ 24)
 ones-3 c q = (omega arith, omega arith, omega arith)
 
 ones-2 : (c : ℕ) → c / 2 ^ 16 ≡ 2 ^ 16 - 1 → (0xff ≡ c / 2 ^ 16 % 2 ^ 8) × (0xff ≡ c / 2 ^ 24)

@@ -1,5 +1,5 @@
--- Locality: what the walk meets in front does not depend on what follows. So stores behind a log's end leave the log as it is.
--- Assumes nothing.
+-- Locality: what the walk meets in front does not depend on what follows. So stores behind a log's end leave the log as
+-- it is. Assumes nothing.
 use mathlib.Core.Path.{_≡_, refl, sym, ap, _∙_}
 use mathlib.Core.Bool.{Bool, true, false, cond}
 use mathlib.Core.List.{List, [], _∷_, _++_}
@@ -47,14 +47,20 @@ data-front : (n : ℕ) (a x y : List ℕ) → 4 + n ≤ length a → take n (dro
 data-front n a x y h =
     let l : n ≤ length (drop 4 a) = omega (arith, length-drop 4 a) in
     let l4 : 4 ≤ length a = omega arith in
-    rw (drop-append-le 4 a x l4, drop-append-le 4 a y l4, take-append-le n (drop 4 a) x l, take-append-le n (drop 4 a) y l)
+    rw (
+      drop-append-le 4 a x l4,
+      drop-append-le 4 a y l4,
+      take-append-le n (drop 4 a) x l,
+      take-append-le n (drop 4 a) y l,
+    )
 
 same-length : (a x y : List ℕ) → length x ≡ length y → length (a ++ x) ≡ length (a ++ y)
 same-length a x y e = simp length-append (omega arith)
 
 -- an entry that lies in front is read alike whatever follows
 pub head-ent : (sum prev t : ℕ) (d : List ℕ) (rest : List Event) (a x y : List ℕ)
-    → walkFrom sum prev (a ++ x) ≡ ent t d ∷ rest → (isWide t ≡ true → 12 ≤ tagLength t) → tagLength t ≤ length a → length x ≡ length y
+    → walkFrom sum prev (a ++ x) ≡ ent t d ∷ rest → (isWide t ≡ true → 12 ≤ tagLength t) → tagLength t ≤ length a
+    → length x ≡ length y
     → (rest ≡ walkFrom (crc sum (take (tagLength t) a)) t (drop (tagLength t) a ++ x))
     × (walkFrom sum prev (a ++ y) ≡ ent t d ∷ walkFrom (crc sum (take (tagLength t) a)) t (drop (tagLength t) a ++ y))
 head-ent sum prev t d rest a x y e wide fits len =
@@ -81,7 +87,8 @@ head-chk sum prev t c rest a x y e long fits len =
     let four : 4 ≤ length a = omega arith in
     let tag : take 4 (a ++ y) ≡ take 4 (a ++ x) = rw (take-append-le 4 a x four, take-append-le 4 a y four) in
     let stored : le32 (drop 4 (a ++ y)) ≡ le32 (drop 4 (a ++ x))
-    = rw (drop-append-le 4 a x four, drop-append-le 4 a y four) (le32-front (drop 4 a) y x (omega (arith, length-drop 4 a))) in (
+    = rw (drop-append-le 4 a x four, drop-append-le 4 a y four)
+    (le32-front (drop 4 a) y x (omega (arith, length-drop 4 a))) in (
       rw (drop-append-le (tagLength t) a x fits) at (m .next),
       check-met sum prev (a ++ y) t c (walkFrom allOnes (tagFlipped t) (drop (tagLength t) a ++ y))
           (record {
@@ -124,13 +131,15 @@ local (ent t d ∷ es) more sum p a x y e reg sp len =
     let h : (es ++ more ≡ walkFrom (crc sum (take (tagLength t) a)) t (drop (tagLength t) a ++ x))
     × (walkFrom sum p (a ++ y) ≡ ent t d ∷ walkFrom (crc sum (take (tagLength t) a)) t (drop (tagLength t) a ++ y))
     = head-ent sum p t d (es ++ more) a x y e (reg .0) fits len in
-    let i = local es more (crc sum (take (tagLength t) a)) t (drop (tagLength t) a) x y (sym (h .0)) (reg .1) (omega (arith, length-drop (tagLength t) a)) len in
+    let i = local es more (crc sum (take (tagLength t) a)) t (drop (tagLength t) a) x y (sym (h .0)) (reg .1)
+    (omega (arith, length-drop (tagLength t) a)) len in
     (i .0, h .1 ∙ ap (λ z. ent t d ∷ z) (i .1))
 local (chk t c ∷ es) more sum p a x y e reg sp len =
     let fits : tagLength t ≤ length a = omega arith in
     let h : (es ++ more ≡ walkFrom allOnes (tagFlipped t) (drop (tagLength t) a ++ x))
     × (walkFrom sum p (a ++ y) ≡ chk t c ∷ walkFrom allOnes (tagFlipped t) (drop (tagLength t) a ++ y))
     = head-chk sum p t c (es ++ more) a x y e (reg .0) fits len in
-    let i = local es more allOnes (tagFlipped t) (drop (tagLength t) a) x y (sym (h .0)) (reg .1) (omega (arith, length-drop (tagLength t) a)) len in
+    let i = local es more allOnes (tagFlipped t) (drop (tagLength t) a) x y (sym (h .0)) (reg .1)
+    (omega (arith, length-drop (tagLength t) a)) len in
     (i .0, h .1 ∙ ap (λ z. chk t c ∷ z) (i .1))
 local (inv ∷ es) more sum p a x y e reg sp len = absurd (reg .0)

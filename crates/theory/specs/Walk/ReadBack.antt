@@ -19,7 +19,8 @@ use Rattle.format.proofs.Tags.{tag-read}
 use Rattle.format.proofs.Classes.{behind-check}
 use Rattle.theory.specs.Walk.Step.{entry-met, check-read}
 
--- an entry that is read back as it was written: a valid tag that is no check, its length that of its bytes, eight of them where eight are read
+-- an entry that is read back as it was written: a valid tag that is no check, its length that of its bytes, eight of
+-- them where eight are read
 pub record GoodItem (i : Item) : Type 0 where
   pub small : i .tag < 2 ^ 31
   pub entry : isCheck (i .tag) ≡ false
@@ -52,7 +53,8 @@ past8 b s r n lb ls h =
     rw (← append-assoc b s r) (ap (λ k. drop k (b ++ s ++ r)) e ∙ drop-append-add (b ++ s) r (n - 8))
 
 -- the walk reads an entry whose tag and data stand whole
-pub read-ent : (sum p t : ℕ) (d r : List ℕ) → t < 2 ^ 31 → isCheck t ≡ false → tagLength t ≡ 4 + length d → (isWide t ≡ true → length d ≡ 8)
+pub read-ent : (sum p t : ℕ) (d r : List ℕ) → t < 2 ^ 31 → isCheck t ≡ false → tagLength t ≡ 4 + length d
+    → (isWide t ≡ true → length d ≡ 8)
     → walkFrom sum p (toBe32 (xor t p) ++ (d ++ r)) ≡ ent t d ∷ walkFrom (crc sum (toBe32 (xor t p) ++ d)) t r
 unfolding readBehind bodyLength
 read-ent sum p t d r small plain long wide =
@@ -84,12 +86,14 @@ read-ent sum p t d r small plain long wide =
 
 -- and a check: what comes of it hangs on the four bytes behind it alone
 pub read-chk : (sum p t : ℕ) (s r : List ℕ) → length s ≡ 4 → GoodCheck t → tagLength t ≤ 8 + length r
-    → walkFrom sum p (toBe32 (xor t p) ++ (s ++ r)) ≡ checked walkFrom (eqb (crc sum (toBe32 (xor t p))) (le32 (s ++ r))) t (toBe32 (xor t p) ++ (s ++ r))
+    → walkFrom sum p (toBe32 (xor t p) ++ (s ++ r)) ≡ checked walkFrom
+    (eqb (crc sum (toBe32 (xor t p))) (le32 (s ++ r))) t (toBe32 (xor t p) ++ (s ++ r))
 read-chk sum p t s r ls good fits =
     let four : length (toBe32 (xor t p)) ≡ 4 = length-toBe32 (xor t p) in
     let L : length (toBe32 (xor t p) ++ (s ++ r)) ≡ 4 + (4 + length r) = simp length-append (omega arith) in
     check-read sum p (toBe32 (xor t p) ++ (s ++ r)) t (tag-read t p (s ++ r))
-    (record { small = good .small; fits = omega arith; reach = omega (arith, behind-check t (good .check)) }) (good .check)
+    (record { small = good .small; fits = omega arith; reach = omega (arith, behind-check t (good .check)) })
+    (good .check)
     ∙ rw (take-at (toBe32 (xor t p)) (s ++ r) 4 four, drop-at (toBe32 (xor t p)) (s ++ r) 4 four)
 
 -- decode of encode: the finished bytes read back as the entries, then the check
@@ -115,5 +119,10 @@ decode (i ∷ is) sum p ct r good gc fits =
     let d : List ℕ = i .body in
     let N : List ℕ = commitBytes (crc sum (T ++ d)) (i .tag) is ct in
     let g : GoodItem i = good .0 in
-    rw (append-assoc T (d ++ N) r, append-assoc d N r, read-ent sum p (i .tag) d (N ++ r) (g .small) (g .entry) (g .long) (g .eight))
+    rw (
+      append-assoc T (d ++ N) r,
+      append-assoc d N r,
+      read-ent sum p (i .tag) d (N
+          ++ r) (g .small) (g .entry) (g .long) (g .eight),
+    )
     (ap (λ z. ent (i .tag) (i .body) ∷ z) (decode is (crc sum (T ++ d)) (i .tag) ct r (good .1) gc fits))

@@ -14,7 +14,8 @@ returns c =
     let s = c .before .before .wrapping-add-u32 in
     let d = c .before .wrapping-sub-u32 in
     let start = c .before .before .before in
-    let e : d .result ≡ minus32 (plus32 (start .args .a) (start .args .alignment)) 1 = omega (arith, s .ensures, s .ok, d .ensures, d .ok) in
+    let e : d .result ≡ minus32 (plus32 (start .args .a) (start .args .alignment)) 1 =
+    omega (arith, s .ensures, s .ok, d .ensures, d .ok) in
     c .lfs-aligndown .ensures ∙ ap (λ (x : ℕ). alignDown x (start .args .alignment)) e
 
 pub lfs-alignup-spec : {M : Type 1} → statement M

@@ -7,7 +7,8 @@ use Rattle.word.proofs.lfs_be32_at.Statement.{statement}
 use Rattle.word.proofs.lfs_be32_at.Tie as tie
 
 be32-requires : tie.Need-be32-requires
-be32-requires c κs = is-inside (c .before .before .before .args .s .now) _ _ (c .before .has-word .ensures) (c .if1 .taken)
+be32-requires c κs = is-inside (c .before .before .before .args .s .now) _ _ (c .before .has-word .ensures)
+    (c .if1 .taken)
 
 returns : tie.Need-returns
 returns c = ap Is (c .be32 .ensures) ∙ first _ _ _ _ (c .before .before .has-word .ensures) (c .before .if1 .taken)

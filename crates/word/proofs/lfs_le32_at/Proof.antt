@@ -7,7 +7,8 @@ use Rattle.word.proofs.lfs_le32_at.Statement.{statement}
 use Rattle.word.proofs.lfs_le32_at.Tie as tie
 
 le32-requires : tie.Need-le32-requires
-le32-requires c κs = is-inside (c .before .before .before .args .s .now) _ _ (c .before .has-word .ensures) (c .if1 .taken)
+le32-requires c κs = is-inside (c .before .before .before .args .s .now) _ _ (c .before .has-word .ensures)
+    (c .if1 .taken)
 
 returns : tie.Need-returns
 returns c = ap Is (c .le32 .ensures) ∙ first _ _ _ _ (c .before .before .has-word .ensures) (c .before .if1 .taken)

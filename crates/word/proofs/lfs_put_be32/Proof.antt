@@ -6,7 +6,8 @@ use Rattle.word.proofs.lfs_put_be32.Statement.{statement}
 use Rattle.word.proofs.lfs_put_be32.Tie as tie
 
 put-be32-requires : tie.Need-put-be32-requires
-put-be32-requires c κs = is-inside (c .before .before .before .before .before .args .s .now) _ _ (c .before .before .has-word .ensures) (c .before .if1 .taken)
+put-be32-requires c κs = is-inside (c .before .before .before .before .before .args .s .now) _ _
+    (c .before .before .has-word .ensures) (c .before .if1 .taken)
 
 returns : tie.Need-returns
 returns c =
@@ -15,7 +16,11 @@ returns c =
     (first _ _ _ _ test taken, c .before .before .put-be32 .ensures ∙ first _ _ _ _ test taken)
 
 returns-2 : tie.Need-returns-2
-returns-2 c = (second _ _ _ _ (c .before .has-word .ensures) (c .if1 .left), second _ _ _ _ (c .before .has-word .ensures) (c .if1 .left))
+returns-2 c = (
+  second _ _ _ _ (c .before .has-word .ensures) (c .if1 .left),
+  second _ _ _ _ (c .before .has-word .ensures) (c .if1 .left),
+)
 
 pub lfs-put-be32-spec : {M : Type 1} → statement M
-lfs-put-be32-spec = tie.close (tie.spec (λ c κs. search needs) put-be32-requires (λ c. search needs) returns (λ c. search needs) returns-2)
+lfs-put-be32-spec = tie.close (tie.spec (λ c κs. search needs) put-be32-requires (λ c. search needs) returns
+    (λ c. search needs) returns-2)

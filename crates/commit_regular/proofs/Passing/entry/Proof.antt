@@ -9,12 +9,27 @@ returns : tie.Need-returns
 returns c = stays-bad _ _ (not-true _ (c .if1 .taken))
 
 returns-2 : tie.Need-returns-2
-returns-2 c = goes-bad _ _ (not-false _ (c .before .before .before .before .before .before .if1 .left)) (rw (← c .before .before .before .before .lfs-tag-type3 .ensures, ← c .before .before .before .before .before .lfs-tag-id .ensures, ← c .before .before .before .lfs-tag-size .ensures, ← c .before .before .counted .ensures) (c .enum-told .given .1))
+returns-2 c = goes-bad _ _ (not-false _ (c .before .before .before .before .before .before .if1 .left))
+    (rw (
+      ← c .before .before .before .before .lfs-tag-type3 .ensures,
+      ← c .before .before .before .before .before .lfs-tag-id .ensures,
+      ← c .before .before .before .lfs-tag-size
+          .ensures,
+      ← c .before .before .counted .ensures,
+    ) (c .enum-told .given .1))
 
 returns-3 : tie.Need-returns-3
-returns-3 c = goes-on _ _ _ (not-false _ (c .before .before .before .before .before .before .before .if1 .left)) (rw (← c .before .before .before .before .before .lfs-tag-type3 .ensures, ← c .before .before .before .before .before .before .lfs-tag-id .ensures, ← c .before .before .before .before .lfs-tag-size .ensures, ← c .before .before .before .counted .ensures) (c .before .count .given .1))
+returns-3 c = goes-on _ _ _ (not-false _ (c .before .before .before .before .before .before .before .if1 .left))
+    (rw (
+      ← c .before .before .before .before .before .lfs-tag-type3 .ensures,
+      ← c .before .before .before .before .before .before .lfs-tag-id .ensures,
+      ← c .before .before .before .before
+          .lfs-tag-size .ensures,
+      ← c .before .before .before .counted .ensures,
+    ) (c .before .count .given .1))
 
 pub entry-spec : {M : Type 1} → statement M
 entry-spec =
     tie.close
-    (tie.spec returns (λ c κs. search needs) (λ c. search needs) (λ c κs. search needs) (λ c κs. search needs) (λ c κs. search needs) (λ c. search needs) (λ c. search needs) returns-2 returns-3)
+    (tie.spec returns (λ c κs. search needs) (λ c. search needs) (λ c κs. search needs) (λ c κs. search needs)
+    (λ c κs. search needs) (λ c. search needs) (λ c. search needs) returns-2 returns-3)

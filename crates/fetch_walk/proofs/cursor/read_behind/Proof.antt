@@ -19,10 +19,20 @@ returns : tie.Need-returns
 returns c = (sym (behind-check _ (sym (c .before .is-check .ensures) ∙ c .if1 .taken)), omega arith)
 
 returns-2 : tie.Need-returns-2
-returns-2 c = (sym (behind-wide _ (sym (c .before .before .before .before .is-check .ensures) ∙ c .before .before .before .if1 .left) (wide _ _ _ (c .before .before .lfs-tag-type1 .ensures) (c .before .lfs-tag-type3 .ensures) (c .if2 .taken))), omega arith)
+returns-2 c = (
+  sym (behind-wide _ (sym (c .before .before .before .before .is-check .ensures)
+      ∙ c .before .before .before .if1 .left) (wide _ _ _ (c .before .before .lfs-tag-type1 .ensures)
+      (c .before .lfs-tag-type3 .ensures) (c .if2 .taken))),
+  omega arith,
+)
 
 returns-3 : tie.Need-returns-3
-returns-3 c = (sym (behind-plain _ (sym (c .before .before .before .before .is-check .ensures) ∙ c .before .before .before .if1 .left) (wide _ _ _ (c .before .before .lfs-tag-type1 .ensures) (c .before .lfs-tag-type3 .ensures) (c .if2 .left))), omega arith)
+returns-3 c = (
+  sym (behind-plain _ (sym (c .before .before .before .before .is-check .ensures)
+      ∙ c .before .before .before .if1 .left) (wide _ _ _ (c .before .before .lfs-tag-type1 .ensures)
+      (c .before .lfs-tag-type3 .ensures) (c .if2 .left))),
+  omega arith,
+)
 
 pub read-behind-spec : {M : Type 1} → statement M
 read-behind-spec =

@@ -8,8 +8,10 @@ use Rattle.lanolin.proofs.leaves.lanolin_put_be32.Tie as tie
 
 returns : tie.Need-returns
 returns c =
-    let put = c .before .before .before .lfs-put-be32 in
-    (toZ-ofZ (sfits-of (c .altered-out .ok)) ∙ c .altered-out .ensures ∙ ap alteredResult (put .ensures .0), put .ensures .1)
+    let put = c .before .before .before .lfs-put-be32 in (
+      toZ-ofZ (sfits-of (c .altered-out .ok)) ∙ c .altered-out .ensures ∙ ap alteredResult (put .ensures .0),
+      put .ensures .1,
+    )
 
 pub lanolin-put-be32-spec : {M : Type 1} → statement M
 lanolin-put-be32-spec = tie.close (tie.spec (λ c κs. search needs) (λ c κs. search needs) (λ c. search needs) returns)

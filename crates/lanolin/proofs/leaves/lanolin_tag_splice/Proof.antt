@@ -17,4 +17,5 @@ same z h = toZ-ofZ (fits z h) ∙ toZ-ofZ h
 pub lanolin-tag-splice-spec : {M : Type 1} → statement M
 lanolin-tag-splice-spec =
     tie.close
-    (tie.spec (λ c κs. search needs) (λ c. fits (c .lfs-tag-splice .result) (sfits-of (c .lfs-tag-splice .ok))) (λ c. same (c .lfs-tag-splice .result) (sfits-of (c .lfs-tag-splice .ok)) ∙ c .lfs-tag-splice .ensures))
+    (tie.spec (λ c κs. search needs) (λ c. fits (c .lfs-tag-splice .result) (sfits-of (c .lfs-tag-splice .ok)))
+    (λ c. same (c .lfs-tag-splice .result) (sfits-of (c .lfs-tag-splice .ok)) ∙ c .lfs-tag-splice .ensures))

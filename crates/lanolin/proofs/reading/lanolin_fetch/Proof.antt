@@ -6,7 +6,8 @@ use Rattle.lanolin.proofs.reading.lanolin_fetch.Statement.{statement}
 use Rattle.lanolin.proofs.reading.lanolin_fetch.Tie as tie
 
 returns : tie.Need-returns
-returns c = c .fetched-out .ensures ∙ ap (fetchedOut (c .before .before .before .before .args .seed)) (c .before .lfs-dir-fetch .ensures)
+returns c = c .fetched-out .ensures ∙ ap (fetchedOut (c .before .before .before .before .args .seed))
+    (c .before .lfs-dir-fetch .ensures)
 
 pub lanolin-fetch-spec : {M : Type 1} → statement M
 lanolin-fetch-spec = tie.close (tie.spec (λ c κs. search needs) (λ c κs. search needs) returns)

@@ -7,8 +7,12 @@ use Rattle.lanolin.proofs.writing.lanolin_compact.Tie as tie
 
 returns : tie.Need-returns
 returns c =
-    let made = c .before .before .before .before .before .lfs-dir-compact .ensures in
-    (c .committed-out .ensures ∙ ap (committedOut (c .before .before .before .before .before .before .before .before .before .before .args .seed)) (made .0), made .1)
+    let made = c .before .before .before .before .before .lfs-dir-compact .ensures in (
+      c .committed-out .ensures ∙ ap (committedOut (c .before .before .before .before .before .before .before .before
+          .before .before .args .seed)) (made .0),
+      made .1,
+    )
 
 pub lanolin-compact-spec : {M : Type 1} → statement M
-lanolin-compact-spec = tie.close (tie.spec (λ c κs. search needs) (λ c κs. search needs) (λ c. search needs) (λ c. search needs) returns)
+lanolin-compact-spec = tie.close (tie.spec (λ c κs. search needs) (λ c κs. search needs) (λ c. search needs)
+    (λ c. search needs) returns)

@@ -23,13 +23,16 @@ module _ (t k : ℕ) (d : List ℕ) (e : k ≡ tagType3 t) where
   neither n m = sym (rw (ne-eqb (tagType3 t) 0x202 (λ q. n (e ∙ q)), ne-eqb (tagType3 t) 0x201 (λ q. m (e ∙ q))))
 
 returns : tie.Need-returns
-returns c = c .le32 .ensures ∙ ctz _ _ (c .before .before .before .before .args .s .now) (c .before .before .lfs-tag-type3 .ensures) (c .before .if1 .taken)
+returns c = c .le32 .ensures ∙ ctz _ _ (c .before .before .before .before .args .s .now)
+    (c .before .before .lfs-tag-type3 .ensures) (c .before .if1 .taken)
 
 returns-2 : tie.Need-returns-2
-returns-2 c = c .lfs-tag-size .ensures ∙ inline _ _ (c .before .before .before .before .before .args .s .now) (c .before .before .before .lfs-tag-type3 .ensures) (c .before .before .if1 .left) (c .before .if2 .taken)
+returns-2 c = c .lfs-tag-size .ensures ∙ inline _ _ (c .before .before .before .before .before .args .s .now)
+    (c .before .before .before .lfs-tag-type3 .ensures) (c .before .before .if1 .left) (c .before .if2 .taken)
 
 returns-3 : tie.Need-returns-3
-returns-3 c = neither _ _ (c .before .before .before .before .args .s .now) (c .before .before .lfs-tag-type3 .ensures) (c .before .if1 .left) (c .if2 .left)
+returns-3 c = neither _ _ (c .before .before .before .before .args .s .now) (c .before .before .lfs-tag-type3 .ensures)
+    (c .before .if1 .left) (c .if2 .left)
 
 pub size-of-spec : {M : Type 1} → statement M
 size-of-spec =

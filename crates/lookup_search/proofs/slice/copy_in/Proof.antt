@@ -1,4 +1,5 @@
--- `search::slice::copy_in` meets its contract. The loop's invariant: the first i bytes are the block's, the rest the buffer's (`Fill.antt`). Assumes nothing.
+-- `search::slice::copy_in` meets its contract. The loop's invariant: the first i bytes are the block's, the rest the
+-- buffer's (`Fill.antt`). Assumes nothing.
 use mathlib.Core.Path.{_≡_, refl}
 use Prim.Native.Nat.{_≤_, _-_}
 use native.Mathlib.Omega.{arith}
@@ -17,18 +18,33 @@ loop-holds : tie.Need-loop-holds Inv-loop μ-loop
 loop-holds c = (omega arith, refl)
 
 slice-write-buffer : tie.Need-slice-write-buffer Inv-loop μ-loop
-slice-write-buffer c = let a = c .before .before .before .args in let l = c .before .before .loop in omega (arith, copied-length (a .b .now) (a .from) (a .n) (a .buffer .now) (c .before .before .before .pre .0) (c .before .before .before .pre .1) (l .buffer) (l .i) (l .inv .1) (l .inv .0))
+slice-write-buffer c = let a = c .before .before .before .args in let l =
+    c .before .before .loop in omega (
+      arith,
+      copied-length (a .b .now) (a .from) (a .n) (a .buffer .now) (c .before .before .before .pre .0) (c .before
+          .before .before .pre .1) (l .buffer) (l .i) (l .inv .1) (l .inv .0),
+    )
 
 loop-again : tie.Need-loop-again Inv-loop μ-loop
-loop-again c = let a = c .before .before .before .args in let l = c .before .before .loop in (omega arith, copied-more (a .b .now) (a .from) (a .n) (a .buffer .now) (c .before .before .before .pre .0) (c .before .before .before .pre .1) (l .buffer) (l .i) (l .inv .1) (c .before .loop-test .taken))
+loop-again c = let a = c .before .before .before .args in let l =
+    c .before .before .loop in (
+      omega arith,
+      copied-more (a .b .now) (a .from) (a .n) (a .buffer .now) (c .before .before .before .pre .0) (c
+          .before .before .before .pre .1) (l .buffer) (l .i) (l .inv .1) (c .before .loop-test .taken),
+    )
 
 same-length : tie.Need-same-length Inv-loop μ-loop
-same-length c = let a = c .before .before .args in let l = c .before .loop in copied-length (a .b .now) (a .from) (a .n) (a .buffer .now) (c .before .before .pre .0) (c .before .before .pre .1) (l .buffer) (l .i) (l .inv .1) (l .inv .0)
+same-length c = let a = c .before .before .args in let l =
+    c .before .loop in copied-length (a .b .now) (a .from) (a .n) (a .buffer .now) (c .before .before .pre .0)
+    (c .before .before .pre .1) (l .buffer) (l .i) (l .inv .1) (l .inv .0)
 
 returns : tie.Need-returns Inv-loop μ-loop
-returns c = let a = c .before .before .args in let l = c .before .loop in copied-all (a .b .now) (a .from) (a .n) (a .buffer .now) (c .before .before .pre .0) (c .before .before .pre .1) (l .buffer) (l .i) (l .inv .1) (l .inv .0) (c .loop-test .left)
+returns c = let a = c .before .before .args in let l = c .before .loop in copied-all (a .b .now) (a .from) (a .n)
+    (a .buffer .now) (c .before .before .pre .0) (c .before .before .pre .1) (l .buffer) (l .i) (l .inv .1) (l .inv .0)
+    (c .loop-test .left)
 
 pub copy-in-spec : {M : Type 1} → statement M
 copy-in-spec =
     tie.close
-    (tie.spec Inv-loop μ-loop loop-holds (λ c. omega arith) (λ c. omega arith) slice-write-buffer (λ c. omega arith) (λ c. omega arith) loop-again same-length returns)
+    (tie.spec Inv-loop μ-loop loop-holds (λ c. omega arith) (λ c. omega arith) slice-write-buffer (λ c. omega arith)
+    (λ c. omega arith) loop-again same-length returns)

@@ -1,4 +1,5 @@
--- `search::slice::zero_rest` meets its contract. The loop's invariant: up to i the buffer is what it will be, behind it as it was (`Fill.antt`). Assumes nothing.
+-- `search::slice::zero_rest` meets its contract. The loop's invariant: up to i the buffer is what it will be, behind it
+-- as it was (`Fill.antt`). Assumes nothing.
 use mathlib.Core.Path.{_≡_}
 use Prim.Native.Nat.{_≤_, _-_}
 use native.Mathlib.Omega.{arith}
@@ -17,16 +18,33 @@ loop-holds : tie.Need-loop-holds Inv-loop μ-loop
 loop-holds c = let a = c .args in (omega arith, (c .pre, zeroed-start (a .n) (a .buffer .now) (c .pre)))
 
 loop-less : tie.Need-loop-less Inv-loop μ-loop
-loop-less c = let a = c .before .before .args in let l = c .before .loop in omega (arith, zeroed-length (a .n) (a .buffer .now) (c .before .before .pre) (l .buffer) (l .i) (l .inv .1 .1) (l .inv .1 .0))
+loop-less c = let a = c .before .before .args in let l =
+    c .before .loop in omega (
+      arith,
+      zeroed-length (a .n) (a .buffer .now) (c .before .before .pre) (l .buffer) (l
+          .i) (l .inv .1 .1) (l .inv .1 .0),
+    )
 
 loop-again : tie.Need-loop-again Inv-loop μ-loop
-loop-again c = let a = c .before .before .args in let p = c .before .before .pre in let l = c .before .loop in let h = zeroed-length (a .n) (a .buffer .now) p (l .buffer) (l .i) (l .inv .1 .1) (l .inv .1 .0) in (omega arith, (omega arith, zeroed-more (a .n) (a .buffer .now) p (l .buffer) (l .i) (l .inv .1 .1) (l .inv .0) (omega arith)))
+loop-again c = let a = c .before .before .args in let p = c .before .before .pre in let l = c .before .loop in let h =
+    zeroed-length (a .n) (a .buffer .now) p (l .buffer) (l .i) (l .inv .1 .1) (l .inv .1 .0) in (
+      omega arith,
+      (
+        omega arith,
+        zeroed-more (a .n) (a .buffer .now) p (l .buffer) (l .i) (l .inv .1 .1) (l .inv
+            .0) (omega arith),
+      ),
+    )
 
 same-length : tie.Need-same-length Inv-loop μ-loop
-same-length c = let a = c .before .before .args in let l = c .before .loop in zeroed-length (a .n) (a .buffer .now) (c .before .before .pre) (l .buffer) (l .i) (l .inv .1 .1) (l .inv .1 .0)
+same-length c = let a = c .before .before .args in let l =
+    c .before .loop in zeroed-length (a .n) (a .buffer .now) (c .before .before .pre) (l .buffer) (l .i) (l .inv .1 .1)
+    (l .inv .1 .0)
 
 returns : tie.Need-returns Inv-loop μ-loop
-returns c = let a = c .before .before .args in let p = c .before .before .pre in let l = c .before .loop in zeroed-all (a .n) (a .buffer .now) p (l .buffer) (l .i) (l .inv .1 .1) (omega (arith, zeroed-length (a .n) (a .buffer .now) p (l .buffer) (l .i) (l .inv .1 .1) (l .inv .1 .0)))
+returns c = let a = c .before .before .args in let p = c .before .before .pre in let l =
+    c .before .loop in zeroed-all (a .n) (a .buffer .now) p (l .buffer) (l .i) (l .inv .1 .1)
+    (omega (arith, zeroed-length (a .n) (a .buffer .now) p (l .buffer) (l .i) (l .inv .1 .1) (l .inv .1 .0)))
 
 pub zero-rest-spec : {M : Type 1} → statement M
 zero-rest-spec =

@@ -12,7 +12,10 @@ downwards : (a b c d : ℕ) → a + b * 2 ^ 8 + c * 2 ^ 16 + d * 2 ^ 24 ≡ d * 
 downwards a b c d = omega arith
 
 returns : tie.Need-returns
-returns c = c .word .ensures ∙ downwards _ _ _ _ ∙ sym (be32-at (c .before .before .before .before .before .before .args .s .now) (c .before .before .before .before .before .before .args .at))
+returns c = c .word .ensures ∙ downwards _ _ _ _
+    ∙ sym (be32-at (c .before .before .before .before .before .before .args .s .now)
+    (c .before .before .before .before .before .before .args .at))
 
 pub be32-spec : {M : Type 1} → statement M
-be32-spec = tie.close (tie.spec (λ c. omega arith) (λ c. omega arith) (λ c. omega arith) (λ c. omega arith) (λ c. omega arith) (λ c. omega arith) (λ c. omega arith) (λ c κs. search needs) returns)
+be32-spec = tie.close (tie.spec (λ c. omega arith) (λ c. omega arith) (λ c. omega arith) (λ c. omega arith)
+    (λ c. omega arith) (λ c. omega arith) (λ c. omega arith) (λ c κs. search needs) returns)

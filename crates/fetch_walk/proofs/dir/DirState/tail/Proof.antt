@@ -11,4 +11,5 @@ returns c = rw (drop-drop 4 _ _) (cc)
 
 pub tail-spec : {M : Type 1} → statement M
 tail-spec =
-    tie.close (tie.spec (λ c κs. search needs) (λ c. search needs) (λ c κs. search needs) (λ c κs. search needs) returns)
+    tie.close (tie.spec (λ c κs. search needs) (λ c. search needs) (λ c κs. search needs) (λ c κs. search needs)
+    returns)
