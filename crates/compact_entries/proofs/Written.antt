@@ -1,31 +1,30 @@
 -- What each function of the emission adds: an entry, a class, a slot, the directory, the tail. Assumes nothing.
 use mathlib.Core.Path.{_≡_, refl, sym, ap, ap₂, _∙_}
-use mathlib.Core.Bool.{Bool, true, false, cond}
+use mathlib.Core.Bool.{Bool, true, false, not, cond}
 use mathlib.Core.Option.{Option}
 use mathlib.Core.List.{List, [], _∷_, _++_}
 use Prim.Native.Nat.{ℕ, zero, suc, _+_, _-_, _^_, _≤_, _<_}
 use native.Mathlib.Numerals.{add-one}
 use native.Mathlib.Omega.{arith}
 use lib.Bits.{bitXor}
-use lib.ListN.{length, drop, getD, length-take, length-drop, drop-of-length-le}
-use lib.Seq.{drop-cons, drop-drop}
-use borrow.Author.Tests.{ne-eqb, eqb-false}
+use lib.ListN.{length, drop, getD, drop-of-length-le}
+use lib.Seq.{drop-cons}
+use borrow.Author.Tests.{ne-eqb}
 use Rattle.format.specs.Word.{toBe32, toLe32, xor}
-use Rattle.format.specs.Tag.{tagType3, tagSize, removalSize, tagDelete, tagLength, mkTag, tagOf}
+use Rattle.format.specs.Tag.{removalSize, tagLength, mkTag, tagOf}
 use Rattle.format.specs.Kind.{typeCreate, typeTail, typeHardTail, noSlot}
 use Rattle.format.specs.Crc.{crc}
 use Rattle.format.specs.Directory.{classes, Load, Slot, empty}
 use Rattle.format.specs.Commit.{Item}
 use Rattle.format.specs.Compaction.{classItems, slotItems, dirItems, isNoTail, tailItems}
 use Rattle.format.specs.declared.LfsPair.{LfsPair}
-use Rattle.format.proofs.Tags.{length-size}
 use Rattle.format.proofs.Words.{mkTag-sum}
-use Rattle.theory.specs.Lookup.ByMask.{bytesAt}
 use Rattle.commit_lay.specs.Laid.{Laid, putsOf, bodyOf}
 use Rattle.commit_lay.proofs.Puts.{puts-app}
-use Rattle.compact_slot.specs.Seat.{seatTag, seatPlace, loadIn, Inside}
-use Rattle.compact_slot.proofs.Turn.{load-free}
-use Rattle.compact_slot.proofs.Loads.{load-removed, load-made}
+use Rattle.compact_slot.specs.Seat.{loadIn, Inside}
+use Rattle.compact_slot.specs.Held.{Stands}
+use Rattle.compact_slot.specs.declared.Held.{Held}
+use Rattle.compact_slot.proofs.Stands.{bytes, missing, there, bytes-length}
 use Rattle.compact_entries.specs.Emitted.{Standing, emitted, emits, createItem}
 use Rattle.compact_entries.proofs.Joined.{emits-app}
 
@@ -56,53 +55,32 @@ entry-done s t w body r n y ew er en ey =
     }
 
 -- ---- a class
--- the data behind a tag that is no removal
-body-behind : (b : List ℕ) (t off z : ℕ) → (tagSize t ≡ removalSize → ⊥) → z ≡ tagSize t
-    → bodyOf b (off + 4) z ≡ bytesAt b (record { tag = t; off = off })
-unfolding bodyOf
-body-behind b t off z n ez =
-    let e : tagLength t - 4 ≡ z = omega (arith, length-size t n) in
-    rw (ne-eqb z removalSize (λ q. n (sym ez ∙ q)), e, drop-drop 4 off b)
-
 made-tag : (k y id z : ℕ) → k ≡ mkTag y id z → y < 2 ^ 12 → id < 2 ^ 10 → z < 2 ^ 10 → k ≡ tagOf y id z
 unfolding tagOf
 made-tag k y id z ek hy hid hz = ek ∙ mkTag-sum y id z hy hid hz
 
-module _ (b : List ℕ) (id v : ℕ) (s : Standing) where
-  abbrev t : ℕ
-  t = seatTag v
-
-  abbrev bytes : List ℕ
-  bytes = bytesAt b (record { tag = seatTag v; off = seatPlace v })
-
-  pub class-free : v ≡ 0 → s ≡ emits s (classItems id (loadIn b v))
+-- what the seat v tells is p
+module _ (b : List ℕ) (id v : ℕ) (s : Standing) (p : Held) (st : Stands v p) where
+  pub class-missing : not (p .held) ≡ true → s ≡ emits s (classItems id (loadIn b v))
   unfolding emits
-  class-free h = rw (h, load-free b 0 refl)
+  class-missing h = ap (λ (l : Option Load). emits s (classItems id l)) (missing b v p st h)
 
-  pub class-removed : (x : Bool) → x ≡ tagDelete t → x ≡ true → s ≡ emits s (classItems id (loadIn b v))
+  body-held : bodyOf b (p .from) (p .to - p .from) ≡ bytes b v p st
+  unfolding bodyOf
+  body-held = rw (ne-eqb (p .to - p .from) removalSize (λ q. omega (arith, st .size′)))
+
+  -- z is the size, and k the tag made of it; r stands behind the entry
+  pub class-made : not (p .held) ≡ false → Inside b v → id < 2 ^ 10 → (z : ℕ) → z ≡ p .to - p .from → (k : ℕ)
+      → k ≡ mkTag (p .kind) id z → (r : Standing)
+      → r ≡ emitted s (record { tag = k; body = bodyOf b (p .from) z }) → r ≡ emits s (classItems id (loadIn b v))
   unfolding emits
-  class-removed x ex h = rw (load-removed b v (sym ex ∙ h))
-
-  bytes-length : (tagSize t ≡ removalSize → ⊥) → Inside b v → length bytes ≡ tagSize t
-  bytes-length n inside =
-      length-take (tagLength t - 4) (drop 4 (drop (seatPlace v) b))
-      ∙ rw (length-drop 4 (drop (seatPlace v) b), length-drop (seatPlace v) b) (omega (arith, length-size t n))
-
-  -- y, z and k are type, size and the tag made of them; r stands behind the entry
-  pub class-made : (v ≡ 0 → ⊥) → (x : Bool) → x ≡ tagDelete t → x ≡ false → Inside b v → id < 2 ^ 10 → (z : ℕ)
-      → z ≡ tagSize t → (y : ℕ) → y ≡ tagType3 t
-      → (k : ℕ) → k ≡ mkTag y id z → (r : Standing)
-      → r ≡ emitted s (record { tag = k; body = bodyOf b (seatPlace v + 4) z })
-      → r ≡ emits s (classItems id (loadIn b v))
-  unfolding emits
-  class-made n x ex h inside low z ez y ey k ek r er =
-      let gone : tagDelete t ≡ false = sym ex ∙ h in
-      let size : (tagSize t ≡ removalSize → ⊥) = eqb-false (tagSize t) removalSize gone in
-      let body : bodyOf b (seatPlace v + 4) z ≡ bytes = body-behind b t (seatPlace v) z size ez in
-      let tag : k ≡ tagOf (tagType3 t) id (length bytes) =
-      made-tag k y id z ek (omega arith) low (omega arith) ∙ ap₂ (λ (p q : ℕ). tagOf p id q) ey
-      (ez ∙ sym (bytes-length size inside)) in
-      er ∙ ap₂ (λ (p : ℕ) (q : List ℕ). emitted s (record { tag = p; body = q })) tag body ∙ rw (load-made b v n gone)
+  class-made h inside low z ez k ek r er =
+      let body : bodyOf b (p .from) z ≡ bytes b v p st = ap (bodyOf b (p .from)) ez ∙ body-held in
+      let tag : k ≡ tagOf (p .kind) id (length (bytes b v p st)) =
+      made-tag k (p .kind) id z ek (omega (arith, st .type′)) low (omega (arith, st .size′))
+      ∙ ap (tagOf (p .kind) id) (ez ∙ sym (bytes-length b v p st inside)) in
+      er ∙ ap₂ (λ (t : ℕ) (q : List ℕ). emitted s (record { tag = t; body = q })) tag body
+      ∙ ap (λ (l : Option Load). emits s (classItems id l)) (there b v p st h)
 
 -- ---- a slot
 no-body : (dat : List ℕ) → bodyOf dat 0 0 ≡ []

@@ -51,17 +51,13 @@ fn class_entry(old: &[u8], new: &mut [u8], e: Emit, id: u32, seat: u64) -> Emit
     ensures { λ r. ⌜ standing r (now (new .exit)) ≡ emits (standing e (now (new .entry)))
         (classItems id (loadIn (now (old .entry)) seat)) ⌝ }
 {
-    if seat == 0 {
+    let p = compact_slot::held_at(seat);
+    if !p.held {
         return e;
     }
-    let found = (seat / 0x1_0000 % 0x1_0000_0000) as u32;
-    if tag::lfs_tag_isdelete(found) {
-        return e;
-    }
-    let size = tag::lfs_tag_size(found);
-    let off = (seat % 0x1_0000) as u32 + 4;
-    let tag = tag::lfs_mktag(tag::lfs_tag_type3(found) as u32, id, size);
-    entry(new, e, tag, old, off, size)
+    let size = (p.to - p.from) as u32;
+    let tag = tag::lfs_mktag(p.kind as u32, id, size);
+    entry(new, e, tag, old, p.from as u32, size)
 }
 
 // A slot: its create, and what stands at its seats, by rising class.

@@ -4,3 +4,4 @@ pub mod Leaves
 pub mod Move
 pub mod Slots
 pub mod Loads
+pub mod Stands

@@ -9,6 +9,7 @@ ghost use Rattle.theory.specs.Back.BackActs.{seen};
 ghost use Rattle.theory.specs.Lookup.MoveState.{lastMove};
 ghost use Rattle.compact_slot.specs.Seat.{seatOf, loadIn, Inside, seatClass, createdAt, idBefore, noted};
 ghost use Rattle.compact_slot.specs.Seat.{Gatherable, Gathered};
+ghost use Rattle.compact_slot.specs.Held.{Stands};
 use format::types::*;
 use lookup_back::Back;
 
@@ -21,6 +22,40 @@ fn seat_of(tag: u32, at: usize) -> u64
     ensures { λ r. ⌜ r ≡ seatOf tag at ⌝ }
 {
     tag as u64 * 0x1_0000 + at as u64
+}
+
+// What stands at a seat: nothing, or an entry's type and where its data begin and end in the block.
+pub struct Held {
+    pub held: bool,
+    pub kind: u16,
+    pub from: usize,
+    pub to: usize,
+}
+
+// What a seat tells: nothing where it is free, and nothing of a removal.
+pub fn held_at(seat: u64) -> Held
+    ensures { λ r. ⌜ Stands seat r ⌝ }
+{
+    let nothing = Held {
+        held: false,
+        kind: 0,
+        from: 0,
+        to: 0,
+    };
+    if seat == 0 {
+        return nothing;
+    }
+    let found = (seat / 0x1_0000 % 0x1_0000_0000) as u32;
+    if tag::lfs_tag_isdelete(found) {
+        return nothing;
+    }
+    let from = (seat % 0x1_0000) as usize + 4;
+    Held {
+        held: true,
+        kind: tag::lfs_tag_type3(found),
+        from,
+        to: from + tag::lfs_tag_size(found) as usize,
+    }
 }
 
 // The class of what an entry sets in its slot: 0 the name, 1 the struct, 2 + u the user attribute u, and 258 none of

@@ -11,7 +11,7 @@ use lib.Dec.{ltb}
 use borrow.Author.Tests.{ltb-true}
 use lib.ListN.{replicate}
 use Rattle.format.specs.Crc.{crc, crcByte, crcBits, crcBit}
-use Rattle.format.specs.Word.{be32, le32, toBe32, toLe32, xor, allOnes}
+use Rattle.format.specs.Word.{be32, le32, toBe32, toLe32, xor}
 use Rattle.format.specs.Tag.{tagLength, tagFlipped, tagOf}
 use Rattle.format.specs.Walk.{readBehind, classOf, bodyLength, walkIn, walkFrom, walk}
 use Rattle.format.specs.Log.{committed, log, eventLength, span, tagAfter, stoppedStraight}

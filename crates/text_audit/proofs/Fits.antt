@@ -9,7 +9,7 @@ use lib.ListN.{length, length-append}
 use Rattle.format.specs.Log.{log}
 use Rattle.format.specs.Regular.{Regular}
 use Rattle.format.specs.Directory.{Load, Slot, dirOf}
-use Rattle.format.specs.Listing.{ascii, decimal, nameBytes, numberLine, refusedLine, fetchInput}
+use Rattle.format.specs.Listing.{ascii, decimal, numberLine, refusedLine, fetchInput}
 use Rattle.format.specs.Audit.{lacksDeadline, lacksPayload, nameOrDash, lackLine, auditLine, auditLines, tally}
 use Rattle.format.specs.Audit.{totalLines, slotsAudit, blockAudit, auditOf}
 use Rattle.format.specs.declared.LfsMdir.{LfsMdir}
@@ -17,8 +17,8 @@ use Rattle.format.specs.declared.Refusal.the-variants.{Irregular}
 use Rattle.theory.specs.Blocks.SlotItems.{OkSlot, OkSlots, ok-dirOf}
 use Rattle.theory.specs.Commit.Tested.{regular-loads}
 use Rattle.theory.specs.Compact.AcceptedVerdict.{slots-few}
-use Rattle.text_listing.proofs.Fits.{decimal-short, name-length, number-short, refused-short, Short, slot-loads}
-use Rattle.text_listing.proofs.Fits.{fetched-short}
+use Rattle.text_input.proofs.Short.{decimal-short, name-length, number-short, refused-short, Short, slot-loads}
+use Rattle.text_input.proofs.Short.{fetched-short}
 
 name-short : (o : Option Load) → Short o → length (nameOrDash o) ≤ 4_088
 unfolding nameOrDash

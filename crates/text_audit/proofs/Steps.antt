@@ -1,7 +1,6 @@
 -- One slot, one slot more, and a block: the text and the two counts go together. Assumes nothing.
-use mathlib.Core.Path.{_≡_, refl, sym, ap, ap₂, _∙_}
+use mathlib.Core.Path.{_≡_, refl, sym, ap, _∙_}
 use mathlib.Core.Bool.{Bool, true, false, not, cond, _&&_}
-use mathlib.Core.Option.{Option}
 use mathlib.Core.List.{List, [], _∷_, _++_}
 use Prim.Native.Nat.{ℕ, suc, _+_, _^_, _≤_, _<_}
 use native.Mathlib.Numerals.{add-one}
@@ -11,7 +10,7 @@ use lib.Seq.{drop-cons}
 use borrow.Author.Tests.{not-true, not-false}
 use Rattle.format.specs.Log.{log}
 use Rattle.format.specs.Regular.{Regular}
-use Rattle.format.specs.Directory.{classes, Load, Slot, empty, dirOf}
+use Rattle.format.specs.Directory.{classes, Slot, empty, dirOf}
 use Rattle.format.specs.Listing.{ascii, numberLine, refusedLine}
 use Rattle.format.specs.Audit.{isInstruction, isPayload, isDeadline, deadlineClass, lacksDeadline, lacksPayload}
 use Rattle.format.specs.Audit.{lackLine, auditLine, auditLines, tally, totalLines, slotsAudit, blockAudit}
@@ -20,8 +19,8 @@ use Rattle.format.specs.declared.Refusal.the-variants.{Irregular}
 use Rattle.text.specs.Put.{Text, text, putsOf}
 use Rattle.text.proofs.Joined.{puts-none, join}
 use Rattle.compact_slot.specs.Slots.{Slots, slotIn}
-use Rattle.text_listing.specs.Listed.{AllInside}
-use Rattle.text_listing.proofs.Loops.{Shown, slots-next, slots-done}
+use Rattle.compact_slot.specs.Held.{AllInside}
+use Rattle.text_input.proofs.Slots.{Shown, slots-next, slots-done}
 use Rattle.text_audit.specs.Audited.{Told, Few, SlotAudited, SlotsAudited}
 use Rattle.text_audit.specs.declared.Audit.{Audit}
 

@@ -14,10 +14,10 @@ use Rattle.format.specs.Listing.{ascii, decimal, nameBytes}
 use Rattle.format.specs.Audit.{isInstruction, isPayload, isDeadline, nameOrDash, lackLine}
 use Rattle.text.specs.Put.{Text, putsOf}
 use Rattle.text.proofs.Joined.{join}
-use Rattle.compact_slot.specs.Seat.{loadIn, Inside}
-use Rattle.text_listing.specs.Listed.{partIn, Stands}
-use Rattle.text_listing.specs.declared.Held.{Held}
-use Rattle.text_listing.proofs.Fields.{missing, there, bytes-length}
+use Rattle.compact_slot.specs.Seat.{loadIn}
+use Rattle.compact_slot.specs.Held.{Stands}
+use Rattle.compact_slot.specs.declared.Held.{Held}
+use Rattle.compact_slot.proofs.Stands.{missing, there, bytes-length}
 use Rattle.text_audit.specs.Audited.{Told}
 
 -- some bytes are between two places

@@ -12,7 +12,8 @@ ghost use Rattle.format.specs.Audit.{blockAudit, auditOf};
 ghost use Rattle.text.specs.Put.{text, putsOf};
 ghost use Rattle.compact_slot.specs.Seat.{loadIn, Inside};
 ghost use Rattle.compact_slot.specs.Slots.{Slots, slotIn};
-ghost use Rattle.text_listing.specs.Listed.{AllInside, Listable};
+ghost use Rattle.compact_slot.specs.Held.{AllInside};
+ghost use Rattle.text_input.specs.Input.{Listable};
 ghost use Rattle.text_audit.specs.Audited.{Told, Few, SlotAudited, SlotsAudited};
 use format::Fetched;
 use format::LfsMdir;
@@ -34,7 +35,7 @@ pub struct Audit {
 fn is_instruction(name: u64) -> bool
     ensures { λ r. ⌜ Told isInstruction name r ⌝ }
 {
-    let p = text_listing::part(name);
+    let p = compact_slot::held_at(name);
     if !p.held {
         return true;
     }
@@ -45,7 +46,7 @@ fn is_instruction(name: u64) -> bool
 fn is_payload(content: u64) -> bool
     ensures { λ r. ⌜ Told isPayload content r ⌝ }
 {
-    let p = text_listing::part(content);
+    let p = compact_slot::held_at(content);
     if !p.held {
         return false;
     }
@@ -56,7 +57,7 @@ fn is_payload(content: u64) -> bool
 fn is_deadline(attribute: u64) -> bool
     ensures { λ r. ⌜ Told isDeadline attribute r ⌝ }
 {
-    let p = text_listing::part(attribute);
+    let p = compact_slot::held_at(attribute);
     p.held
 }
 
@@ -66,7 +67,7 @@ fn name_or_dash(out: &mut [u8], at: u32, b: &[u8], name: u64) -> u32
     ensures { λ r. ⌜ text r (now (out .exit)) ≡ putsOf (text at (now (out .entry)))
         (nameOrDash (loadIn (now (b .entry)) name)) ⌝ }
 {
-    let p = text_listing::part(name);
+    let p = compact_slot::held_at(name);
     if !p.held {
         return text::puts(out, at, b"-");
     }
@@ -155,7 +156,7 @@ fn block_audit(out: &mut [u8], b: &[u8], m: LfsMdir) -> u32
     ensures { λ r. ⌜ text r (now (out .exit)) ≡ putsOf (text 0 (now (out .entry))) (blockAudit m (now (b .entry))) ⌝ }
 {
     if !commit_regular::log_regular(b) {
-        return text_listing::refused(out, 0, Refusal::Irregular);
+        return text_input::refused(out, 0, Refusal::Irregular);
     }
     let a = slot_audits(out, b, m.off as usize, m.etag, m.count as u32);
     total_lines(out, a, m.count as u32)
@@ -167,8 +168,8 @@ pub fn lfs_dir_audit(input: &[u8], out: &mut [u8]) -> u32
     ensures { λ _. ⌜ now (out .exit) ≡ writtenTo (now (out .entry)) (auditOf (now (input .entry))) ⌝ }
 {
     let half = input.len() / 2;
-    match text_listing::fetch_input(input) {
-        Fetched::Refused(r) => text_listing::refused(out, 0, r),
+    match text_input::fetch_input(input) {
+        Fetched::Refused(r) => text_input::refused(out, 0, r),
         Fetched::Found(m, _) => {
             let pair = m.pair;
             if pair.n0 == 0 {

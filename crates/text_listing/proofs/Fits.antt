@@ -1,73 +1,34 @@
 -- No listing is as long as 2^32 bytes: what a regular log holds is short, and there are at most 1,023 slots. Assumes
 -- nothing.
 use mathlib.Core.Path.{_≡_, refl}
-use mathlib.Core.Bool.{Bool, true, false, cond, _||_}
+use mathlib.Core.Bool.{Bool, true, false, cond}
 use mathlib.Core.Option.{Option, none, some}
 use mathlib.Core.List.{List, [], _∷_, _++_}
-use Prim.Native.Nat.{ℕ, zero, suc, _+_, _*_, _/_, _%_, _^_, _≤_, _<_}
+use Prim.Native.Nat.{ℕ, zero, suc, _+_, _*_, _^_, _≤_, _<_}
 use native.Mathlib.Omega.{arith}
-use lib.IntN.{ℤ, pos, negsuc}
-use lib.ListN.{length, take, drop, length-append}
-use lib.Dec.{ltb, eqb}
+use lib.ListN.{length, length-append}
 use Rattle.format.specs.Log.{log}
-use Rattle.format.specs.Answer.{refusalNumber}
-use Rattle.format.specs.Fetch.{fetchOf}
 use Rattle.format.specs.Regular.{Regular}
 use Rattle.format.specs.Directory.{Load, Slot, dirOf}
-use Rattle.format.specs.Writer.{blockAt, isSecond}
 use Rattle.format.specs.Compaction.{isNoTail}
-use Rattle.format.specs.Listing.{ascii, decimalDigit, decimalIn, decimal, hexByte, hexBytes, hexType, isPlain, nameByte}
-use Rattle.format.specs.Listing.{nameBytes, numberLine, tailKind, tailLine, erasedLine, recordLines, nameFields}
-use Rattle.format.specs.Listing.{structFields, slotLine, attrData, attrLine, attrLines, slotLines, integer, refusedLine}
-use Rattle.format.specs.Listing.{dirLines, blockText, fetchInput, fetchedText, listingOf}
+use Rattle.format.specs.Listing.{ascii, decimal, hexByte, hexBytes, hexType}
+use Rattle.format.specs.Listing.{numberLine, tailKind, tailLine, erasedLine, recordLines, nameFields}
+use Rattle.format.specs.Listing.{structFields, slotLine, attrData, attrLine, attrLines, slotLines, refusedLine}
+use Rattle.format.specs.Listing.{dirLines, blockText, fetchInput, listingOf}
 use Rattle.format.specs.declared.LfsPair.{LfsPair}
 use Rattle.format.specs.declared.LfsMdir.{LfsMdir}
-use Rattle.format.specs.declared.Refusal.{Refusal}
-use Rattle.format.specs.declared.Refusal.the-variants.{Invalid, Irregular}
-use Rattle.format.specs.declared.Fetched.{Fetched}
-use Rattle.format.specs.declared.Fetched.the-variants as fetched
+use Rattle.format.specs.declared.Refusal.the-variants.{Irregular}
 use Rattle.theory.specs.Blocks.SlotItems.{OkSlot, OkSlots, ok-dirOf}
 use Rattle.theory.specs.Commit.Tested.{regular-loads}
 use Rattle.theory.specs.Compact.AcceptedVerdict.{slots-few}
+use Rattle.text_input.proofs.Short.{decimal-short, name-length, number-short, refused-short, Short, slot-loads}
+use Rattle.text_input.proofs.Short.{fetched-short}
 
 -- ---- numbers and bytes
-pub decimal-short : (k n : ℕ) → length (decimalIn k n) ≤ k
-unfolding decimalIn
-decimal-short zero n = omega arith
-decimal-short (suc k) n = go (ltb n 10) (decimal-short k (n / 10))
-  where
-    go : (b : Bool) → length (decimalIn k (n / 10)) ≤ k
-        → length (cond b (decimalDigit n ∷ []) (decimalIn k (n / 10) ++ (decimalDigit n ∷ []))) ≤ suc k
-    go true h = omega arith
-    go false h = omega (arith, length-append (decimalIn k (n / 10)) (decimalDigit n ∷ []))
-
 hex-length : (l : List ℕ) → length (hexBytes l) ≤ 2 * length l
 unfolding hexBytes
 hex-length [] = omega arith
 hex-length (b ∷ l) = omega (arith, length-append (hexByte b) (hexBytes l), hex-length l)
-
-name-byte-short : (b : ℕ) → length (nameByte b) ≤ 4
-unfolding nameByte
-name-byte-short b = go (isPlain b)
-  where
-    go : (x : Bool) → length (cond x (b ∷ []) (ascii "\\x" ++ hexByte b)) ≤ 4
-    go true = omega arith
-    go false = omega arith
-
-pub name-length : (l : List ℕ) → length (nameBytes l) ≤ 4 * length l
-unfolding nameBytes
-name-length [] = omega arith
-name-length (b ∷ l) = omega (arith, length-append (nameByte b) (nameBytes l), name-byte-short b, name-length l)
-
-pub number-short : (label : List ℕ) (n : ℕ) → length (numberLine label n) ≤ length label + 11
-unfolding numberLine
-number-short label n =
-    omega (
-      arith,
-      length-append label (decimal n ++ ascii "\n"),
-      length-append (decimal n) (ascii "\n"),
-      decimal-short 10 n,
-    )
 
 -- ---- the record
 tail-short : (split : Bool) (p : LfsPair) → length (tailLine split p) ≤ 32
@@ -124,19 +85,7 @@ record-short m =
     ) in
     omega (arith, length-append (numberLine (ascii "rev ") (m .rev)) B, number-short (ascii "rev ") (m .rev), b)
 
-integer-short : (z : ℤ) → length (integer z) ≤ 11
-integer-short (pos n) = omega (arith, decimal-short 10 n)
-integer-short (negsuc n) = omega (arith, decimal-short 10 (suc n))
-
-pub refused-short : (r : Refusal) → length (refusedLine r) ≤ 20
-unfolding refusedLine
-refused-short r = omega (arith, length-append (integer (refusalNumber r)) (ascii "\n"), integer-short (refusalNumber r))
-
 -- ---- a slot whose loads are short
-abbrev pub Short : Option Load → Type 0
-Short none = Unit {0}
-Short (some v) = length (v .bytes) ≤ 1_022
-
 name-fields-short : (o : Option Load) → Short o → length (nameFields o) ≤ 4_093
 unfolding nameFields
 name-fields-short none h = omega arith
@@ -164,13 +113,6 @@ attr-short id (some v) h =
       decimal-short 10 id,
       data-short (v .bytes) h,
     )
-
-pub slot-loads : (s : Slot) → OkSlot s → (c : ℕ) → Short (s c)
-slot-loads s ok c = go (s c) refl
-  where
-    go : (o : Option Load) → s c ≡ o → Short o
-    go none e = tt
-    go (some v) e = omega (arith, ok c v e .1)
 
 slot-short : (id : ℕ) (s : Slot) → OkSlot s → length (slotLine id s) ≤ 4_124
 unfolding slotLine
@@ -228,13 +170,6 @@ dir-short b = go (Regular (log b)) refl
 block-short : (m : LfsMdir) (b : List ℕ) → length (blockText m b) ≤ 546_327_132
 unfolding blockText
 block-short m b = omega (arith, length-append (recordLines m) (dirLines b), record-short m, dir-short b)
-
--- a text is short if what is said of each block is
-pub fetched-short : (shows : LfsMdir → List ℕ → List ℕ) → ((m : LfsMdir) (b : List ℕ) → length (shows m b) < 2 ^ 32)
-    → (input : List ℕ) (f : Fetched) → length (fetchedText shows input f) < 2 ^ 32
-fetched-short shows h input (fetched.Refused r) = omega (arith, refused-short r)
-fetched-short shows h input (fetched.Found m s) =
-    h m (blockAt (isSecond 0 m) (take (length input / 2) input) (drop (length input / 2) input))
 
 pub listing-short : (input : List ℕ) → length (listingOf input) < 2 ^ 32
 listing-short input = fetched-short blockText (λ m b. omega (arith, block-short m b)) input (fetchInput input)

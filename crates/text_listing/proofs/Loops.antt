@@ -6,12 +6,11 @@ use mathlib.Core.List.{List, [], _∷_, _++_, append-assoc}
 use Prim.Native.Nat.{ℕ, zero, suc, _+_, _-_, _^_, _≤_, _<_}
 use native.Mathlib.Numerals.{add-one}
 use native.Mathlib.Omega.{arith}
-use lib.ListN.{length, drop, getD, drop-of-length-le}
-use lib.Seq.{drop-cons}
-use Rattle.format.specs.Directory.{classes, Load, Slot, empty}
+use Rattle.format.specs.Directory.{classes, Load, Slot}
 use Rattle.format.specs.Listing.{ascii, decimal, nameFields, structFields, slotLine, attrLine, attrLines, slotLines}
 use Rattle.text.specs.Put.{Text, putsOf}
 use Rattle.text.proofs.Joined.{puts-app, puts-none, join}
+use Rattle.text_input.proofs.Slots.{Shown}
 use Rattle.text_listing.specs.Listed.{slotText}
 
 -- ---- one class more: a is where all classes end, r stands behind class c
@@ -49,29 +48,6 @@ slot-done s t1 t2 t3 t4 r id slot e1 e2 e3 e4 er =
     (join s t1 t4 (ascii "slot ") (decimal id ++ F) e1
     (join t1 t2 t4 (decimal id) F e2 (join t2 t3 t4 (nameFields (slot 0)) (structFields (slot 1)) e3 e4)))
     er
-
--- ---- a loop over slots: f shows one of them, F all from an id on
-pub record Shown (F : ℕ → List Slot → List ℕ) (f : ℕ → Slot → List ℕ) : Type 0 where
-  pub next : (id : ℕ) (s : Slot) (D : List Slot) → F id (s ∷ D) ≡ f id s ++ F (suc id) D
-  pub none : (id : ℕ) → F id [] ≡ []
-  pub same : (id : ℕ) (s t : Slot) → ((k : ℕ) → k < classes → s k ≡ t k) → f id s ≡ f id t
-
-module _ (F : ℕ → List Slot → List ℕ) (f : ℕ → Slot → List ℕ) (law : Shown F f) where
-  -- one slot more: a is where all slots end, r stands behind the slot id, whose seats hold what the directory has there
-  pub slots-next : (a s r : Text) (D : List Slot) (id : ℕ) (slot : Slot) → id < length D
-      → ((k : ℕ) → k < classes → slot k ≡ getD D id empty k)
-      → a ≡ putsOf s (F id (drop id D)) → r ≡ putsOf s (f id slot) → a ≡ putsOf r (F (id + 1) (drop (id + 1) D))
-  slots-next a s r D id slot h same ea er =
-      let R : List ℕ = F (id + 1) (drop (id + 1) D) in
-      let held : Slot = getD D id empty in
-      let e : F id (drop id D) ≡ f id slot ++ R =
-      ap (F id) (drop-cons D id empty h) ∙ law .next id held (drop (suc id) D)
-      ∙ rw (add-one id) (ap (λ (l : List ℕ). l ++ F (suc id) (drop (suc id) D)) (sym (law .same id slot held same))) in
-      ea ∙ ap (putsOf s) e ∙ sym (puts-app (f id slot) R s) ∙ ap (λ (z : Text). putsOf z R) (sym er)
-
-  pub slots-done : (a s : Text) (D : List Slot) (id : ℕ) → length D ≤ id → a ≡ putsOf s (F id (drop id D)) → s ≡ a
-  slots-done a s D id h ea = puts-none s
-      ∙ sym (ea ∙ ap (putsOf s) (ap (F id) (drop-of-length-le D {i = id} h) ∙ law .none id))
 
 -- ---- slots that hold the same are shown the same
 attrs-same : (n c id : ℕ) (s t : Slot) → ((k : ℕ) → k < c + n → s k ≡ t k) → attrLines n c id s ≡ attrLines n c id t

@@ -1,35 +1,20 @@
 -- The lines of a record, a refusal, a block and a pair. Assumes nothing.
-use mathlib.Core.Path.{_≡_, sym, ap, ap₂, _∙_}
-use mathlib.Core.Bool.{Bool, true, false, not, cond, _||_}
+use mathlib.Core.Path.{_≡_, sym, ap, _∙_}
+use mathlib.Core.Bool.{Bool, true, false, not, cond}
 use mathlib.Core.List.{List, _++_}
-use Prim.Native.Nat.{ℕ, zero, suc, _-_, _/_, _%_, _≤_, _<_}
-use native.Mathlib.Omega.{arith}
-use lib.IntN.{pos, negℤ}
-use lib.ListN.{length, take, drop, length-drop}
-use lib.Dec.{eqb, ltb}
-use lib.Seq.{take-all}
-use borrow.Author.Tests.{not-true, not-false, eq-eqb, ne-eqb, lt-ltb, le-ltb}
+use Prim.Native.Nat.{ℕ, _-_}
+use borrow.Author.Tests.{not-true, not-false}
 use Rattle.format.specs.Log.{log}
-use Rattle.format.specs.Answer.{refusalNumber}
-use Rattle.format.specs.Fetch.{fetchOf}
 use Rattle.format.specs.Regular.{Regular}
 use Rattle.format.specs.Directory.{dirOf}
-use Rattle.format.specs.Writer.{blockAt, isSecond}
 use Rattle.format.specs.Compaction.{isNoTail}
 use Rattle.format.specs.Listing.{ascii, decimal, numberLine, tailKind, tailLine, erasedLine, recordLines, slotLines}
-use Rattle.format.specs.Listing.{refusedLine, dirLines, blockText, inputGeometry, fetchInput, fetchedText}
+use Rattle.format.specs.Listing.{refusedLine, dirLines, blockText}
 use Rattle.format.specs.declared.LfsPair.{LfsPair}
 use Rattle.format.specs.declared.LfsMdir.{LfsMdir}
-use Rattle.format.specs.declared.Refusal.{Refusal}
-use Rattle.format.specs.declared.Refusal.the-variants.{Invalid, Irregular}
-use Rattle.format.specs.declared.Fetched.{Fetched}
-use Rattle.format.specs.declared.Fetched.the-variants as fetched
-use Rattle.theory.specs.Fetch.FoundBlock.{Sized, found-sized, found-reads}
-use Rattle.theory.specs.Compact.AcceptedVerdict.{slots-counted}
-use Rattle.compact_slot.specs.Slots.{Slots}
+use Rattle.format.specs.declared.Refusal.the-variants.{Irregular}
 use Rattle.text.specs.Put.{Text, putsOf}
 use Rattle.text.proofs.Joined.{join}
-use Rattle.text_listing.specs.Listed.{Listable, Numbers}
 
 -- ---- the record
 pub kind-hard : (s r : Text) (split : Bool) → split ≡ true → r ≡ putsOf s (ascii "tail hard ")
@@ -78,17 +63,6 @@ record-done s t1 t2 t3 t4 t5 r m e1 e2 e3 e4 e5 er =
     (join t3 t4 r (numberLine (ascii "count ") (m .count)) E e4
     (join t4 t5 r (tailLine (m .split) (m .tail)) (erasedLine (m .erased)) e5 er))))
 
--- ---- a refusal; n is its number without the sign
-refused-line : (x : Refusal) (n : ℕ) → refusalNumber x ≡ negℤ (pos n) → 0 < n
-    → numberLine (ascii "refused -") n ≡ refusedLine x
-unfolding numberLine refusedLine
-refused-line x zero e h = absurd (omega arith)
-refused-line x (suc k) e h = rw e
-
-pub refused-done : (s r : Text) (x : Refusal) (n : ℕ) → Numbers x n → r ≡ putsOf s (numberLine (ascii "refused -") n)
-    → r ≡ putsOf s (refusedLine x)
-refused-done s r x n w er = er ∙ ap (putsOf s) (refused-line x n (w .is) (w .some))
-
 -- ---- a block and its record; x is what the test of regularity answers
 module _ (b : List ℕ) (m : LfsMdir) (s t r : Text) (x : Bool) (ex : x ≡ Regular (log b))
     (et : t ≡ putsOf s (recordLines m)) where
@@ -103,128 +77,3 @@ module _ (b : List ℕ) (m : LfsMdir) (s t r : Text) (x : Bool) (ex : x ≡ Regu
   block-regular h er = join s t r (recordLines m) (slotLines 0 (dirOf (log b))) et er
       ∙ ap (λ (z : Bool). putsOf s (recordLines m ++ cond z (slotLines 0 (dirOf (log b))) (refusedLine Irregular)))
       (sym (not-false x h) ∙ ex)
-
-pub block-slots : (b : List ℕ) (m : LfsMdir) (x : Bool) → Listable b m → x ≡ Regular (log b) → not x ≡ false
-    → Slots b (m .off) (m .etag) (m .count)
-block-slots b m x w ex h =
-    let regular : Regular (log b) ≡ true = sym ex ∙ not-false x h in
-    record {
-      word = w .word;
-      most = w .most;
-      regular = regular;
-      ends = w .ends;
-      endTag = w .endTag;
-      count′ = w .count′ ∙ slots-counted b regular;
-    }
-
--- ---- the two parts that the code cuts
-cut-front : (n : ℕ) (l : List ℕ) → take (n - 0) (drop 0 l) ≡ take n l
-cut-front n l =
-    let e : n - 0 ≡ n = omega arith in
-    rw e
-
-cut-back : (n : ℕ) (l : List ℕ) → take (length l - n) (drop n l) ≡ drop n l
-cut-back n l = take-all (length l - n) (drop n l) (omega (arith, length-drop n l))
-
--- ---- an input: its half, and its two images as the definition and as the code cut them
-module _ (input : List ℕ) where
-  abbrev half : ℕ
-  half = length input / 2
-
-  abbrev b0 : List ℕ
-  b0 = take half input
-
-  abbrev b1 : List ℕ
-  b1 = drop half input
-
-  abbrev front : List ℕ
-  front = take (half - 0) (drop 0 input)
-
-  abbrev rest : List ℕ
-  rest = take (length input - half) (drop half input)
-
-  abbrev fetched′ : Fetched
-  fetched′ = fetchOf (inputGeometry half) b0 b1 0 1 0 0
-
-  -- ---- the tests of the length
-  pub input-odd : length input % 2 ≡ 1 → fetched.Refused Invalid ≡ fetchInput input
-  unfolding fetchInput
-  input-odd h = rw (eq-eqb (length input % 2) 1 h)
-
-  module _ (even : length input % 2 ≡ 1 → ⊥) where
-    pub input-long : 65_536 < length input → fetched.Refused Invalid ≡ fetchInput input
-    unfolding fetchInput
-    input-long h = rw (ne-eqb (length input % 2) 1 even, lt-ltb 65_536 (length input) h)
-
-    pub input-fetched : length input ≤ 65_536 → (r : Fetched) → r ≡ fetchOf (inputGeometry half) front rest 0 1 0 0
-        → r ≡ fetchInput input
-    unfolding fetchInput
-    input-fetched h r er =
-        rw (ne-eqb (length input % 2) 1 even, le-ltb 65_536 (length input) h)
-        (er ∙ ap₂ (λ (x y : List ℕ). fetchOf (inputGeometry half) x y 0 1 0 0) (cut-front half input)
-        (cut-back half input))
-
-  -- what is found is found by fetch
-  found-fetched : (m : LfsMdir) (k : ℕ) → fetched.Found m k ≡ fetchInput input → fetched.Found m k ≡ fetched′
-  unfolding fetchInput
-  found-fetched m k f = go (eqb (length input % 2) 1 || ltb 65_536 (length input)) f
-    where
-      go : (x : Bool) → fetched.Found m k ≡ cond x (fetched.Refused Invalid) fetched′ → fetched.Found m k ≡ fetched′
-      go true e = cc e
-      go false e = e
-
-  -- ---- the text, by what fetch answered; `shows` is what is said of a record and its block
-  module _ (shows : LfsMdir → List ℕ → List ℕ) (s r : Text) where
-    pub shown-refused : (x : Refusal) → fetched.Refused x ≡ fetchInput input → r ≡ putsOf s (refusedLine x)
-        → r ≡ putsOf s (fetchedText shows input (fetchInput input))
-    shown-refused x f er = rw (← f) er
-
-    shown-found : (m : LfsMdir) (k : ℕ) → fetched.Found m k ≡ fetchInput input → (w : Bool) → isSecond 0 m ≡ w
-        → r ≡ putsOf s (shows m (blockAt w b0 b1)) → r ≡ putsOf s (fetchedText shows input (fetchInput input))
-    shown-found m k f w e er = rw (← f, e) er
-
-  module _ (m : LfsMdir) (k : ℕ) (f : fetched.Found m k ≡ fetchInput input) where
-    listable : (w : Bool) → isSecond 0 m ≡ w → Listable (blockAt w b0 b1) m
-    listable w e =
-        let found : fetched.Found m k ≡ fetched′ = found-fetched m k f in
-        let z = found-sized (inputGeometry half) b0 b1 0 1 0 0 m k (sym found) in
-        let a = found-reads (inputGeometry half) b0 b1 0 1 0 0 m k (sym found) in
-        let same : a .w ≡ w = sym (a .place) ∙ e in
-        rw (← same)
-        (record {
-          word = omega (arith, long (a .w) z, z .block .0);
-          most = omega (arith, long (a .w) z, z .block .1);
-          ends = a .ends;
-          endTag = a .endTag;
-          count′ = a .count′;
-        })
-      where
-        long : (v : Bool) → Sized (inputGeometry half) b0 b1 → length (blockAt v b0 b1) ≡ half
-        long false z = z .first
-        long true z = z .second
-
-    -- the first block answers
-    module _ (h : m .pair .n0 ≡ 0) where
-      is-first : isSecond 0 m ≡ false
-      is-first = ap not (eq-eqb (m .pair .n0) 0 h)
-
-      pub first-listable : Listable front m
-      first-listable = rw (cut-front half input) (listable false is-first)
-
-      pub shown-first : (shows : LfsMdir → List ℕ → List ℕ) (s r : Text) → r ≡ putsOf s (shows m front)
-          → r ≡ putsOf s (fetchedText shows input (fetchInput input))
-      shown-first shows s r er = shown-found shows s r m k f false is-first
-          (er ∙ ap (λ (b : List ℕ). putsOf s (shows m b)) (cut-front half input))
-
-    -- the second block answers
-    module _ (h : m .pair .n0 ≡ 0 → ⊥) where
-      is-second : isSecond 0 m ≡ true
-      is-second = ap not (ne-eqb (m .pair .n0) 0 h)
-
-      pub second-listable : Listable rest m
-      second-listable = rw (cut-back half input) (listable true is-second)
-
-      pub shown-second : (shows : LfsMdir → List ℕ → List ℕ) (s r : Text) → r ≡ putsOf s (shows m rest)
-          → r ≡ putsOf s (fetchedText shows input (fetchInput input))
-      shown-second shows s r er = shown-found shows s r m k f true is-second
-          (er ∙ ap (λ (b : List ℕ). putsOf s (shows m b)) (cut-back half input))

@@ -12,9 +12,10 @@ ghost use Rattle.format.specs.Listing.{writtenTo};
 ghost use Rattle.text.specs.Put.{text, putsOf};
 ghost use Rattle.compact_slot.specs.Seat.{loadIn, Inside};
 ghost use Rattle.compact_slot.specs.Slots.{Slots, slotIn};
-ghost use Rattle.text_listing.specs.Listed.{Stands, AllInside, slotText, Listable, Numbers};
+ghost use Rattle.text_listing.specs.Listed.{slotText};
+ghost use Rattle.compact_slot.specs.Held.{AllInside};
+ghost use Rattle.text_input.specs.Input.{Listable};
 use format::Fetched;
-use format::Geometry;
 use format::LfsMdir;
 use format::LfsPair;
 use format::Refusal;
@@ -23,47 +24,13 @@ use format::types::LFS_BLOCK_NULL;
 // The class of the first user attribute: a name and a struct come before.
 const ATTRIBUTES: usize = 2;
 
-// What stands at a seat: nothing, or an entry's type and where its data begin and end in the block.
-pub struct Held {
-    pub held: bool,
-    pub kind: u16,
-    pub from: usize,
-    pub to: usize,
-}
-
-// Nothing at a free seat, and nothing for a removal.
-pub fn part(seat: u64) -> Held
-    ensures { λ r. ⌜ Stands seat r ⌝ }
-{
-    let nothing = Held {
-        held: false,
-        kind: 0,
-        from: 0,
-        to: 0,
-    };
-    if seat == 0 {
-        return nothing;
-    }
-    let found = (seat / 0x1_0000 % 0x1_0000_0000) as u32;
-    if tag::lfs_tag_isdelete(found) {
-        return nothing;
-    }
-    let from = (seat % 0x1_0000) as usize + 4;
-    Held {
-        held: true,
-        kind: tag::lfs_tag_type3(found),
-        from,
-        to: from + tag::lfs_tag_size(found) as usize,
-    }
-}
-
 // "id, name type, name, ..; a missing part prints `-` per field"
 fn name_fields(out: &mut [u8], at: u32, b: &[u8], seat: u64) -> u32
     requires { ⌜ Inside (now b) seat ⌝ }
     ensures { λ r. ⌜ text r (now (out .exit)) ≡ putsOf (text at (now (out .entry)))
         (nameFields (loadIn (now (b .entry)) seat)) ⌝ }
 {
-    let p = part(seat);
+    let p = compact_slot::held_at(seat);
     if !p.held {
         return text::puts(out, at, b" - -");
     }
@@ -81,7 +48,7 @@ fn struct_fields(out: &mut [u8], at: u32, b: &[u8], seat: u64) -> u32
     ensures { λ r. ⌜ text r (now (out .exit)) ≡ putsOf (text at (now (out .entry)))
         (structFields (loadIn (now (b .entry)) seat)) ⌝ }
 {
-    let p = part(seat);
+    let p = compact_slot::held_at(seat);
     if !p.held {
         return text::puts(out, at, b" - -\n");
     }
@@ -107,7 +74,7 @@ fn attr_line(out: &mut [u8], at: u32, b: &[u8], id: u32, seat: u64) -> u32
     ensures { λ r. ⌜ text r (now (out .exit)) ≡ putsOf (text at (now (out .entry)))
         (attrLine id (loadIn (now (b .entry)) seat)) ⌝ }
 {
-    let p = part(seat);
+    let p = compact_slot::held_at(seat);
     if !p.held {
         return at;
     }
@@ -213,31 +180,6 @@ fn record_lines(out: &mut [u8], at: u32, m: LfsMdir) -> u32
     erased_line(out, n, m.erased)
 }
 
-// The number of a refusal, without its sign.
-fn number_of(r: Refusal) -> u32
-    ensures { λ n. ⌜ Numbers r n ⌝ }
-{
-    match r {
-        Refusal::Invalid => 22,
-        Refusal::Corrupt => 84,
-        Refusal::NoEntry => 2,
-        Refusal::TooMany(_, _) => 2,
-        Refusal::BadEntry(_) => 201,
-        Refusal::Irregular => 202,
-        Refusal::NoSpace => 28,
-        Refusal::Unclean => 203,
-        Refusal::Coincidence => 204,
-    }
-}
-
-// "A refusal prints `refused` and its number": all of them are below 0.
-pub fn refused(out: &mut [u8], at: u32, r: Refusal) -> u32
-    ensures { λ n. ⌜ text n (now (out .exit)) ≡ putsOf (text at (now (out .entry))) (refusedLine r) ⌝ }
-{
-    let number = number_of(r);
-    text::number_line(out, at, b"refused -", number)
-}
-
 // "for -202 after the erased line"
 fn block_text(out: &mut [u8], b: &[u8], m: LfsMdir) -> u32
     requires { ⌜ Listable (now b) m ⌝ }
@@ -245,29 +187,9 @@ fn block_text(out: &mut [u8], b: &[u8], m: LfsMdir) -> u32
 {
     let n = record_lines(out, 0, m);
     if !commit_regular::log_regular(b) {
-        return refused(out, n, Refusal::Irregular);
+        return text_input::refused(out, n, Refusal::Irregular);
     }
     slot_lines(out, n, b, m.off as usize, m.etag, m.count as u32)
-}
-
-// What fetch answers for both images, one behind the other: "block size is half the length, program size 16, numbers 0
-// and 1, block count 0, seed 0; an odd length or one above 65,536 is -22".
-pub fn fetch_input(input: &[u8]) -> Fetched
-    ensures { λ r. ⌜ r ≡ fetchInput (now (input .entry)) ⌝ }
-{
-    let n = input.len();
-    if n % 2 == 1 {
-        return Fetched::Refused(Refusal::Invalid);
-    }
-    if 65_536 < n {
-        return Fetched::Refused(Refusal::Invalid);
-    }
-    let half = n / 2;
-    let g = Geometry {
-        block_size: half as u32,
-        prog_size: 16,
-    };
-    fetch::lfs_dir_fetch(g, &input[0..half], &input[half..], 0, 1, 0, 0)
 }
 
 // The listing of both images, one behind the other, as far as `out` has room. The answer is the length of the whole
@@ -279,8 +201,8 @@ pub fn lfs_dir_list(input: &[u8], out: &mut [u8]) -> u32
     ensures { λ _. ⌜ now (out .exit) ≡ writtenTo (now (out .entry)) (listingOf (now (input .entry))) ⌝ }
 {
     let half = input.len() / 2;
-    match fetch_input(input) {
-        Fetched::Refused(r) => refused(out, 0, r),
+    match text_input::fetch_input(input) {
+        Fetched::Refused(r) => text_input::refused(out, 0, r),
         Fetched::Found(m, _) => {
             let pair = m.pair;
             if pair.n0 == 0 {

@@ -1,6 +1,6 @@
 -- `audit::block_audit` meets its contract: -202, or the slots and the three lines. Assumes nothing.
 use borrow.Author.Needs.{needs}
-use Rattle.text_listing.proofs.Whole.{block-slots}
+use Rattle.text_input.proofs.Input.{block-slots}
 use Rattle.text_audit.proofs.Steps.{block-irregular, block-audited}
 use Rattle.text_audit.proofs.block_audit.Statement.{statement}
 use Rattle.text_audit.proofs.block_audit.Tie as tie

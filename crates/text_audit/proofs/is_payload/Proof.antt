@@ -5,10 +5,10 @@ use Rattle.text_audit.proofs.is_payload.Statement.{statement}
 use Rattle.text_audit.proofs.is_payload.Tie as tie
 
 returns : tie.Need-returns
-returns c = payload-missing _ _ (c .before .before .part .ensures) (c .if1 .taken)
+returns c = payload-missing _ _ (c .before .before .held-at .ensures) (c .if1 .taken)
 
 returns-2 : tie.Need-returns-2
-returns-2 c = payload-there _ _ (c .before .before .before .before .before .part .ensures)
+returns-2 c = payload-there _ _ (c .before .before .before .before .before .held-at .ensures)
     (c .before .before .before .if1 .left)
 
 pub is-payload-spec : {M : Type 1} → statement M

@@ -3,7 +3,7 @@ use mathlib.Core.Path.{sym, _∙_}
 use borrow.Author.Needs.{needs}
 use Rattle.format.specs.Audit.{blockAudit}
 use Rattle.text.proofs.Written.{puts-written}
-use Rattle.text_listing.proofs.Whole.{shown-refused, first-listable, shown-first, second-listable, shown-second}
+use Rattle.text_input.proofs.Input.{shown-refused, first-listable, shown-first, second-listable, shown-second}
 use Rattle.text_audit.proofs.Fits.{audit-short}
 use Rattle.text_audit.proofs.lfs_dir_audit.Statement.{statement}
 use Rattle.text_audit.proofs.lfs_dir_audit.Tie as tie

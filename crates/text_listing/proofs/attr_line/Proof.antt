@@ -5,33 +5,35 @@ use Rattle.text_listing.proofs.attr_line.Statement.{statement}
 use Rattle.text_listing.proofs.attr_line.Tie as tie
 
 returns : tie.Need-returns
-returns c = attr-missing _ _ _ (c .before .before .part .ensures) _ (c .if1 .taken) _
+returns c = attr-missing _ _ _ (c .before .before .held-at .ensures) _ (c .if1 .taken) _
 
 part-attr-data-end : tie.Need-part-attr-data-end
-part-attr-data-end c = c .before .before .before .before .before .before .before .before .before .before .before .before
-    .before .before .before .before .before .before .before .before .before .before .before .before .before .before
-    .part .ensures .inside (c .before .before .before .before .before .before .before .before .before .before .before
+part-attr-data-end c =
+    c .before .before .before .before .before .before .before .before .before .before .before .before .before .before
+    .before .before .before .before .before .before .before .before .before .before .before .before .before .held-at
+    .ensures .inside (c .before .before .before .before .before .before .before .before .before .before .before .before
     .before .before .before .before .before .before .before .before .before .before .before .before .before .before
     .before .before .before .before .args .b .now) (c .before .before .before .before .before .before .before .before
     .before .before .before .before .before .before .before .before .before .before .before .before .before .before
-    .before .before .before .before .before .before .before .pre)
+    .before .before .before .before .before .before .before .before .pre)
 
 returns-2 : tie.Need-returns-2
-returns-2 c = attr-shown _ _ _ (c .before .before .before .before .before .before .before .before .before .before
+returns-2 c =
+    attr-shown _ _ _ (c .before .before .before .before .before .before .before .before .before .before .before .before
     .before .before .before .before .before .before .before .before .before .before .before .before .before .before
-    .before .before .before .before .before .before .before .before .before .before .before .part .ensures) _
+    .before .before .before .before .before .before .before .before .before .before .held-at .ensures) _ (c .before .before
+    .before .before .before .before .before .before .before .before .before .before .before .before .before .before
+    .before .before .before .before .before .before .before .before .before .before .before .before .before .before
+    .before .before .before .before .if1 .left) _ _ _ _ _ _ _ _ (c .before .before .before .before .before .before
+    .before .before .before .before .before .before .before .before .before .before .before .before .before .before
+    .before .before .before .before .before .before .before .before .before .before .before .puts .ensures) (c .before
+    .before .before .before .before .before .before .before .before .before .before .before .before .before .before
+    .before .before .before .before .before .before .before .before .before .before .before .before .decimal .ensures)
     (c .before .before .before .before .before .before .before .before .before .before .before .before .before .before
-    .before .before .before .before .before .before .before .before .before .before .before .before .before .before
-    .before .before .before .before .before .if1 .left) _ _ _ _ _ _ _ _
-    (c .before .before .before .before .before .before .before .before .before .before .before .before .before .before
-    .before .before .before .before .before .before .before .before .before .before .before .before .before .before
-    .before .before .puts .ensures) (c .before .before .before .before .before .before .before .before .before .before
-    .before .before .before .before .before .before .before .before .before .before .before .before .before .before
-    .before .before .decimal .ensures) (c .before .before .before .before .before .before .before .before .before
-    .before .before .before .before .before .before .before .before .before .before .before .before .puts2 .ensures)
-    (c .before .before .before .before .before .before .before .before .before .before .before .before .before .before
-    .before .before .before .hex-type .ensures) (c .before .before .before .before .before .before .before .before
-    .before .before .before .before .puts3 .ensures)
+    .before .before .before .before .before .before .before .before .puts2 .ensures) (c .before .before .before .before
+    .before .before .before .before .before .before .before .before .before .before .before .before .before .hex-type
+    .ensures)
+    (c .before .before .before .before .before .before .before .before .before .before .before .before .puts3 .ensures)
     (c .before .before .before .before .before .before .before .attr-data .ensures) (c .before .before .puts4 .ensures)
 
 pub attr-line-spec : {M : Type 1} → statement M

@@ -1,6 +1,7 @@
 -- `listing::block_text` meets its contract: the record, and then -202 or the slots. Assumes nothing.
 use borrow.Author.Needs.{needs}
-use Rattle.text_listing.proofs.Whole.{block-irregular, block-regular, block-slots}
+use Rattle.text_listing.proofs.Whole.{block-irregular, block-regular}
+use Rattle.text_input.proofs.Input.{block-slots}
 use Rattle.text_listing.proofs.block_text.Statement.{statement}
 use Rattle.text_listing.proofs.block_text.Tie as tie
 

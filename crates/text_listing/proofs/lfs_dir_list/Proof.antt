@@ -5,7 +5,7 @@ use borrow.Author.Needs.{needs}
 use Rattle.format.specs.Listing.{blockText}
 use Rattle.text.proofs.Written.{puts-written}
 use Rattle.text_listing.proofs.Fits.{listing-short}
-use Rattle.text_listing.proofs.Whole.{shown-refused, first-listable, shown-first, second-listable, shown-second}
+use Rattle.text_input.proofs.Input.{shown-refused, first-listable, shown-first, second-listable, shown-second}
 use Rattle.text_listing.proofs.lfs_dir_list.Statement.{statement}
 use Rattle.text_listing.proofs.lfs_dir_list.Tie as tie
 

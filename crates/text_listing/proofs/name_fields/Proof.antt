@@ -5,26 +5,26 @@ use Rattle.text_listing.proofs.name_fields.Statement.{statement}
 use Rattle.text_listing.proofs.name_fields.Tie as tie
 
 returns : tie.Need-returns
-returns c = name-missing _ _ _ (c .before .before .before .before .before .before .before .part .ensures) _
+returns c = name-missing _ _ _ (c .before .before .before .before .before .before .before .held-at .ensures) _
     (c .before .before .before .before .before .if1 .taken) _ (c .before .before .puts .ensures)
 
 part-name-bytes-end : tie.Need-part-name-bytes-end
-part-name-bytes-end c = c .before .before .before .before .before .before .before .before .before .before .before
-    .before .before .before .before .before .before .part .ensures .inside
-    (c .before .before .before .before .before .before .before .before .before .before .before .before .before .before
-    .before .before .before .before .before .before .args .b .now)
-    (c .before .before .before .before .before .before .before .before .before .before .before .before .before .before
-    .before .before .before .before .before .before .pre)
+part-name-bytes-end c =
+    c .before .before .before .before .before .before .before .before .before .before .before .before .before .before
+    .before .before .before .before .held-at .ensures .inside (c .before .before .before .before .before .before .before
+    .before .before .before .before .before .before .before .before .before .before .before .before .before .before
+    .args .b .now) (c .before .before .before .before .before .before .before .before .before .before .before .before
+    .before .before .before .before .before .before .before .before .before .pre)
 
 returns-2 : tie.Need-returns-2
-returns-2 c = name-shown _ _ _ (c .before .before .before .before .before .before .before .before .before .before
-    .before .before .before .before .before .before .before .before .before .before .before .part .ensures) _
-    (c .before .before .before .before .before .before .before .before .before .before .before .before .before .before
-    .before .before .before .before .before .if1 .left) _ _ _ _
-    (c .before .before .before .before .before .before .before .before .before .before .before .before .before .before
-    .before .before .puts2 .ensures) (c .before .before .before .before .before .before .before .before .before .before
-    .before .before .hex-type .ensures) (c .before .before .before .before .before .before .before .puts3 .ensures)
-    (c .before .before .name-bytes .ensures)
+returns-2 c =
+    name-shown _ _ _ (c .before .before .before .before .before .before .before .before .before .before .before .before
+    .before .before .before .before .before .before .before .before .before .before .held-at .ensures) _ (c .before .before
+    .before .before .before .before .before .before .before .before .before .before .before .before .before .before
+    .before .before .before .before .if1 .left) _ _ _ _ (c .before .before .before .before .before .before .before
+    .before .before .before .before .before .before .before .before .before .before .puts2 .ensures) (c .before .before
+    .before .before .before .before .before .before .before .before .before .before .hex-type .ensures)
+    (c .before .before .before .before .before .before .before .puts3 .ensures) (c .before .before .name-bytes .ensures)
 
 pub name-fields-spec : {M : Type 1} → statement M
 name-fields-spec =

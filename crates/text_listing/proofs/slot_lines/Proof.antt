@@ -10,7 +10,8 @@ use Rattle.format.specs.Directory.{dirOf}
 use Rattle.format.specs.Listing.{slotLines}
 use Rattle.text.specs.Put.{text, putsOf}
 use Rattle.compact_slot.proofs.Slots.{slot-gathers, slot-holds, slots-more, slots-end}
-use Rattle.text_listing.proofs.Loops.{slots-next, slots-done, slots-shown}
+use Rattle.text_listing.proofs.Loops.{slots-shown}
+use Rattle.text_input.proofs.Slots.{slots-next, slots-done}
 use Rattle.text_listing.proofs.slot_lines.Statement.{statement}
 use Rattle.text_listing.proofs.slot_lines.Tie as tie
 

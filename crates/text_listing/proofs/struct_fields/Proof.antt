@@ -5,16 +5,17 @@ use Rattle.text_listing.proofs.struct_fields.Statement.{statement}
 use Rattle.text_listing.proofs.struct_fields.Tie as tie
 
 returns : tie.Need-returns
-returns c = struct-missing _ _ _ (c .before .before .before .before .before .before .before .part .ensures) _
+returns c = struct-missing _ _ _ (c .before .before .before .before .before .before .before .held-at .ensures) _
     (c .before .before .before .before .before .if1 .taken) _ (c .before .before .puts .ensures)
 
 returns-2 : tie.Need-returns-2
-returns-2 c = struct-shown _ _ _ (c .before .before .before .before .before .before .before .before .before .before
-    .before .before .before .before .before .before .before .part .ensures) _
-    (c .before .before .before .before .before .before .before .before .before .before .before .before .before .before
-    .before .if1 .left) (c .before .before .before .before .before .before .before .before .before .before .before
-    .before .before .before .before .before .before .before .before .before .pre) _ _ _
-    (c .before .before .before .before .before .before .before .before .before .before .before .puts2 .ensures)
+returns-2 c =
+    struct-shown _ _ _ (c .before .before .before .before .before .before .before .before .before .before .before
+    .before .before .before .before .before .before .before .held-at .ensures) _ (c .before .before .before .before .before
+    .before .before .before .before .before .before .before .before .before .before .before .if1 .left) (c .before
+    .before .before .before .before .before .before .before .before .before .before .before .before .before .before
+    .before .before .before .before .before .before .pre) _ _ _
+    (c .before .before .before .before .before .before .before .before .before .before .before .before .puts2 .ensures)
     (c .before .before .before .before .before .before .before .hex-type .ensures)
     (c .before .before .number-line .ensures)
 

@@ -19,7 +19,6 @@ use Rattle.format.specs.Gstate.{gstateHasMoveHere}
 use Rattle.format.specs.Lookup.{hasIds, searchedFrom, searched, sliceStart, sliceEnd, sliceAnswer, sliceBuffer}
 use Rattle.format.specs.declared.LfsMdir.{LfsMdir}
 use Rattle.format.specs.declared.LfsGstate.{LfsGstate}
-use Rattle.format.specs.declared.Got.the-variants as got
 use Rattle.format.proofs.Tags.{length-size}
 use Rattle.format.proofs.Words.{be32-at, tagLength-ge}
 use Rattle.theory.specs.Lookup.ByMask.{holds, Answers}

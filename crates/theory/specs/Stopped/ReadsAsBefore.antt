@@ -1,7 +1,7 @@
 -- Images whose view is the old one, and whose answering block is the old one up to the end of its log, read as the old
 -- images did. Assumes nothing.
 use mathlib.Core.Path.{_≡_, refl, sym, ap, _∙_}
-use mathlib.Core.Bool.{Bool, true, false, not, cond, _&&_, _||_}
+use mathlib.Core.Bool.{Bool, true, false, not, cond, _&&_}
 use mathlib.Core.List.{List}
 use Prim.Native.Nat.{ℕ, _≤_}
 use native.Mathlib.Nat.{le-refl}
@@ -11,8 +11,8 @@ use borrow.Author.Tests.{eq-eqb, ne-eqb, eqb-false, not-true, le-ltb}
 use Rattle.format.specs.Walk.{Event}
 use Rattle.format.specs.Log.{logEnd, logEndTag}
 use Rattle.format.specs.Record.{countOf, seedOf}
-use Rattle.format.specs.View.{View, at, view}
-use Rattle.format.specs.Fetch.{geometryFits, pairFits, tooHigh, mdirOf, fewEnough, viewed, fetchOf}
+use Rattle.format.specs.View.{at, view}
+use Rattle.format.specs.Fetch.{geometryFits, pairFits, mdirOf, fewEnough, viewed, fetchOf}
 use Rattle.format.specs.Lookup.{recordFits, searched, sliceAnswer, sliceBuffer, getsliceFits, getsliceOf}
 use Rattle.format.specs.Lookup.{getsliceBuffer}
 use Rattle.format.specs.Writer.{blockAt, isSecond}
@@ -21,7 +21,6 @@ use Rattle.format.specs.declared.LfsMdir.{LfsMdir}
 use Rattle.format.specs.declared.LfsGstate.{LfsGstate}
 use Rattle.format.specs.declared.Refusal.the-variants.{TooMany}
 use Rattle.format.specs.declared.Fetched.the-variants as fetched
-use Rattle.format.specs.declared.Got.the-variants as got
 use Rattle.theory.specs.Walk.Step.{both-true}
 use Rattle.theory.specs.Log.TwoBlocks.{viewAt}
 use Rattle.theory.specs.Lookup.AtStart.{FoundIn, searched-in, back-same, slice-same}

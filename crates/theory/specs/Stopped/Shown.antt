@@ -28,7 +28,6 @@ use Rattle.format.specs.declared.LfsMdir.{LfsMdir}
 use Rattle.format.specs.declared.LfsGstate.{LfsGstate}
 use Rattle.format.specs.declared.Refusal.the-variants.{TooMany}
 use Rattle.format.specs.declared.Fetched.the-variants.{Found, Refused}
-use Rattle.format.specs.declared.Got.the-variants as got
 use Rattle.theory.specs.Walk.Step.{both-true}
 use Rattle.theory.specs.Lookup.Masks.{query-name, query-struct, query-attr}
 use Rattle.theory.specs.Lookup.ByMask.{holds, Answers}

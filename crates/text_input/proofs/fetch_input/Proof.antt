@@ -1,9 +1,9 @@
--- `listing::fetch_input` meets its contract: an odd length, one that is too long, or what fetch answers. Assumes
+-- `text_input::fetch_input` meets its contract: an odd length, one that is too long, or what fetch answers. Assumes
 -- nothing.
 use borrow.Author.Needs.{needs}
-use Rattle.text_listing.proofs.Whole.{input-odd, input-long, input-fetched}
-use Rattle.text_listing.proofs.fetch_input.Statement.{statement}
-use Rattle.text_listing.proofs.fetch_input.Tie as tie
+use Rattle.text_input.proofs.Input.{input-odd, input-long, input-fetched}
+use Rattle.text_input.proofs.fetch_input.Statement.{statement}
+use Rattle.text_input.proofs.fetch_input.Tie as tie
 
 returns : tie.Need-returns
 returns c = input-odd (c .before .before .args .input .now) (c .if1 .taken)

@@ -1,8 +1,8 @@
--- `listing::refused` meets its contract: the number is below 0. Assumes nothing.
+-- `text_input::refused` meets its contract: the number is below 0. Assumes nothing.
 use borrow.Author.Needs.{needs}
-use Rattle.text_listing.proofs.Whole.{refused-done}
-use Rattle.text_listing.proofs.refused.Statement.{statement}
-use Rattle.text_listing.proofs.refused.Tie as tie
+use Rattle.text_input.proofs.Input.{refused-done}
+use Rattle.text_input.proofs.refused.Statement.{statement}
+use Rattle.text_input.proofs.refused.Tie as tie
 
 returns : tie.Need-returns
 returns c = refused-done _ _ _ _ (c .before .before .before .before .before .number-of .ensures)
