@@ -1,6 +1,6 @@
-// A step of the walk back over a block's committed log: where the tag that ends at an offset stands, and the tag before
-// it. The loops of the lookups and of compaction step by these; what a turn does with the tag is theirs. A function with
-// a `requires` is for the crates of this repository.
+// A step of the walk back over a block's committed log: where the tag that ends at an offset stands, and the tag
+// before it. The loops of the lookups and of compaction step by these; what a turn does with the tag is theirs. A
+// function with a `requires` is for the crates of this repository.
 ghost use mathlib.Core.Path.{_≡_};
 ghost use Prim.Native.Nat.{_+_, _≤_};
 ghost use lib.ListN.{length};

@@ -1,4 +1,4 @@
--- `edges::main` is safe and ends: what is left of the arguments falls. Assumes nothing.
+-- `check_edges::main` is safe and ends: what is left of the arguments falls. Assumes nothing.
 use Prim.Native.Nat.{_<_, _-_, _^_}
 use borrow.Author.Needs.{needs}
 use Rattle.check_edges.proofs.main.Statement.{statement}

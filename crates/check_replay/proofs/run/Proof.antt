@@ -1,4 +1,4 @@
--- `replay::run` is safe and ends: the number of records that are left falls. Assumes nothing.
+-- `check_replay::run` is safe and ends: the number of records that are left falls. Assumes nothing.
 use Prim.Native.Nat.{_≤_}
 use borrow.Author.Needs.{needs}
 use Rattle.check_replay.proofs.run.Statement.{statement}

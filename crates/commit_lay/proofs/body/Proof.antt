@@ -1,4 +1,4 @@
--- `lay::body` meets its contract: none for a removal, and else what there is of it. Assumes nothing.
+-- `commit_lay::body` meets its contract: none for a removal, and else what there is of it. Assumes nothing.
 use Rattle.commit_lay.proofs.Parts.{removal-part, data-part}
 use borrow.Author.Needs.{needs}
 use Rattle.commit_lay.proofs.body.Statement.{statement}

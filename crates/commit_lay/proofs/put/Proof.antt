@@ -1,4 +1,4 @@
--- `lay::put` meets its contract: no store is left, no room is left, or one is made. Assumes nothing.
+-- `commit_lay::put` meets its contract: no store is left, no room is left, or one is made. Assumes nothing.
 use Rattle.commit_lay.proofs.Puts.{put-none, put-past, put-one}
 use borrow.Author.Needs.{needs}
 use Rattle.commit_lay.proofs.put.Statement.{statement}

@@ -1,4 +1,4 @@
--- `lay::put_all` meets its contract. The loop keeps that the first i bytes are put. Assumes nothing.
+-- `commit_lay::put_all` meets its contract. The loop keeps that the first i bytes are put. Assumes nothing.
 use borrow.Author.Needs.{needs}
 use mathlib.Core.Path.{_≡_, ap, _∙_}
 use Prim.Native.Nat.{_-_, _≤_}
@@ -22,7 +22,8 @@ loop-again : tie.Need-loop-again Inv-loop μ-loop
 loop-again c = (
   omega arith,
   puts-more _ (c .before .before .before .before .before .before .loop .i) _ _ _ (c .before
-      .before .before .before .before .loop-test .taken) (c .before .before .before .before .before .before .loop .inv .1)
+      .before .before .before .before .loop-test .taken)
+      (c .before .before .before .before .before .before .loop .inv .1)
       (c .before .before .put .ensures),
 )
 
@@ -32,7 +33,8 @@ same-length c = ap (λ (s : Laid). length (s .block)) (c .before .loop .inv .1)
     (laid (c .before .before .before .before .args .run) (c .before .before .before .before .args .b .now))
 
 returns : tie.Need-returns Inv-loop μ-loop
-returns c = puts-all (c .before .before .before .before .args .bytes .now) (c .before .loop .i) _ _ (c .loop-test .left)
+returns c = puts-all (c .before .before .before .before .args .bytes .now) (c .before .loop .i) _ _
+    (c .loop-test .left)
     (c .before .loop .inv .1)
 
 pub put-all-spec : {M : Type 1} → statement M

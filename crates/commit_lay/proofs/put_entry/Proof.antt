@@ -1,4 +1,5 @@
--- `lay::put_entry` meets its contract: the tag, and behind it the part that is the entry's data. Assumes nothing.
+-- `commit_lay::put_entry` meets its contract: the tag, and behind it the part that is the entry's data. Assumes
+-- nothing.
 use Rattle.commit_lay.proofs.Puts.{entry-put}
 use borrow.Author.Needs.{needs}
 use Rattle.commit_lay.proofs.put_entry.Statement.{statement}

@@ -1,4 +1,5 @@
--- `lay::sum_entry` meets its contract: the tag, and behind it the part that is the entry's data. Assumes nothing.
+-- `commit_lay::sum_entry` meets its contract: the tag, and behind it the part that is the entry's data. Assumes
+-- nothing.
 use Rattle.commit_lay.proofs.Puts.{entry-summed}
 use borrow.Author.Needs.{needs}
 use Rattle.commit_lay.proofs.sum_entry.Statement.{statement}

@@ -1,4 +1,4 @@
--- `regular::log_regular` meets its contract: the walk from the start settles the committed log. Assumes nothing.
+-- `commit_regular::log_regular` meets its contract: the walk from the start settles the committed log. Assumes nothing.
 use Rattle.commit_regular.proofs.Settled.{settles-regular}
 use borrow.Author.Needs.{needs}
 use Rattle.commit_regular.proofs.log_regular.Statement.{statement}

@@ -1,5 +1,5 @@
--- `regular::regular_on` meets its contract. The loop keeps what the rules leave of the walk from here; the block's rest
--- shrinks. Assumes nothing.
+-- `commit_regular::regular_on` meets its contract. The loop keeps what the rules leave of the walk from here; the
+-- block's rest shrinks. Assumes nothing.
 use borrow.Author.Needs.{needs}
 use mathlib.Core.Path.{_≡_, refl, sym, _∙_}
 use Prim.Native.Nat.{_-_}

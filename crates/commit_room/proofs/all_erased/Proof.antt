@@ -1,5 +1,5 @@
--- `room::all_erased` meets its contract. The loop keeps whether the rest from here on is erased; the rest shrinks.
--- Assumes nothing.
+-- `commit_room::all_erased` meets its contract. The loop keeps whether the rest from here on is erased; the rest
+-- shrinks. Assumes nothing.
 use borrow.Author.Needs.{needs}
 use mathlib.Core.Path.{_≡_, refl, sym, _∙_}
 use Prim.Native.Nat.{_-_}

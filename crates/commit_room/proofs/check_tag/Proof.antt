@@ -1,4 +1,5 @@
--- `room::check_tag` meets its contract: the size is what is between the tag and the rounded end. Assumes nothing.
+-- `commit_room::check_tag` meets its contract: the size is what is between the tag and the rounded end. Assumes
+-- nothing.
 use native.Mathlib.Omega.{arith}
 use Rattle.commit_room.proofs.Ends.{end-behind, tag-is}
 use borrow.Author.Needs.{needs}

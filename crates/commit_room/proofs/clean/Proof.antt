@@ -1,4 +1,4 @@
--- `room::clean` meets its contract: the tests stand as they are. Assumes nothing.
+-- `commit_room::clean` meets its contract: the tests stand as they are. Assumes nothing.
 use Rattle.format.specs.Writer.{roomClean}
 use borrow.Author.Needs.{needs}
 use Rattle.commit_room.proofs.clean.Statement.{statement}

@@ -1,4 +1,4 @@
--- `room::rounded_end` meets its contract: what is above the multiple is the remainder. Assumes nothing.
+-- `commit_room::rounded_end` meets its contract: what is above the multiple is the remainder. Assumes nothing.
 use native.Mathlib.Nat.{mod-le}
 use Rattle.commit_room.proofs.Ends.{end-is}
 use borrow.Author.Needs.{needs}

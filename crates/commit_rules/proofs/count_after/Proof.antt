@@ -1,4 +1,4 @@
--- `rules::count_after` meets its contract: one more, one less, or the same. Assumes nothing.
+-- `commit_rules::count_after` meets its contract: one more, one less, or the same. Assumes nothing.
 use native.Mathlib.Omega.{arith}
 use Rattle.format.specs.Regular.{countAfter}
 use Rattle.commit_rules.proofs.Passed.{count-stays}

@@ -1,4 +1,4 @@
--- `rules::counted` meets its contract: by what the rule says. Assumes nothing.
+-- `commit_rules::counted` meets its contract: by what the rule says. Assumes nothing.
 use native.Mathlib.Omega.{arith}
 use mathlib.Core.Path.{sym, _∙_}
 use Rattle.commit_rules.specs.Rules.{ruleAs}

@@ -1,4 +1,4 @@
--- `rules::rule_holds` meets its contract: each rule's tests stand as they are. Assumes nothing.
+-- `commit_rules::rule_holds` meets its contract: each rule's tests stand as they are. Assumes nothing.
 use Rattle.format.specs.Regular.{ruleHolds}
 use borrow.Author.Needs.{needs}
 use Rattle.commit_rules.proofs.rule_holds.Statement.{statement}

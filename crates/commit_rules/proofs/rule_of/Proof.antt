@@ -1,4 +1,4 @@
--- `rules::rule_of` meets its contract: by the type's arm. Assumes nothing.
+-- `commit_rules::rule_of` meets its contract: by the type's arm. Assumes nothing.
 use mathlib.Core.Path.{refl}
 use Rattle.format.specs.Regular.{ruleOf, inlined, move}
 use Rattle.commit_rules.proofs.Arms.{is-one, is-eight, is-name, is-tail, is-attribute}

@@ -1,4 +1,4 @@
--- `writer::answer` meets its contract: the refusal, or what fetch answers. Assumes nothing.
+-- `commit_steps::answer` meets its contract: the refusal, or what fetch answers. Assumes nothing.
 use Rattle.commit_steps.proofs.Ended.{answer-refused, answer-judge, answer-found, answer-lost}
 use borrow.Author.Needs.{needs}
 use Rattle.commit_steps.proofs.answer.Statement.{statement}

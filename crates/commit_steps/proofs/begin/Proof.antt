@@ -1,4 +1,5 @@
--- `writer::begin` meets its contract: the sizes, fetch's own refusals, and the block that answers. Assumes nothing.
+-- `commit_steps::begin` meets its contract: the sizes, fetch's own refusals, and the block that answers. Assumes
+-- nothing.
 use mathlib.Core.Path.{sym, _∙_}
 use Rattle.commit_steps.proofs.Begins.{fits-four, begins-broken, begins-refused, begins-first, begins-second}
 use borrow.Author.Needs.{needs}

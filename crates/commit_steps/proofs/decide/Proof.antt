@@ -1,4 +1,4 @@
--- `writer::decide` meets its contract: a state that judges is placed in the block that answers. Assumes nothing.
+-- `commit_steps::decide` meets its contract: a state that judges is placed in the block that answers. Assumes nothing.
 use mathlib.Core.Path.{sym, _∙_}
 use borrow.Author.Tests.{not-false}
 use Rattle.sizes.proofs.Sized.{fitting}

@@ -1,5 +1,5 @@
--- `writer::judge_entry` meets its contract: by the rule, the buffer, and what the calls answer of a good entry. Assumes
--- nothing.
+-- `commit_steps::judge_entry` meets its contract: by the rule, the buffer, and what the calls answer of a good entry.
+-- Assumes nothing.
 use mathlib.Core.Path.{sym, _∙_}
 use Rattle.commit_steps.proofs.Entered.{judged-bad, judged-outside, judged-good}
 use borrow.Author.Needs.{needs}

@@ -1,4 +1,4 @@
--- `writer::lay_check` meets its contract: tag and checksum, one behind the other. Assumes nothing.
+-- `commit_steps::lay_check` meets its contract: tag and checksum, one behind the other. Assumes nothing.
 use Rattle.commit_steps.proofs.Entered.{laid-check}
 use borrow.Author.Needs.{needs}
 use Rattle.commit_steps.proofs.lay_check.Statement.{statement}

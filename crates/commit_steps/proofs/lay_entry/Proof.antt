@@ -1,4 +1,4 @@
--- `writer::lay_entry` meets its contract: the stores that `put_entry` makes. Assumes nothing.
+-- `commit_steps::lay_entry` meets its contract: the stores that `put_entry` makes. Assumes nothing.
 use Rattle.commit_steps.proofs.Entered.{laid-entry}
 use borrow.Author.Needs.{needs}
 use Rattle.commit_steps.proofs.lay_entry.Statement.{statement}

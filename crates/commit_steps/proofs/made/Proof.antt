@@ -1,4 +1,4 @@
--- `writer::made` meets its contract: the refusal, or what is not left of the limit. Assumes nothing.
+-- `commit_steps::made` meets its contract: the refusal, or what is not left of the limit. Assumes nothing.
 use Rattle.commit_steps.proofs.Ended.{made-refused, made-judge, made-none, made-some}
 use borrow.Author.Needs.{needs}
 use Rattle.commit_steps.proofs.made.Statement.{statement}

@@ -1,4 +1,4 @@
--- `writer::place` meets its contract: by what the tests of the room answer. Assumes nothing.
+-- `commit_steps::place` meets its contract: by what the tests of the room answer. Assumes nothing.
 use native.Mathlib.Omega.{arith}
 use Rattle.commit_steps.proofs.Placed.{placed-full, placed-unclean, placed-coincides, placed-lays}
 use borrow.Author.Needs.{needs}

@@ -1,4 +1,4 @@
--- `writer::seal` meets its contract: nothing, or the check laid into the block that answers. Assumes nothing.
+-- `commit_steps::seal` meets its contract: nothing, or the check laid into the block that answers. Assumes nothing.
 use Rattle.commit_steps.proofs.Entered.{seal-refused, seal-judge, seal-first, seal-second}
 use borrow.Author.Needs.{needs}
 use Rattle.commit_steps.proofs.seal.Statement.{statement}

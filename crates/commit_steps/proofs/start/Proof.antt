@@ -1,4 +1,4 @@
--- `writer::start` meets its contract: by what `log_regular` answers. Assumes nothing.
+-- `commit_steps::start` meets its contract: by what `log_regular` answers. Assumes nothing.
 use Rattle.commit_steps.proofs.Begins.{starts-irregular, starts-regular}
 use borrow.Author.Needs.{needs}
 use Rattle.commit_steps.proofs.start.Statement.{statement}

@@ -1,4 +1,5 @@
--- `writer::step` meets its contract: nothing, the entry judged, or laid into the block that answers. Assumes nothing.
+-- `commit_steps::step` meets its contract: nothing, the entry judged, or laid into the block that answers. Assumes
+-- nothing.
 use Rattle.commit_steps.proofs.Entered.{step-refused, step-judge, step-first, step-second}
 use borrow.Author.Needs.{needs}
 use Rattle.commit_steps.proofs.step.Statement.{statement}

@@ -1,4 +1,4 @@
--- `renew::begin` meets its contract. Assumes nothing.
+-- `compact_block::begin` meets its contract. Assumes nothing.
 use Rattle.format.specs.Word.{allOnes}
 use Rattle.compact_block.specs.Renewed.{begins}
 use borrow.Author.Needs.{needs}

@@ -1,4 +1,4 @@
--- `renew::erase` meets its contract. The loop keeps that the first i bytes are erased. Assumes nothing.
+-- `compact_block::erase` meets its contract. The loop keeps that the first i bytes are erased. Assumes nothing.
 use mathlib.Core.Path.{_≡_, refl}
 use Prim.Native.Nat.{_-_, _≤_}
 use native.Mathlib.Omega.{arith}

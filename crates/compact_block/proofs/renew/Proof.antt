@@ -1,4 +1,4 @@
--- `renew::renew` meets its contract: each refusal, and the second pass. Assumes nothing.
+-- `compact_block::renew` meets its contract: each refusal, and the second pass. Assumes nothing.
 use borrow.Author.Tests.{not-false}
 use mathlib.Core.Path.{sym, _∙_}
 use Rattle.compact_block.proofs.Storing.{reads-all}

@@ -1,4 +1,5 @@
--- `renew::write` meets its contract: all calls are one run of compaction's bytes over an erased block. Assumes nothing.
+-- `compact_block::write` meets its contract: all calls are one run of compaction's bytes over an erased block. Assumes
+-- nothing.
 use native.Mathlib.Omega.{arith}
 use Rattle.compact_block.proofs.Storing.{pass-none, reads-all, pass-made, pass-block}
 use borrow.Author.Needs.{needs}

@@ -1,4 +1,4 @@
--- `emit::check` meets its contract: the tag's four bytes and then the checksum's. Assumes nothing.
+-- `compact_entries::check` meets its contract: the tag's four bytes and then the checksum's. Assumes nothing.
 use Rattle.compact_entries.proofs.Written.{xor-is, check-done}
 use borrow.Author.Needs.{needs}
 use Rattle.compact_entries.proofs.check.Statement.{statement}

@@ -9,10 +9,13 @@ returns : tie.Need-returns
 returns c = class-missing _ _ _ _ _ (c .before .before .held-at .ensures) (c .if1 .taken)
 
 returns-2 : tie.Need-returns-2
-returns-2 c = class-made _ _ _ _ _ (c .before .before .before .before .before .before .before .before .before .before .held-at .ensures)
+returns-2 c = class-made _ _ _ _ _ (c .before .before .before .before .before .before .before .before .before
+    .before .held-at .ensures)
     (c .before .before .before .before .before .before .before .before .if1 .left)
-    (c .before .before .before .before .before .before .before .before .before .before .before .before .before .pre .inside)
-    (c .before .before .before .before .before .before .before .before .before .before .before .before .before .pre .slot) _ refl _
+    (c .before .before .before .before .before .before .before .before .before .before .before .before .before
+    .pre .inside)
+    (c .before .before .before .before .before .before .before .before .before .before .before .before .before
+    .pre .slot) _ refl _
     (c .before .before .before .before .before .lfs-mktag .ensures) _ (c .before .before .entry .ensures)
 
 pub class-entry-spec : {M : Type 1} → statement M

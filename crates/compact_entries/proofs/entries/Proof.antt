@@ -1,4 +1,4 @@
--- `emit::entries` meets its contract: the slots, the tail, the move state. Assumes nothing.
+-- `compact_entries::entries` meets its contract: the slots, the tail, the move state. Assumes nothing.
 use native.Mathlib.Omega.{arith}
 use Rattle.compact_slot.proofs.Slots.{slot-gathers}
 use Rattle.compact_entries.proofs.Sourced.{slots-within, entries-within, entries-done}

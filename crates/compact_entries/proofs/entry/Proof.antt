@@ -1,4 +1,5 @@
--- `emit::entry` meets its contract: stores, end, previous tag and checksum, each by its callee. Assumes nothing.
+-- `compact_entries::entry` meets its contract: stores, end, previous tag and checksum, each by its callee. Assumes
+-- nothing.
 use Rattle.compact_entries.specs.Emitted.{standing}
 use Rattle.compact_entries.proofs.Written.{xor-is, entry-done}
 use borrow.Author.Needs.{needs}

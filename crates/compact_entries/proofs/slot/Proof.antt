@@ -1,5 +1,5 @@
--- `emit::slot` meets its contract. The loop keeps where all classes end, from here; the classes that are left fall.
--- Assumes nothing.
+-- `compact_entries::slot` meets its contract. The loop keeps where all classes end, from here; the classes that are
+-- left fall. Assumes nothing.
 use mathlib.Core.Path.{_≡_, refl, sym, _∙_}
 use Prim.Native.Nat.{_+_, _-_, _*_, _^_, _≤_}
 use native.Mathlib.Omega.{arith}
@@ -44,9 +44,12 @@ loop-again c = (
     arith,
     class-within _ _ (c .before .before .before .before .before .before .before .before .before .before
         .before .before .before .before .args .id)
-        (slotIn (c .before .before .before .before .before .before .before .before .before .before .before .before .before
-        .before .args .old .now) (c .before .before .before .before .before .before .before .before .before .before .before
-        .before .before .before .args .seats .now) (c .before .before .before .before .before .before .loop .class))
+        (slotIn (c .before .before .before .before .before .before .before .before .before .before .before .before
+        .before
+        .before .args .old .now) (c .before .before .before .before .before .before .before .before .before
+        .before .before
+        .before .before .before .args .seats .now) (c .before .before .before .before .before .before .loop
+        .class))
         (c .before .before .class-entry .ensures),
   ),
   search needs,
@@ -57,7 +60,8 @@ loop-again c = (
 
 returns : tie.Need-returns Inv-loop μ-loop
 returns c = slot-done _ _ _ _ _ (c .loop-test .left) (c .before .loop .inv .3)
-    ∙ sym (slot-created _ _ _ _ _ _ (c .before .before .before .before .before .before .before .before .before .pre
+    ∙ sym (slot-created _ _ _ _ _ _ (c .before .before .before .before .before .before .before .before .before
+    .pre
     .slot) (c .before .before .before .before .before .lfs-mktag .ensures)
     (c .before .before .before .before .entry .ensures))
 

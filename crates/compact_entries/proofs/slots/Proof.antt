@@ -1,5 +1,5 @@
--- `emit::slots` meets its contract. The loop keeps where all slots end, from here; the slots that are left fall.
--- Assumes nothing.
+-- `compact_entries::slots` meets its contract. The loop keeps where all slots end, from here; the slots that are left
+-- fall. Assumes nothing.
 use mathlib.Core.Path.{_≡_, refl}
 use Prim.Native.Nat.{_+_, _-_, _*_, _≤_}
 use native.Mathlib.Omega.{arith}
@@ -35,7 +35,11 @@ slot-requires : tie.Need-slot-requires Inv-loop μ-loop
 slot-requires c κs = record {
   inside = c .before .before .gather .ensures .inside;
   slot = omega (arith, slots-few _ _ _ _ (c .before .before .before .before .before .before .before .pre .slots));
-  small = omega (arith, slots-few _ _ _ _ (c .before .before .before .before .before .before .before .pre .slots));
+  small = omega (
+    arith,
+    slots-few _ _ _ _ (c .before .before .before .before .before .before .before .pre
+        .slots),
+  );
 }
 
 loop-again : tie.Need-loop-again Inv-loop μ-loop
@@ -48,16 +52,20 @@ loop-again c = (
         (c .before .before .before .before .before .gather .result)) (c .before .before .slot .ensures),
   ),
   search needs,
-  dir-slot _ _ _ _ _ _ (slots-more _ _ _ _ (c .before .before .before .before .before .before .before .before .before
+  dir-slot _ _ _ _ _ _ (slots-more _ _ _ _ (c .before .before .before .before .before .before .before .before
+      .before
       .before .pre .slots) _ (c .before .before .before .before .before .before .loop-test .taken))
-      (slot-holds _ _ _ _ (c .before .before .before .before .before .before .before .before .before .before .pre .slots)
+      (slot-holds _ _ _ _ (c .before .before .before .before .before .before .before .before .before .before .pre
+      .slots)
       _ _ (c .before .before .before .before .before .before .loop-test .taken)
       (c .before .before .before .before .before .gather .ensures))
-      (c .before .before .before .before .before .before .before .loop .inv .3) (c .before .before .slot .ensures),
+      (c .before .before .before .before .before .before .before .loop .inv .3)
+      (c .before .before .slot .ensures),
 )
 
 returns : tie.Need-returns Inv-loop μ-loop
-returns c = dir-done _ _ _ (c .before .loop .id) (slots-end _ _ _ _ (c .before .before .before .before .pre .slots) _
+returns c = dir-done _ _ _ (c .before .loop .id)
+    (slots-end _ _ _ _ (c .before .before .before .before .pre .slots) _
     (c .loop-test .left)) (c .before .loop .inv .3)
 
 pub slots-spec : {M : Type 1} → statement M

@@ -1,4 +1,4 @@
--- `gather::class_of` meets its contract, type by type. Assumes nothing.
+-- `compact_slot::class_of` meets its contract, type by type. Assumes nothing.
 use Rattle.compact_slot.proofs.Leaves.{class-name, class-struct, class-attr, class-none}
 use borrow.Author.Needs.{needs}
 use Rattle.compact_slot.proofs.class_of.Statement.{statement}

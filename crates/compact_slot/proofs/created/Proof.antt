@@ -1,4 +1,4 @@
--- `gather::created` meets its contract. Assumes nothing.
+-- `compact_slot::created` meets its contract. Assumes nothing.
 use Rattle.compact_slot.proofs.Leaves.{created-is}
 use borrow.Author.Needs.{needs}
 use Rattle.compact_slot.proofs.created.Statement.{statement}

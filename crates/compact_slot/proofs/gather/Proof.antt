@@ -1,5 +1,5 @@
--- `gather::gather` meets its contract. The loop keeps what a free seat may still find (`Gathering`); the offset falls,
--- and the slot's id grows by less than it. Assumes nothing.
+-- `compact_slot::gather` meets its contract. The loop keeps what a free seat may still find (`Gathering`); the offset
+-- falls, and the slot's id grows by less than it. Assumes nothing.
 use mathlib.Core.List.{map}
 use Prim.Native.Nat.{_+_, _^_, _≤_, _<_}
 use native.Mathlib.Omega.{arith}

@@ -1,4 +1,4 @@
--- `gather::id_before` meets its contract, by what the tag splices. Assumes nothing.
+-- `compact_slot::id_before` meets its contract, by what the tag splices. Assumes nothing.
 use Rattle.compact_slot.proofs.Leaves.{before-create, before-create-above, before-delete, before-delete-above}
 use Rattle.compact_slot.proofs.Leaves.{before-other}
 use borrow.Author.Needs.{needs}

@@ -1,5 +1,5 @@
--- `gather::newest_move` meets its contract. The loop keeps what the rest of the walk finds; the offset falls. Assumes
--- nothing.
+-- `compact_slot::newest_move` meets its contract. The loop keeps what the rest of the walk finds; the offset falls.
+-- Assumes nothing.
 use mathlib.Core.Path.{_≡_, refl}
 use Prim.Native.Nat.{_^_, _≤_, _<_}
 use native.Mathlib.Omega.{arith}

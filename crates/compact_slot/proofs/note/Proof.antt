@@ -1,5 +1,5 @@
--- `gather::note` meets its contract: the seat is stored where the entry is the slot's, has a class, and is the newest.
--- Assumes nothing.
+-- `compact_slot::note` meets its contract: the seat is stored where the entry is the slot's, has a class, and is the
+-- newest. Assumes nothing.
 use Rattle.compact_slot.proofs.Leaves.{note-other, note-none, note-taken, note-free}
 use borrow.Author.Needs.{needs}
 use Rattle.compact_slot.proofs.note.Statement.{statement}

@@ -1,4 +1,4 @@
--- `walk::walk_block` meets its contract: the walk from the start leaves the folds over the block's log. Assumes
+-- `fetch_walk::walk_block` meets its contract: the walk from the start leaves the folds over the block's log. Assumes
 -- nothing.
 use mathlib.Core.Path.{_∙_}
 use borrow.Author.Needs.{needs}

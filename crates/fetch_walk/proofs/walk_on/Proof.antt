@@ -1,5 +1,5 @@
--- `walk::walk_on` meets its contract. The loop keeps what the walk from here leaves on the state now; the block's rest
--- shrinks. Assumes nothing.
+-- `fetch_walk::walk_on` meets its contract. The loop keeps what the walk from here leaves on the state now; the block's
+-- rest shrinks. Assumes nothing.
 use mathlib.Core.Path.{_≡_, refl, sym, _∙_}
 use Prim.Native.Nat.{_-_}
 use native.Mathlib.Omega.{arith}

@@ -1,4 +1,4 @@
--- `answers::altered_out` meets its contract: 0, or the refusal's number. Assumes nothing.
+-- `lanolin_answers::altered_out` meets its contract: 0, or the refusal's number. Assumes nothing.
 use mathlib.Core.Path.{sym, ap, _∙_}
 use mir.Facts.{toZ-ofZ}
 use borrow.Author.Needs.{needs, sfits-of}

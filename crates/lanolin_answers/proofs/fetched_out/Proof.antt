@@ -1,5 +1,5 @@
--- `answers::fetched_out` meets its contract: the record and seed that were found with 0, or what comes back with a
--- refusal. Assumes nothing.
+-- `lanolin_answers::fetched_out` meets its contract: the record and seed that were found with 0, or what comes back
+-- with a refusal. Assumes nothing.
 use mathlib.Core.Path.{_≡_, sym, ap, _∙_}
 use Prim.Native.Nat.{ℕ}
 use lib.IntN.{ℤ}

@@ -1,4 +1,4 @@
--- `answers::got_out` meets its contract: the tag with 0, or the refusal's number. Assumes nothing.
+-- `lanolin_answers::got_out` meets its contract: the tag with 0, or the refusal's number. Assumes nothing.
 use mathlib.Core.Path.{sym, ap, _∙_}
 use lib.IntN.{ℤ}
 use mir.Facts.{toZ-ofZ}

@@ -1,4 +1,4 @@
--- `answers::info_out` meets its contract: the info as it is, behind its number. Assumes nothing.
+-- `lanolin_answers::info_out` meets its contract: the info as it is, behind its number. Assumes nothing.
 use mathlib.Core.Path.{ap, _∙_}
 use lib.IntN.{ℤ}
 use mir.Facts.{toZ-ofZ}

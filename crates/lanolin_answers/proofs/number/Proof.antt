@@ -1,4 +1,4 @@
--- `answers::number` meets its contract: each case has the table's number. Assumes nothing.
+-- `lanolin_answers::number` meets its contract: each case has the table's number. Assumes nothing.
 use mathlib.Core.Path.{sym, ap}
 use borrow.Author.Needs.{needs}
 use Rattle.format.specs.Answer.{refusalNumber}

@@ -1,4 +1,5 @@
--- `answers::refused_mdir` meets its contract: what the one case holds, and the same with every other. Assumes nothing.
+-- `lanolin_answers::refused_mdir` meets its contract: what the one case holds, and the same with every other. Assumes
+-- nothing.
 use mathlib.Core.Path.{sym, ap, _∙_}
 use borrow.Author.Needs.{needs}
 use Rattle.format.specs.Answer.{refusalMdir}

@@ -1,4 +1,5 @@
--- `answers::refused_seed` meets its contract: what the one case holds, and the same with every other. Assumes nothing.
+-- `lanolin_answers::refused_seed` meets its contract: what the one case holds, and the same with every other. Assumes
+-- nothing.
 use mathlib.Core.Path.{sym, ap}
 use borrow.Author.Needs.{needs}
 use Rattle.format.specs.Answer.{refusalSeed}

@@ -1,5 +1,5 @@
--- `answers::stored_out` meets its contract: the number of stores with 0, or what comes back with a refusal. Assumes
--- nothing.
+-- `lanolin_answers::stored_out` meets its contract: the number of stores with 0, or what comes back with a refusal.
+-- Assumes nothing.
 use mathlib.Core.Path.{_≡_, sym, ap, _∙_}
 use Prim.Native.Nat.{ℕ}
 use lib.IntN.{ℤ}

@@ -1,4 +1,4 @@
--- `search::create_at` meets its contract: of these fields LFS_MKTAG is their sum. Assumes nothing.
+-- `lookup_search::create_at` meets its contract: of these fields LFS_MKTAG is their sum. Assumes nothing.
 use mathlib.Core.Path.{_∙_}
 use native.Mathlib.Omega.{arith}
 use Rattle.format.specs.Tag.{tagId, tagOf}

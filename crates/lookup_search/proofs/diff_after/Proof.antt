@@ -1,4 +1,4 @@
--- `search::diff_after` meets its contract: the test decides the definition's case. Assumes nothing.
+-- `lookup_search::diff_after` meets its contract: the test decides the definition's case. Assumes nothing.
 use borrow.Author.Needs.{needs}
 use Rattle.lookup_search.proofs.diff_after.Statement.{statement}
 use Rattle.lookup_search.proofs.diff_after.Tie as tie

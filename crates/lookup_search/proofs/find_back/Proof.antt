@@ -1,5 +1,5 @@
--- `search::find_back` meets its contract. The loop's invariant: the end is not passed, and what is left of the walk
--- answers what the whole does. Each way out of a turn is a law of `Turn.antt`. The measure is the offset. Assumes
+-- `lookup_search::find_back` meets its contract. The loop's invariant: the end is not passed, and what is left of the
+-- walk answers what the whole does. Each way out of a turn is a law of `Turn.antt`. The measure is the offset. Assumes
 -- nothing.
 use mathlib.Core.Path.{_≡_, sym, _∙_}
 use native.Mathlib.Omega.{arith}

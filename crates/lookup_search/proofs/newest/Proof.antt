@@ -1,4 +1,5 @@
--- `search::newest` meets its contract: the pending move decides where the walk starts (`Turn.antt`). Assumes nothing.
+-- `lookup_search::newest` meets its contract: the pending move decides where the walk starts (`Turn.antt`). Assumes
+-- nothing.
 use Rattle.lookup_search.proofs.Turn.{start-moved, start-from}
 use borrow.Author.Needs.{needs}
 use Rattle.lookup_search.proofs.newest.Statement.{statement}

@@ -1,4 +1,4 @@
--- `search::splices` meets its contract: the fields that it compares are the definition's. Assumes nothing.
+-- `lookup_search::splices` meets its contract: the fields that it compares are the definition's. Assumes nothing.
 use Rattle.format.specs.Look.{splicedAt}
 use borrow.Author.Needs.{needs}
 use Rattle.lookup_search.proofs.splices.Statement.{statement}

@@ -1,4 +1,4 @@
--- `audit::block_audit` meets its contract: -202, or the slots and the three lines. Assumes nothing.
+-- `text_audit::block_audit` meets its contract: -202, or the slots and the three lines. Assumes nothing.
 use borrow.Author.Needs.{needs}
 use Rattle.text_input.proofs.Input.{block-slots}
 use Rattle.text_audit.proofs.Steps.{block-irregular, block-audited}

@@ -1,4 +1,4 @@
--- `audit::is_deadline` meets its contract. Assumes nothing.
+-- `text_audit::is_deadline` meets its contract. Assumes nothing.
 use borrow.Author.Needs.{needs}
 use Rattle.text_audit.proofs.Told.{deadline-held}
 use Rattle.text_audit.proofs.is_deadline.Statement.{statement}

@@ -1,4 +1,4 @@
--- `audit::is_instruction` meets its contract: no name, or one of another type. Assumes nothing.
+-- `text_audit::is_instruction` meets its contract: no name, or one of another type. Assumes nothing.
 use borrow.Author.Needs.{needs}
 use Rattle.text_audit.proofs.Told.{instruction-nameless, instruction-named}
 use Rattle.text_audit.proofs.is_instruction.Statement.{statement}

@@ -1,4 +1,4 @@
--- `audit::is_payload` meets its contract: no struct, or one of the two types. Assumes nothing.
+-- `text_audit::is_payload` meets its contract: no struct, or one of the two types. Assumes nothing.
 use borrow.Author.Needs.{needs}
 use Rattle.text_audit.proofs.Told.{payload-missing, payload-there}
 use Rattle.text_audit.proofs.is_payload.Statement.{statement}

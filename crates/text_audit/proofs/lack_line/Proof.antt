@@ -1,4 +1,4 @@
--- `audit::lack_line` meets its contract: its parts, one behind the other. Assumes nothing.
+-- `text_audit::lack_line` meets its contract: its parts, one behind the other. Assumes nothing.
 use borrow.Author.Needs.{needs}
 use Rattle.text_audit.proofs.Told.{lack-done}
 use Rattle.text_audit.proofs.lack_line.Statement.{statement}

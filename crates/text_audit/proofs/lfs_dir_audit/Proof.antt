@@ -1,4 +1,5 @@
--- `audit::lfs_dir_audit` meets its contract: the text is put from the start, and is shorter than 2^32. Assumes nothing.
+-- `text_audit::lfs_dir_audit` meets its contract: the text is put from the start, and is shorter than 2^32. Assumes
+-- nothing.
 use mathlib.Core.Path.{sym, _∙_}
 use borrow.Author.Needs.{needs}
 use Rattle.format.specs.Audit.{blockAudit}

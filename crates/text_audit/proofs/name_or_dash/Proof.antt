@@ -1,4 +1,4 @@
--- `audit::name_or_dash` meets its contract: a dash, or the name. Assumes nothing.
+-- `text_audit::name_or_dash` meets its contract: a dash, or the name. Assumes nothing.
 use borrow.Author.Needs.{needs}
 use Rattle.text_audit.proofs.Told.{dash-shown, name-shown}
 use Rattle.text_audit.proofs.name_or_dash.Statement.{statement}

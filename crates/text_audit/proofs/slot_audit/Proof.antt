@@ -1,4 +1,4 @@
--- `audit::slot_audit` meets its contract: either line and its count, or nothing. Assumes nothing.
+-- `text_audit::slot_audit` meets its contract: either line and its count, or nothing. Assumes nothing.
 use native.Mathlib.Omega.{arith}
 use borrow.Author.Needs.{needs}
 use Rattle.text_audit.proofs.Steps.{tells-deadline, tells-payload, slot-no-deadline, slot-no-payload, slot-whole}

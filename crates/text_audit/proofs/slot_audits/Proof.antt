@@ -1,5 +1,5 @@
--- `audit::slot_audits` meets its contract. The loop keeps what is left to show and to count; the slots that are left
--- fall. Assumes nothing.
+-- `text_audit::slot_audits` meets its contract. The loop keeps what is left to show and to count; the slots that are
+-- left fall. Assumes nothing.
 use mathlib.Core.Path.{_≡_, refl}
 use Prim.Native.Nat.{_-_, _≤_}
 use native.Mathlib.Omega.{arith}
@@ -40,9 +40,11 @@ loop-again c = (
   omega arith,
   search needs,
   run-next _ _ _ _ _ (c .before .before .before .before .before .before .before
-      .loop .inv .2) _ _ _ (slots-more _ _ _ _ (c .before .before .before .before .before .before .before .before .before
+      .loop .inv .2) _ _ _ (slots-more _ _ _ _ (c .before .before .before .before .before .before .before .before
+      .before
       .before .pre) _ (c .before .before .before .before .before .before .loop-test .taken))
-      (slot-holds _ _ _ _ (c .before .before .before .before .before .before .before .before .before .before .pre) _ _
+      (slot-holds _ _ _ _ (c .before .before .before .before .before .before .before .before .before .before .pre)
+      _ _
       (c .before .before .before .before .before .before .loop-test .taken)
       (c .before .before .before .before .before .gather .ensures)) (c .before .before .slot-audit .ensures),
 )

@@ -1,4 +1,4 @@
--- `audit::total_lines` meets its contract: three lines. Assumes nothing.
+-- `text_audit::total_lines` meets its contract: three lines. Assumes nothing.
 use borrow.Author.Needs.{needs}
 use Rattle.text_audit.proofs.Steps.{totals-done}
 use Rattle.text_audit.proofs.total_lines.Statement.{statement}

@@ -1,4 +1,4 @@
--- `listing::attr_data` meets its contract: a dash, or hex. Assumes nothing.
+-- `text_listing::attr_data` meets its contract: a dash, or hex. Assumes nothing.
 use borrow.Author.Needs.{needs}
 use Rattle.text_listing.proofs.Fields.{data-empty, data-shown}
 use Rattle.text_listing.proofs.attr_data.Statement.{statement}

@@ -1,4 +1,4 @@
--- `listing::attr_line` meets its contract: nothing, or a line. Assumes nothing.
+-- `text_listing::attr_line` meets its contract: nothing, or a line. Assumes nothing.
 use borrow.Author.Needs.{needs}
 use Rattle.text_listing.proofs.Fields.{attr-missing, attr-shown}
 use Rattle.text_listing.proofs.attr_line.Statement.{statement}
@@ -9,32 +9,52 @@ returns c = attr-missing _ _ _ (c .before .before .held-at .ensures) _ (c .if1 .
 
 part-attr-data-end : tie.Need-part-attr-data-end
 part-attr-data-end c =
-    c .before .before .before .before .before .before .before .before .before .before .before .before .before .before
-    .before .before .before .before .before .before .before .before .before .before .before .before .before .held-at
-    .ensures .inside (c .before .before .before .before .before .before .before .before .before .before .before .before
-    .before .before .before .before .before .before .before .before .before .before .before .before .before .before
-    .before .before .before .before .args .b .now) (c .before .before .before .before .before .before .before .before
-    .before .before .before .before .before .before .before .before .before .before .before .before .before .before
+    c .before .before .before .before .before .before .before .before .before .before .before .before .before
+    .before
+    .before .before .before .before .before .before .before .before .before .before .before .before .before
+    .held-at
+    .ensures .inside (c .before .before .before .before .before .before .before .before .before .before .before
+    .before
+    .before .before .before .before .before .before .before .before .before .before .before .before .before
+    .before
+    .before .before .before .before .args .b .now) (c .before .before .before .before .before .before .before
+    .before
+    .before .before .before .before .before .before .before .before .before .before .before .before .before
+    .before
     .before .before .before .before .before .before .before .before .pre)
 
 returns-2 : tie.Need-returns-2
 returns-2 c =
-    attr-shown _ _ _ (c .before .before .before .before .before .before .before .before .before .before .before .before
-    .before .before .before .before .before .before .before .before .before .before .before .before .before .before
-    .before .before .before .before .before .before .before .before .before .before .held-at .ensures) _ (c .before .before
-    .before .before .before .before .before .before .before .before .before .before .before .before .before .before
-    .before .before .before .before .before .before .before .before .before .before .before .before .before .before
+    attr-shown _ _ _ (c .before .before .before .before .before .before .before .before .before .before .before
+    .before
+    .before .before .before .before .before .before .before .before .before .before .before .before .before
+    .before
+    .before .before .before .before .before .before .before .before .before .before .held-at .ensures) _
+    (c .before .before
+    .before .before .before .before .before .before .before .before .before .before .before .before .before
+    .before
+    .before .before .before .before .before .before .before .before .before .before .before .before .before
+    .before
     .before .before .before .before .if1 .left) _ _ _ _ _ _ _ _ (c .before .before .before .before .before .before
-    .before .before .before .before .before .before .before .before .before .before .before .before .before .before
-    .before .before .before .before .before .before .before .before .before .before .before .puts .ensures) (c .before
-    .before .before .before .before .before .before .before .before .before .before .before .before .before .before
-    .before .before .before .before .before .before .before .before .before .before .before .before .decimal .ensures)
-    (c .before .before .before .before .before .before .before .before .before .before .before .before .before .before
-    .before .before .before .before .before .before .before .before .puts2 .ensures) (c .before .before .before .before
-    .before .before .before .before .before .before .before .before .before .before .before .before .before .hex-type
+    .before .before .before .before .before .before .before .before .before .before .before .before .before
+    .before
+    .before .before .before .before .before .before .before .before .before .before .before .puts .ensures)
+    (c .before
+    .before .before .before .before .before .before .before .before .before .before .before .before .before
+    .before
+    .before .before .before .before .before .before .before .before .before .before .before .before .decimal
     .ensures)
-    (c .before .before .before .before .before .before .before .before .before .before .before .before .puts3 .ensures)
-    (c .before .before .before .before .before .before .before .attr-data .ensures) (c .before .before .puts4 .ensures)
+    (c .before .before .before .before .before .before .before .before .before .before .before .before .before
+    .before
+    .before .before .before .before .before .before .before .before .puts2 .ensures)
+    (c .before .before .before .before
+    .before .before .before .before .before .before .before .before .before .before .before .before .before
+    .hex-type
+    .ensures)
+    (c .before .before .before .before .before .before .before .before .before .before .before .before .puts3
+    .ensures)
+    (c .before .before .before .before .before .before .before .attr-data .ensures)
+    (c .before .before .puts4 .ensures)
 
 pub attr-line-spec : {M : Type 1} → statement M
 attr-line-spec =

@@ -1,5 +1,5 @@
--- `listing::attr_lines` meets its contract. The loop keeps where all classes end, from here; the classes that are left
--- fall. Assumes nothing.
+-- `text_listing::attr_lines` meets its contract. The loop keeps where all classes end, from here; the classes that are
+-- left fall. Assumes nothing.
 use mathlib.Core.Path.{_≡_, refl}
 use Prim.Native.Nat.{_-_, _^_, _≤_}
 use native.Mathlib.Omega.{arith}

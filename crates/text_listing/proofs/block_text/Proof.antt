@@ -1,4 +1,4 @@
--- `listing::block_text` meets its contract: the record, and then -202 or the slots. Assumes nothing.
+-- `text_listing::block_text` meets its contract: the record, and then -202 or the slots. Assumes nothing.
 use borrow.Author.Needs.{needs}
 use Rattle.text_listing.proofs.Whole.{block-irregular, block-regular}
 use Rattle.text_input.proofs.Input.{block-slots}

@@ -1,4 +1,4 @@
--- `listing::erased_line` meets its contract. Assumes nothing.
+-- `text_listing::erased_line` meets its contract. Assumes nothing.
 use borrow.Author.Needs.{needs}
 use Rattle.text_listing.proofs.Whole.{erased-yes, erased-no}
 use Rattle.text_listing.proofs.erased_line.Statement.{statement}

@@ -1,4 +1,4 @@
--- `listing::lfs_dir_list` meets its contract: the text is put from the start, and is shorter than 2^32. Assumes
+-- `text_listing::lfs_dir_list` meets its contract: the text is put from the start, and is shorter than 2^32. Assumes
 -- nothing.
 use mathlib.Core.Path.{sym, _∙_}
 use borrow.Author.Needs.{needs}

@@ -1,4 +1,4 @@
--- `listing::name_fields` meets its contract: two dashes, or type and name. Assumes nothing.
+-- `text_listing::name_fields` meets its contract: two dashes, or type and name. Assumes nothing.
 use borrow.Author.Needs.{needs}
 use Rattle.text_listing.proofs.Fields.{name-missing, name-shown}
 use Rattle.text_listing.proofs.name_fields.Statement.{statement}
@@ -10,21 +10,30 @@ returns c = name-missing _ _ _ (c .before .before .before .before .before .befor
 
 part-name-bytes-end : tie.Need-part-name-bytes-end
 part-name-bytes-end c =
-    c .before .before .before .before .before .before .before .before .before .before .before .before .before .before
-    .before .before .before .before .held-at .ensures .inside (c .before .before .before .before .before .before .before
-    .before .before .before .before .before .before .before .before .before .before .before .before .before .before
-    .args .b .now) (c .before .before .before .before .before .before .before .before .before .before .before .before
+    c .before .before .before .before .before .before .before .before .before .before .before .before .before
+    .before
+    .before .before .before .before .held-at .ensures .inside
+    (c .before .before .before .before .before .before .before
+    .before .before .before .before .before .before .before .before .before .before .before .before .before
+    .before
+    .args .b .now) (c .before .before .before .before .before .before .before .before .before .before .before
+    .before
     .before .before .before .before .before .before .before .before .before .pre)
 
 returns-2 : tie.Need-returns-2
 returns-2 c =
-    name-shown _ _ _ (c .before .before .before .before .before .before .before .before .before .before .before .before
-    .before .before .before .before .before .before .before .before .before .before .held-at .ensures) _ (c .before .before
-    .before .before .before .before .before .before .before .before .before .before .before .before .before .before
+    name-shown _ _ _ (c .before .before .before .before .before .before .before .before .before .before .before
+    .before
+    .before .before .before .before .before .before .before .before .before .before .held-at .ensures) _
+    (c .before .before
+    .before .before .before .before .before .before .before .before .before .before .before .before .before
+    .before
     .before .before .before .before .if1 .left) _ _ _ _ (c .before .before .before .before .before .before .before
-    .before .before .before .before .before .before .before .before .before .before .puts2 .ensures) (c .before .before
+    .before .before .before .before .before .before .before .before .before .before .puts2 .ensures)
+    (c .before .before
     .before .before .before .before .before .before .before .before .before .before .hex-type .ensures)
-    (c .before .before .before .before .before .before .before .puts3 .ensures) (c .before .before .name-bytes .ensures)
+    (c .before .before .before .before .before .before .before .puts3 .ensures)
+    (c .before .before .name-bytes .ensures)
 
 pub name-fields-spec : {M : Type 1} → statement M
 name-fields-spec =

@@ -1,4 +1,4 @@
--- `listing::record_lines` meets its contract: six lines, one behind the other. Assumes nothing.
+-- `text_listing::record_lines` meets its contract: six lines, one behind the other. Assumes nothing.
 use borrow.Author.Needs.{needs}
 use Rattle.text_listing.proofs.Whole.{record-done}
 use Rattle.text_listing.proofs.record_lines.Statement.{statement}

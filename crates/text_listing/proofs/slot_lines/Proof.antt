@@ -1,4 +1,4 @@
--- `listing::slot_lines` meets its contract. The loop keeps where all slots end, from here; the slots that are left
+-- `text_listing::slot_lines` meets its contract. The loop keeps where all slots end, from here; the slots that are left
 -- fall. Assumes nothing.
 use mathlib.Core.Path.{_≡_, refl}
 use Prim.Native.Nat.{_-_, _≤_}

@@ -1,4 +1,4 @@
--- `listing::slot_text` meets its contract: its parts, one behind the other. Assumes nothing.
+-- `text_listing::slot_text` meets its contract: its parts, one behind the other. Assumes nothing.
 use native.Mathlib.Omega.{arith}
 use borrow.Author.Needs.{needs}
 use Rattle.text_listing.proofs.Loops.{slot-done}

@@ -1,4 +1,4 @@
--- `listing::struct_fields` meets its contract: two dashes, or type and length. Assumes nothing.
+-- `text_listing::struct_fields` meets its contract: two dashes, or type and length. Assumes nothing.
 use borrow.Author.Needs.{needs}
 use Rattle.text_listing.proofs.Fields.{struct-missing, struct-shown}
 use Rattle.text_listing.proofs.struct_fields.Statement.{statement}
@@ -11,11 +11,14 @@ returns c = struct-missing _ _ _ (c .before .before .before .before .before .bef
 returns-2 : tie.Need-returns-2
 returns-2 c =
     struct-shown _ _ _ (c .before .before .before .before .before .before .before .before .before .before .before
-    .before .before .before .before .before .before .before .held-at .ensures) _ (c .before .before .before .before .before
+    .before .before .before .before .before .before .before .held-at .ensures) _
+    (c .before .before .before .before .before
     .before .before .before .before .before .before .before .before .before .before .before .if1 .left) (c .before
-    .before .before .before .before .before .before .before .before .before .before .before .before .before .before
+    .before .before .before .before .before .before .before .before .before .before .before .before .before
+    .before
     .before .before .before .before .before .before .pre) _ _ _
-    (c .before .before .before .before .before .before .before .before .before .before .before .before .puts2 .ensures)
+    (c .before .before .before .before .before .before .before .before .before .before .before .before .puts2
+    .ensures)
     (c .before .before .before .before .before .before .before .hex-type .ensures)
     (c .before .before .number-line .ensures)
 

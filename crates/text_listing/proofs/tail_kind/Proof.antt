@@ -1,4 +1,4 @@
--- `listing::tail_kind` meets its contract. Assumes nothing.
+-- `text_listing::tail_kind` meets its contract. Assumes nothing.
 use borrow.Author.Needs.{needs}
 use Rattle.text_listing.proofs.Whole.{kind-hard, kind-soft}
 use Rattle.text_listing.proofs.tail_kind.Statement.{statement}

@@ -1,4 +1,4 @@
--- `listing::tail_line` meets its contract: none, or kind and two numbers. Assumes nothing.
+-- `text_listing::tail_line` meets its contract: none, or kind and two numbers. Assumes nothing.
 use borrow.Author.Needs.{needs}
 use Rattle.text_listing.proofs.Whole.{tail-none, tail-shown}
 use Rattle.text_listing.proofs.tail_line.Statement.{statement}

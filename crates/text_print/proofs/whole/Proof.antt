@@ -1,4 +1,4 @@
--- `print::whole` meets its contract: it shows no more than there is, and answers whether it showed all. Assumes
+-- `text_print::whole` meets its contract: it shows no more than there is, and answers whether it showed all. Assumes
 -- nothing.
 use mathlib.Core.Path.{sym}
 use lib.ListN.{length}

@@ -1,4 +1,4 @@
--- `regular::Passing::check` meets its contract: the tests stand as they are. Assumes nothing.
+-- `commit_regular::Passing::check` meets its contract: the tests stand as they are. Assumes nothing.
 use mathlib.Core.Path.{refl}
 use Rattle.commit_regular.specs.Passing.{checking}
 use Rattle.commit_regular.proofs.Passing.check.Statement.{statement}

@@ -1,4 +1,4 @@
--- `regular::Passing::entry` meets its contract: once bad, or by what `counted` answers. Assumes nothing.
+-- `commit_regular::Passing::entry` meets its contract: once bad, or by what `counted` answers. Assumes nothing.
 use borrow.Author.Tests.{not-true, not-false}
 use Rattle.commit_regular.proofs.Settled.{stays-bad, goes-bad, goes-on}
 use borrow.Author.Needs.{needs}

@@ -1,4 +1,4 @@
--- `regular::Passing::start` meets its contract. Assumes nothing.
+-- `commit_regular::Passing::start` meets its contract. Assumes nothing.
 use mathlib.Core.Path.{refl}
 use Rattle.commit_regular.specs.Passing.{starts}
 use Rattle.commit_regular.proofs.Passing.start.Statement.{statement}

@@ -1,4 +1,4 @@
--- `walk::WalkState::begin` meets its contract: the record is the definition's. Assumes nothing.
+-- `fetch_walk::WalkState::begin` meets its contract: the record is the definition's. Assumes nothing.
 use Rattle.fetch_walk.specs.State.{takenNone, begun}
 use borrow.Author.Needs.{needs}
 use Rattle.fetch_walk.proofs.WalkState.begin.Statement.{statement}

@@ -1,4 +1,4 @@
--- `walk::WalkState::commit` meets its contract: the record is the definition's. Assumes nothing.
+-- `fetch_walk::WalkState::commit` meets its contract: the record is the definition's. Assumes nothing.
 use Rattle.fetch_walk.specs.State.{taking}
 use borrow.Author.Needs.{needs}
 use Rattle.fetch_walk.proofs.WalkState.commit.Statement.{statement}

@@ -1,4 +1,4 @@
--- `walk::WalkState::entry` meets its contract: the directory's step, and nothing else. Assumes nothing.
+-- `fetch_walk::WalkState::entry` meets its contract: the directory's step, and nothing else. Assumes nothing.
 use Rattle.fetch_walk.specs.State.{holding}
 use borrow.Author.Needs.{needs}
 use Rattle.fetch_walk.proofs.WalkState.entry.Statement.{statement}

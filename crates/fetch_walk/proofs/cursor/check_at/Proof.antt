@@ -1,5 +1,5 @@
--- `walk::cursor::check_at` meets its contract: the checksum stored differs from the checksum so far, or fits. Assumes
--- nothing.
+-- `fetch_walk::cursor::check_at` meets its contract: the checksum stored differs from the checksum so far, or fits.
+-- Assumes nothing.
 use Rattle.fetch_walk.proofs.Seen.{check-differs, check-cursor}
 use borrow.Author.Needs.{needs}
 use Rattle.fetch_walk.proofs.cursor.check_at.Statement.{statement}

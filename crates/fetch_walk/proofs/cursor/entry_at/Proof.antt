@@ -1,4 +1,4 @@
--- `walk::cursor::entry_at` meets its contract: the part that is summed is the entry's bytes. Assumes nothing.
+-- `fetch_walk::cursor::entry_at` meets its contract: the part that is summed is the entry's bytes. Assumes nothing.
 use Rattle.fetch_walk.proofs.Seen.{entry-cursor}
 use borrow.Author.Needs.{needs}
 use Rattle.fetch_walk.proofs.cursor.entry_at.Statement.{statement}

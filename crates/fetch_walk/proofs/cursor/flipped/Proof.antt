@@ -1,4 +1,4 @@
--- `walk::cursor::flipped` meets its contract: a valid tag has room for bit 31. Assumes nothing.
+-- `fetch_walk::cursor::flipped` meets its contract: a valid tag has room for bit 31. Assumes nothing.
 use mathlib.Core.Path.{refl}
 use Rattle.format.specs.Tag.{tagFlipped}
 use borrow.Author.Needs.{needs}

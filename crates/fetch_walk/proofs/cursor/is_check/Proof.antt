@@ -1,4 +1,4 @@
--- `walk::cursor::is_check` meets its contract: it is the test of the definition. Assumes nothing.
+-- `fetch_walk::cursor::is_check` meets its contract: it is the test of the definition. Assumes nothing.
 use mathlib.Core.Path.{ap}
 use Prim.Native.Nat.{ℕ}
 use lib.Dec.{eqb}

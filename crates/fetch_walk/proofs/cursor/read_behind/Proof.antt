@@ -1,4 +1,4 @@
--- `walk::cursor::read_behind` meets its contract, by the definition's cases. Assumes nothing.
+-- `fetch_walk::cursor::read_behind` meets its contract, by the definition's cases. Assumes nothing.
 use mathlib.Core.Path.{_≡_, sym, ap₂, _∙_}
 use mathlib.Core.Bool.{Bool, _||_}
 use Prim.Native.Nat.{ℕ}

@@ -1,4 +1,4 @@
--- `walk::cursor::tag_at` meets its contract, by the tests in order. Assumes nothing.
+-- `fetch_walk::cursor::tag_at` meets its contract, by the tests in order. Assumes nothing.
 use mathlib.Core.Path.{sym, _∙_}
 use native.Mathlib.Omega.{arith}
 use Rattle.format.proofs.Classes.{behind-check}

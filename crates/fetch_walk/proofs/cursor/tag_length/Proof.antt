@@ -1,4 +1,4 @@
--- `walk::cursor::tag_length` meets its contract: the length, and the longest that there is. Assumes nothing.
+-- `fetch_walk::cursor::tag_length` meets its contract: the length, and the longest that there is. Assumes nothing.
 use native.Mathlib.Omega.{arith}
 use Rattle.fetch_walk.proofs.Seen.{length-most}
 use borrow.Author.Needs.{needs}

@@ -1,5 +1,5 @@
--- `search::slice::copy_in` meets its contract. The loop's invariant: the first i bytes are the block's, the rest the
--- buffer's (`Fill.antt`). Assumes nothing.
+-- `lookup_search::slice::copy_in` meets its contract. The loop's invariant: the first i bytes are the block's, the rest
+-- the buffer's (`Fill.antt`). Assumes nothing.
 use mathlib.Core.Path.{_≡_, refl}
 use Prim.Native.Nat.{_≤_, _-_}
 use native.Mathlib.Omega.{arith}

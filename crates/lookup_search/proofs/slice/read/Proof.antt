@@ -1,4 +1,4 @@
--- `search::slice::read` meets its contract: what was found is what should be (`Slices.antt`). Assumes nothing.
+-- `lookup_search::slice::read` meets its contract: what was found is what should be (`Slices.antt`). Assumes nothing.
 use mathlib.Core.Path.{_∙_}
 use native.Mathlib.Omega.{arith}
 use lib.ListN.{length}

@@ -1,4 +1,4 @@
--- `search::slice::read_at` meets its contract: the test of the slice's end decides the definitions' case
+-- `lookup_search::slice::read_at` meets its contract: the test of the slice's end decides the definitions' case
 -- (`Slices.antt`). Assumes nothing.
 use Rattle.lookup_search.proofs.Slices.{slice-past, slice-in}
 use borrow.Author.Needs.{needs}

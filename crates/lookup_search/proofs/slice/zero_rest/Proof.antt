@@ -1,5 +1,5 @@
--- `search::slice::zero_rest` meets its contract. The loop's invariant: up to i the buffer is what it will be, behind it
--- as it was (`Fill.antt`). Assumes nothing.
+-- `lookup_search::slice::zero_rest` meets its contract. The loop's invariant: up to i the buffer is what it will be,
+-- behind it as it was (`Fill.antt`). Assumes nothing.
 use mathlib.Core.Path.{_≡_}
 use Prim.Native.Nat.{_≤_, _-_}
 use native.Mathlib.Omega.{arith}

@@ -1,4 +1,5 @@
--- `walk::cursor::Cursor::next` meets its contract: no room for a tag, or the tag that stands there. Assumes nothing.
+-- `fetch_walk::cursor::Cursor::next` meets its contract: no room for a tag, or the tag that stands there. Assumes
+-- nothing.
 use native.Mathlib.Omega.{arith}
 use Rattle.fetch_walk.proofs.Seen.{next-short, next-tag}
 use borrow.Author.Needs.{needs}

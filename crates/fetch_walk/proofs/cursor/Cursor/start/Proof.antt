@@ -1,4 +1,4 @@
--- `walk::cursor::Cursor::start` meets its contract: the record is the definition's. Assumes nothing.
+-- `fetch_walk::cursor::Cursor::start` meets its contract: the record is the definition's. Assumes nothing.
 use Rattle.fetch_walk.specs.Next.{startOf}
 use borrow.Author.Needs.{needs}
 use Rattle.fetch_walk.proofs.cursor.Cursor.start.Statement.{statement}

@@ -1,4 +1,4 @@
--- `walk::dir::DirState::empty` meets its contract: the record is the definition's. Assumes nothing.
+-- `fetch_walk::dir::DirState::empty` meets its contract: the record is the definition's. Assumes nothing.
 use mathlib.Core.Path.{refl}
 use Rattle.fetch_walk.specs.Dir.{emptyDir}
 use Rattle.fetch_walk.proofs.dir.DirState.empty.Statement.{statement}

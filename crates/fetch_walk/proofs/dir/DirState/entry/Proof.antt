@@ -1,4 +1,4 @@
--- `walk::dir::DirState::entry` meets its contract, by the tests in order. Assumes nothing.
+-- `fetch_walk::dir::DirState::entry` meets its contract, by the tests in order. Assumes nothing.
 use mathlib.Core.Path.{_≡_, refl, sym, _∙_}
 use native.Mathlib.Omega.{arith}
 use Rattle.format.specs.Tag.{tagType1}

@@ -1,4 +1,4 @@
--- `walk::dir::DirState::forward` meets its contract: two words. Assumes nothing.
+-- `fetch_walk::dir::DirState::forward` meets its contract: two words. Assumes nothing.
 use lib.Seq.{drop-drop}
 use Rattle.fetch_walk.specs.Dir.{forwarded}
 use borrow.Author.Needs.{needs}

@@ -1,4 +1,4 @@
--- `walk::dir::DirState::name` meets its contract: the larger of two counts. Assumes nothing.
+-- `fetch_walk::dir::DirState::name` meets its contract: the larger of two counts. Assumes nothing.
 use Rattle.fetch_walk.proofs.Steps.{name-more, name-same}
 use borrow.Author.Needs.{needs}
 use Rattle.fetch_walk.proofs.dir.DirState.name.Statement.{statement}

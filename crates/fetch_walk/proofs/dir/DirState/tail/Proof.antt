@@ -1,4 +1,4 @@
--- `walk::dir::DirState::tail` meets its contract: two words, and the chunk's low bit. Assumes nothing.
+-- `fetch_walk::dir::DirState::tail` meets its contract: two words, and the chunk's low bit. Assumes nothing.
 use lib.Seq.{drop-drop}
 use Rattle.fetch_walk.specs.Dir.{tailed}
 use borrow.Author.Needs.{needs}
