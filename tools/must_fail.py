@@ -8,6 +8,9 @@ fails, a contract of which no proof is found. Where the edited text is refused f
 its binders or its arguments, the edit says nothing: a right answer in that text would be refused too. rt counts both
 alike, so this reads what the prover said of each: FOLDER/CRATE/LABEL/.log.
 
+An edit may hold several wrong answers, each in a function of its own, so that a crate is checked once for all of them.
+Then each of these functions must be refused by a fact of its own.
+
 Errors that only follow from another are passed over. Of the others there are
 
   facts      an edit must have one
@@ -90,11 +93,49 @@ def kind(folder, at, name, said):
     return need_of(folder, at, name) or "fact"
 
 
-def verdict(folder):
+def function_at(text, place):
+    """The function of a source that a place in it belongs to."""
+    names = re.findall(r"\bfn (\w+)", text[:place])
+    return names[-1] if names else ""
+
+
+def edited(edit):
+    """The functions that an edit makes wrong, with their files."""
+    found, file = [], ""
+    crate = os.path.dirname(os.path.dirname(edit))
+    with open(edit, encoding="utf-8") as lines:
+        for line in lines.read().splitlines():
+            if line.startswith("file: "):
+                file = line[len("file: "):]
+            elif line.startswith("old: ") and file.startswith("src/"):
+                with open(os.path.join(crate, file), encoding="utf-8") as source:
+                    text, old = source.read(), line[len("old: "):]
+                found.append((file, function_at(text, text.find(old) + len(old))))
+    return found
+
+
+def function_of(folder, at):
+    """The function that an error is about: by its proof's folder, or by its line in the source."""
+    file, line = at.split(":")[:2]
+    if file.endswith("/Proof.antt"):
+        return os.path.basename(os.path.dirname(file))
+    if not file.startswith("src/"):
+        return ""
+    with open(os.path.join(folder, file), encoding="utf-8") as source:
+        lines = source.read().splitlines(keepends=True)
+    return function_at("".join(lines[:int(line)]), None)
+
+
+def verdict(folder, wrong):
     """What is to be said of an edit: '' where a fact refuses it, and else what the error is."""
-    kinds = {}
+    kinds, refused = {}, set()
     for at, name, said in errors(folder):
-        kinds.setdefault(kind(folder, at, name, said), f"{at}: {name}: {said.splitlines()[0][:400]}")
+        found = kind(folder, at, name, said)
+        kinds.setdefault(found, f"{at}: {name}: {said.splitlines()[0][:400]}")
+        refused |= {function_of(folder, at)} if found == "fact" else set()
+    alone = [name for _, name in wrong if name not in refused]
+    if len(wrong) > 1 and alone:
+        return "FAULT: of several wrong answers no fact refuses that of " + ", ".join(alone)
     if "rest" in kinds:
         return "FAULT: refused for its text or its list of needs, at " + kinds["rest"]
     if "fact" in kinds:
@@ -106,18 +147,26 @@ def verdict(folder):
     return "FAULT: no error is named"
 
 
+def source_of(edit, folder):
+    """The text of an edit, beside its crate."""
+    crate, label = os.path.relpath(edit, folder).split(os.sep)
+    return os.path.join(ROOT, "crates", crate, "must-fail", label + ".edit")
+
+
 def main(args):
     if len(args) > 1:
         sys.exit(__doc__)
     folder = os.path.abspath(args[0] if args else os.path.join(ROOT, "target", "must-fail"))
     edits = sorted(os.path.dirname(log) for log in glob.glob(os.path.join(folder, "*", "*", ".log")))
-    verdicts = [(os.path.relpath(edit, folder), verdict(edit)) for edit in edits]
+    answers = [edited(source_of(edit, folder)) for edit in edits]
+    verdicts = [(os.path.relpath(edit, folder), verdict(edit, wrong)) for edit, wrong in zip(edits, answers)]
     for edit, said in verdicts:
         if said:
             print(f"must-fail {edit}: {said}")
     faults = sum(said.startswith("FAULT") for _, said in verdicts)
     by_fact = sum(not said for _, said in verdicts)
-    print(f"must-fail edits: {len(edits)}, refused by a fact {by_fact}, faults {faults}")
+    tried = sum(max(1, len(wrong)) for wrong in answers)
+    print(f"must-fail edits: {len(edits)} with {tried} wrong answers, refused by a fact {by_fact}, faults {faults}")
     sys.exit(1 if faults or not edits else 0)
 
 
