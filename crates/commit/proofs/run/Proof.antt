@@ -42,7 +42,8 @@ use denote.Triple.Table.{entered, cited}
 use denote.Triple.Walked.{says, Stays, stay-none, stay-none-slice, stay-slice, walkOf, Walks, ends-at, walked, goes-none, goes-none-slice, goes-slice, walk-meets}
 use Rattle.commit_steps.specs.State.{trio}
 use Rattle.commit.specs.Passes.{eachOf, ranOf}
-use Rattle.commit_steps.specs.State.{begunOf, decidedOf, sealedOf}
+use Rattle.commit_steps.specs.State.{begunOf}
+use Rattle.commit_steps.specs.State.{decidedOf, sealedOf}
 use Rattle.commit.proofs.Again.{LentAgain, lends-at, comes-at, LentShared, shares-at, unshared-at}
 use Rattle.commit.proofs.Rules.{run-glue}
 use Rattle.format.specs.declared.Entry.{Entry}
