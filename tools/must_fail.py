@@ -115,15 +115,18 @@ def edited(edit):
 
 
 def function_of(folder, at):
-    """The function that an error is about: by its proof's folder, or by its line in the source."""
+    """The source file and function that an error is about: by its proof's folder, or by its line in the source."""
     file, line = at.split(":")[:2]
     if file.endswith("/Proof.antt"):
-        return os.path.basename(os.path.dirname(file))
+        parts = file.split("/")[1:-1] # the module, a type if it is a method, the function
+        module = os.path.join("src", parts[0] + ".rt")
+        inside = len(parts) > 1 and os.path.exists(os.path.join(folder, module))
+        return module if inside else os.path.join("src", "lib.rt"), parts[-1]
     if not file.startswith("src/"):
-        return ""
+        return "", ""
     with open(os.path.join(folder, file), encoding="utf-8") as source:
         lines = source.read().splitlines(keepends=True)
-    return function_at("".join(lines[:int(line)]), None)
+    return file, function_at("".join(lines[:int(line)]), None)
 
 
 def verdict(folder, wrong):
@@ -133,7 +136,7 @@ def verdict(folder, wrong):
         found = kind(folder, at, name, said)
         kinds.setdefault(found, f"{at}: {name}: {said.splitlines()[0][:400]}")
         refused |= {function_of(folder, at)} if found == "fact" else set()
-    alone = [name for _, name in wrong if name not in refused]
+    alone = [name for file, name in wrong if (file, name) not in refused]
     if len(wrong) > 1 and alone:
         return "FAULT: of several wrong answers no fact refuses that of " + ", ".join(alone)
     if "rest" in kinds:

@@ -1,48 +1,126 @@
 -- Demand 2: "the contracts decide": of any two results that a contract allows, equality is proved. Every clause of a
 -- public contract is an equation: the answer, or what stands in a buffer, a state or an image when the call returns, is
--- a definition of `format` applied to what the call was given. So one law decides each of them. That is all there is to
--- say of fetch, the lookups, the listing, the audit, the words, the state's XOR and the other leaves. The four calls
--- that write cite `format`'s `CommitLeaves` and its like for what they leave, beside the equation of the answer: of
--- those the law is applied here. Assumes nothing.
+-- a definition of `format` applied to what the call was given. So one law decides each, applied here to the definitions
+-- that the contracts of the calls cite. What the four writing calls leave in both images is one definition of `format`,
+-- which their contracts cite whole (`CommitLeaves` and its like), and of which the same is shown. Assumes nothing.
 use mathlib.Core.Path.{_≡_, sym, _∙_}
 use mathlib.Core.List.{List}
 use Prim.Native.Nat.{ℕ}
+use lib.ListN.{length}
+use Rattle.format.specs.Fetch.{fetchOf}
+use Rattle.format.specs.Lookup.{getsliceOf, getsliceBuffer, getOf, getBuffer, getinfoOf, getgstateOf, getgstateState}
+use Rattle.format.specs.Writer.{Images, unlimited, commitImages, commitOf, commitStoresOf}
+use Rattle.format.specs.Compaction.{compactImages, compactOf, compactStoresOf}
 use Rattle.format.specs.Stopped.{CommitLeaves, CommitStoresLeaves, CompactLeaves, CompactStoresLeaves}
-use Rattle.format.specs.Writer.{Images, unlimited, commitImages}
-use Rattle.format.specs.Compaction.{compactImages}
+use Rattle.format.specs.Listing.{listingOf, writtenTo}
+use Rattle.format.specs.Audit.{auditOf}
+use Rattle.format.specs.Bytes.{le32At, be32At, putAnswer, putLe32, putBe32}
+use Rattle.format.specs.Arith.{alignDown, alignUp}
+use Rattle.format.specs.Gstate.{gstateXor}
 use Rattle.format.specs.declared.Geometry.{Geometry}
+use Rattle.format.specs.declared.LfsMdir.{LfsMdir}
+use Rattle.format.specs.declared.LfsGstate.{LfsGstate}
 use Rattle.format.specs.declared.Entry.{Entry}
 
--- THE LAW: what is equal to one definition is equal.
-pub decided : {A : Type 0} {x y : A} (d : A) → x ≡ d → y ≡ d → x ≡ y
-decided d a b = a ∙ sym b
+-- what an equation with d says of two results
+abbrev pub Decides : {A : Type 0} → A → Type 0
+Decides {A} d = (x y : A) → x ≡ d → y ≡ d → x ≡ y
 
--- ---- the calls that write: what they leave in both images
+-- THE LAW: what is equal to one definition is equal.
+pub decided : {A : Type 0} (d : A) → Decides d
+decided d x y a b = a ∙ sym b
+
+-- both images of a call that writes
+abbrev pub BothDecided : (List ℕ → List ℕ → Type 0) → Type 0
+BothDecided Leaves = (x0 x1 y0 y1 : List ℕ) → Leaves x0 x1 → Leaves y0 y1 → (x0 ≡ y0) × (x1 ≡ y1)
+
+-- ---- fetch, and the calls that write: the answer, and both images afterwards
 module _ (g : Geometry) (b0 b1 : List ℕ) (n0 n1 count seed : ℕ) where
+  pub fetch-decided : Decides (fetchOf g b0 b1 n0 n1 count seed)
+  fetch-decided = decided (fetchOf g b0 b1 n0 n1 count seed)
+
   module _ (entries : List Entry) (dat : List ℕ) where
     abbrev left : ℕ → Images
     left n = commitImages g b0 b1 n0 n1 count seed entries dat n
 
-    pub commit-decided : (x0 x1 y0 y1 : List ℕ) → CommitLeaves g b0 b1 n0 n1 count seed entries dat x0 x1
-        → CommitLeaves g b0 b1 n0 n1 count seed entries dat y0 y1 → (x0 ≡ y0) × (x1 ≡ y1)
-    commit-decided x0 x1 y0 y1 a b =
-        (decided (left unlimited .b0) (a .0) (b .0), decided (left unlimited .b1) (a .1) (b .1))
+    pub commit-decided : Decides (commitOf g b0 b1 n0 n1 count seed entries dat)
+        × BothDecided (CommitLeaves g b0 b1 n0 n1 count seed entries dat)
+    commit-decided = (
+      decided (commitOf g b0 b1 n0 n1 count seed entries dat),
+      λ x0 x1 y0 y1 a b. (decided (left unlimited .b0) x0 y0 (a .0) (b .0), decided (left unlimited .b1) x1 y1 (a .1) (b .1)),
+    )
 
-    pub commit-stores-decided : (n : ℕ) (x0 x1 y0 y1 : List ℕ)
-        → CommitStoresLeaves g b0 b1 n0 n1 count seed entries dat n x0 x1
-        → CommitStoresLeaves g b0 b1 n0 n1 count seed entries dat n y0 y1 → (x0 ≡ y0) × (x1 ≡ y1)
-    commit-stores-decided n x0 x1 y0 y1 a b =
-        (decided (left n .b0) (a .0) (b .0), decided (left n .b1) (a .1) (b .1))
+    pub commit-stores-decided : (n : ℕ) → Decides (commitStoresOf g b0 b1 n0 n1 count seed entries dat n)
+        × BothDecided (CommitStoresLeaves g b0 b1 n0 n1 count seed entries dat n)
+    commit-stores-decided n = (
+      decided (commitStoresOf g b0 b1 n0 n1 count seed entries dat n),
+      λ x0 x1 y0 y1 a b. (decided (left n .b0) x0 y0 (a .0) (b .0), decided (left n .b1) x1 y1 (a .1) (b .1)),
+    )
 
   abbrev compacted : ℕ → Images
   compacted n = compactImages g b0 b1 n0 n1 count seed n
 
-  pub compact-decided : (x0 x1 y0 y1 : List ℕ) → CompactLeaves g b0 b1 n0 n1 count seed x0 x1
-      → CompactLeaves g b0 b1 n0 n1 count seed y0 y1 → (x0 ≡ y0) × (x1 ≡ y1)
-  compact-decided x0 x1 y0 y1 a b =
-      (decided (compacted unlimited .b0) (a .0) (b .0), decided (compacted unlimited .b1) (a .1) (b .1))
+  pub compact-decided : Decides (compactOf g b0 b1 n0 n1 count seed)
+      × BothDecided (CompactLeaves g b0 b1 n0 n1 count seed)
+  compact-decided = (
+    decided (compactOf g b0 b1 n0 n1 count seed),
+    λ x0 x1 y0 y1 a b. (
+      decided (compacted unlimited .b0) x0 y0 (a .0) (b .0),
+      decided (compacted unlimited .b1) x1 y1 (a .1) (b .1),
+    ),
+  )
 
-  pub compact-stores-decided : (n : ℕ) (x0 x1 y0 y1 : List ℕ) → CompactStoresLeaves g b0 b1 n0 n1 count seed n x0 x1
-      → CompactStoresLeaves g b0 b1 n0 n1 count seed n y0 y1 → (x0 ≡ y0) × (x1 ≡ y1)
-  compact-stores-decided n x0 x1 y0 y1 a b =
-      (decided (compacted n .b0) (a .0) (b .0), decided (compacted n .b1) (a .1) (b .1))
+  pub compact-stores-decided : (n : ℕ) → Decides (compactStoresOf g b0 b1 n0 n1 count seed n)
+      × BothDecided (CompactStoresLeaves g b0 b1 n0 n1 count seed n)
+  compact-stores-decided n = (
+    decided (compactStoresOf g b0 b1 n0 n1 count seed n),
+    λ x0 x1 y0 y1 a b. (decided (compacted n .b0) x0 y0 (a .0) (b .0), decided (compacted n .b1) x1 y1 (a .1) (b .1)),
+  )
+
+-- ---- the lookups: the answer, and the buffer or the state afterwards
+module _ (g : Geometry) (b0 b1 : List ℕ) (n0 n1 : ℕ) (dir : LfsMdir) (gdisk : LfsGstate) where
+  pub getslice-decided : (mask key offset : ℕ) (buffer : List ℕ)
+      → Decides (getsliceOf g b0 b1 n0 n1 dir gdisk mask key offset buffer)
+      × Decides (getsliceBuffer g b0 b1 n0 n1 dir gdisk mask key offset buffer)
+  getslice-decided mask key offset buffer = (
+    decided (getsliceOf g b0 b1 n0 n1 dir gdisk mask key offset buffer),
+    decided (getsliceBuffer g b0 b1 n0 n1 dir gdisk mask key offset buffer),
+  )
+
+  pub get-decided : (mask key : ℕ) (buffer : List ℕ) → Decides (getOf g b0 b1 n0 n1 dir gdisk mask key buffer)
+      × Decides (getBuffer g b0 b1 n0 n1 dir gdisk mask key buffer)
+  get-decided mask key buffer = (
+    decided (getOf g b0 b1 n0 n1 dir gdisk mask key buffer),
+    decided (getBuffer g b0 b1 n0 n1 dir gdisk mask key buffer),
+  )
+
+  pub getinfo-decided : (nameMax id : ℕ) → Decides (getinfoOf g b0 b1 n0 n1 dir gdisk nameMax id)
+  getinfo-decided nameMax id = decided (getinfoOf g b0 b1 n0 n1 dir gdisk nameMax id)
+
+  pub getgstate-decided : (gstate : LfsGstate) → Decides (getgstateOf g b0 b1 n0 n1 dir gdisk)
+      × Decides (getgstateState g b0 b1 n0 n1 dir gdisk gstate)
+  getgstate-decided gstate = (
+    decided (getgstateOf g b0 b1 n0 n1 dir gdisk),
+    decided (getgstateState g b0 b1 n0 n1 dir gdisk gstate),
+  )
+
+-- ---- the texts: the length, and the buffer afterwards
+pub list-decided : (input out : List ℕ) → Decides (length (listingOf input)) × Decides (writtenTo out (listingOf input))
+list-decided input out = (decided (length (listingOf input)), decided (writtenTo out (listingOf input)))
+
+pub audit-decided : (input out : List ℕ) → Decides (length (auditOf input)) × Decides (writtenTo out (auditOf input))
+audit-decided input out = (decided (length (auditOf input)), decided (writtenTo out (auditOf input)))
+
+-- ---- words at an offset, alignment, the state's XOR
+pub words-decided : (s : List ℕ) (off : ℕ) → Decides (le32At s off) × Decides (be32At s off)
+words-decided s off = (decided (le32At s off), decided (be32At s off))
+
+pub puts-decided : (s : List ℕ) (off v : ℕ) → Decides (putAnswer s off) × Decides (putLe32 s off v)
+    × Decides (putBe32 s off v)
+puts-decided s off v = (decided (putAnswer s off), decided (putLe32 s off v), decided (putBe32 s off v))
+
+pub aligned-decided : (a alignment : ℕ) → Decides (alignDown a alignment) × Decides (alignUp a alignment)
+aligned-decided a alignment = (decided (alignDown a alignment), decided (alignUp a alignment))
+
+pub xor-decided : (a b : LfsGstate) → Decides (gstateXor a b)
+xor-decided a b = decided (gstateXor a b)
