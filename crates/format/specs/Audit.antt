@@ -11,6 +11,8 @@ use Rattle.format.specs.Log.{log}
 use Rattle.format.specs.Regular.{Regular}
 use Rattle.format.specs.Directory.{Load, Slot, dirOf}
 use Rattle.format.specs.Listing.{ascii, decimal, nameBytes, numberLine, refusedLine, fetchInput, fetchedText}
+use Rattle.format.specs.Listing.{inputProg, inputPair}
+use Rattle.format.specs.declared.LfsPair.{LfsPair}
 use Rattle.format.specs.declared.LfsMdir.{LfsMdir}
 use Rattle.format.specs.declared.Refusal.the-variants.{Irregular}
 
@@ -80,5 +82,9 @@ slotsAudit D = auditLines 0 D ++ totalLines (tally lacksDeadline D) (tally lacks
 unfoldable pub blockAudit : LfsMdir → List ℕ → List ℕ
 blockAudit m b = cond (Regular (log b)) (slotsAudit (dirOf (log b))) (refusedLine Irregular)
 
+-- the audit of a pair of that program size, whose blocks have those numbers; and of an input as the listing takes it
+abbrev pub auditAs : ℕ → LfsPair → List ℕ → List ℕ
+auditAs prog p input = fetchedText blockAudit p input (fetchInput prog p input)
+
 abbrev pub auditOf : List ℕ → List ℕ
-auditOf input = fetchedText blockAudit input (fetchInput input)
+auditOf input = auditAs inputProg inputPair input

@@ -34,6 +34,7 @@ pub mod Compaction
 -- Demand 3: what a pair holds, as a machine, and what both calls leave when they are stopped.
 pub mod Machine
 pub mod Stopped
--- The listing's text.
+-- The texts: the listing, the audit, the raw log.
 pub mod Listing
 pub mod Audit
+pub mod RawLog

@@ -144,24 +144,36 @@ dirLines b = cond (Regular (log b)) (slotLines 0 (dirOf (log b))) (refusedLine I
 unfoldable pub blockText : LfsMdir → List ℕ → List ℕ
 blockText m b = recordLines m ++ dirLines b
 
--- what fetch answers for an input: "block size is half the length, program size 16, numbers 0 and 1, block count 0,
--- seed 0; an odd length or one above 65,536 is -22"
-abbrev pub inputGeometry : ℕ → Geometry
-inputGeometry size = record { «block_size» = size; «prog_size» = 16 }
+-- What fetch answers for an input, both images one behind the other: "block size is half the length, .. block count 0,
+-- seed 0; an odd length or one above 65,536 is -22". The program size and the two block numbers are given.
+abbrev pub inputGeometry : ℕ → ℕ → Geometry
+inputGeometry prog size = record { «block_size» = size; «prog_size» = prog }
 
-unfoldable pub fetchInput : List ℕ → Fetched
-fetchInput input =
+unfoldable pub fetchInput : ℕ → LfsPair → List ℕ → Fetched
+fetchInput prog p input =
     cond (eqb (length input % 2) 1 || ltb 65_536 (length input)) (Refused Invalid)
-    (fetchOf (inputGeometry (length input / 2)) (take (length input / 2) input) (drop (length input / 2) input) 0 1 0 0)
+    (fetchOf (inputGeometry prog (length input / 2)) (take (length input / 2) input) (drop (length input / 2) input)
+    (p .n0) (p .n1) 0 0)
 
 -- the text of what fetch answered: a refusal's line, or what `shows` says of the record and of the block that answers
-abbrev pub fetchedText : (LfsMdir → List ℕ → List ℕ) → List ℕ → Fetched → List ℕ
-fetchedText shows input (Refused r) = refusedLine r
-fetchedText shows input (Found m s) =
-    shows m (blockAt (isSecond 0 m) (take (length input / 2) input) (drop (length input / 2) input))
+abbrev pub fetchedText : (LfsMdir → List ℕ → List ℕ) → LfsPair → List ℕ → Fetched → List ℕ
+fetchedText shows p input (Refused r) = refusedLine r
+fetchedText shows p input (Found m s) =
+    shows m (blockAt (isSecond (p .n0) m) (take (length input / 2) input) (drop (length input / 2) input))
+
+-- the listing of a pair of that program size, whose blocks have those numbers
+abbrev pub listingAs : ℕ → LfsPair → List ℕ → List ℕ
+listingAs prog p input = fetchedText blockText p input (fetchInput prog p input)
+
+-- document 01's own: "program size 16, numbers 0 and 1"
+abbrev pub inputProg : ℕ
+inputProg = 16
+
+abbrev pub inputPair : LfsPair
+inputPair = record { n0 = 0; n1 = 1 }
 
 abbrev pub listingOf : List ℕ → List ℕ
-listingOf input = fetchedText blockText input (fetchInput input)
+listingOf input = listingAs inputProg inputPair input
 
 -- what is left in a buffer that the text was written to: the text as far as there is room, and behind it what was there
 abbrev pub writtenTo : List ℕ → List ℕ → List ℕ
