@@ -17,6 +17,7 @@ use Rattle.format.specs.Regular.{Regular}
 use Rattle.format.specs.Writer.{blockAt, isSecond}
 use Rattle.format.specs.Listing.{ascii, numberLine}
 use Rattle.format.specs.Listing.{refusedLine, inputGeometry, fetchInput, fetchedText}
+use Rattle.format.specs.declared.LfsPair.{LfsPair}
 use Rattle.format.specs.declared.LfsMdir.{LfsMdir}
 use Rattle.format.specs.declared.Refusal.{Refusal}
 use Rattle.format.specs.declared.Refusal.the-variants.{Invalid}
@@ -62,8 +63,9 @@ cut-front n l =
 cut-back : (n : ℕ) (l : List ℕ) → take (length l - n) (drop n l) ≡ drop n l
 cut-back n l = take-all (length l - n) (drop n l) (omega (arith, length-drop n l))
 
--- ---- an input: its half, and its two images as the definition and as the code cut them
-module _ (input : List ℕ) where
+-- ---- an input, with its program size and its block numbers: its half, and its two images as the definition and as the
+-- code cut them
+module _ (prog : ℕ) (p : LfsPair) (input : List ℕ) where
   abbrev half : ℕ
   half = length input / 2
 
@@ -79,52 +81,56 @@ module _ (input : List ℕ) where
   abbrev rest : List ℕ
   rest = take (length input - half) (drop half input)
 
-  abbrev fetched′ : Fetched
-  fetched′ = fetchOf (inputGeometry half) b0 b1 0 1 0 0
+  -- what fetch answers for two images of this size, and what is shown of the input
+  abbrev fetches : List ℕ → List ℕ → Fetched
+  fetches x y = fetchOf (inputGeometry prog half) x y (p .n0) (p .n1) 0 0
+
+  abbrev shownBy : (LfsMdir → List ℕ → List ℕ) → List ℕ
+  shownBy shows = fetchedText shows p input (fetchInput prog p input)
 
   -- ---- the tests of the length
-  pub input-odd : length input % 2 ≡ 1 → fetched.Refused Invalid ≡ fetchInput input
+  pub input-odd : length input % 2 ≡ 1 → fetched.Refused Invalid ≡ fetchInput prog p input
   unfolding fetchInput
   input-odd h = rw (eq-eqb (length input % 2) 1 h)
 
   module _ (even : length input % 2 ≡ 1 → ⊥) where
-    pub input-long : 65_536 < length input → fetched.Refused Invalid ≡ fetchInput input
+    pub input-long : 65_536 < length input → fetched.Refused Invalid ≡ fetchInput prog p input
     unfolding fetchInput
     input-long h = rw (ne-eqb (length input % 2) 1 even, lt-ltb 65_536 (length input) h)
 
-    pub input-fetched : length input ≤ 65_536 → (r : Fetched) → r ≡ fetchOf (inputGeometry half) front rest 0 1 0 0
-        → r ≡ fetchInput input
+    pub input-fetched : length input ≤ 65_536 → (r : Fetched) → r ≡ fetches front rest → r ≡ fetchInput prog p input
     unfolding fetchInput
     input-fetched h r er =
         rw (ne-eqb (length input % 2) 1 even, le-ltb 65_536 (length input) h)
-        (er ∙ ap₂ (λ (x y : List ℕ). fetchOf (inputGeometry half) x y 0 1 0 0) (cut-front half input)
-        (cut-back half input))
+        (er ∙ ap₂ fetches (cut-front half input) (cut-back half input))
 
   -- what is found is found by fetch
-  found-fetched : (m : LfsMdir) (k : ℕ) → fetched.Found m k ≡ fetchInput input → fetched.Found m k ≡ fetched′
+  found-fetched : (m : LfsMdir) (k : ℕ) → fetched.Found m k ≡ fetchInput prog p input
+      → fetched.Found m k ≡ fetches b0 b1
   unfolding fetchInput
   found-fetched m k f = go (eqb (length input % 2) 1 || ltb 65_536 (length input)) f
     where
-      go : (x : Bool) → fetched.Found m k ≡ cond x (fetched.Refused Invalid) fetched′ → fetched.Found m k ≡ fetched′
+      go : (x : Bool) → fetched.Found m k ≡ cond x (fetched.Refused Invalid) (fetches b0 b1)
+          → fetched.Found m k ≡ fetches b0 b1
       go true e = cc e
       go false e = e
 
   -- ---- the text, by what fetch answered; `shows` is what is said of a record and its block
   module _ (shows : LfsMdir → List ℕ → List ℕ) (s r : Text) where
-    pub shown-refused : (x : Refusal) → fetched.Refused x ≡ fetchInput input → r ≡ putsOf s (refusedLine x)
-        → r ≡ putsOf s (fetchedText shows input (fetchInput input))
+    pub shown-refused : (x : Refusal) → fetched.Refused x ≡ fetchInput prog p input → r ≡ putsOf s (refusedLine x)
+        → r ≡ putsOf s (shownBy shows)
     shown-refused x f er = rw (← f) er
 
-    shown-found : (m : LfsMdir) (k : ℕ) → fetched.Found m k ≡ fetchInput input → (w : Bool) → isSecond 0 m ≡ w
-        → r ≡ putsOf s (shows m (blockAt w b0 b1)) → r ≡ putsOf s (fetchedText shows input (fetchInput input))
+    shown-found : (m : LfsMdir) (k : ℕ) → fetched.Found m k ≡ fetchInput prog p input → (w : Bool)
+        → isSecond (p .n0) m ≡ w → r ≡ putsOf s (shows m (blockAt w b0 b1)) → r ≡ putsOf s (shownBy shows)
     shown-found m k f w e er = rw (← f, e) er
 
-  module _ (m : LfsMdir) (k : ℕ) (f : fetched.Found m k ≡ fetchInput input) where
-    listable : (w : Bool) → isSecond 0 m ≡ w → Listable (blockAt w b0 b1) m
+  module _ (m : LfsMdir) (k : ℕ) (f : fetched.Found m k ≡ fetchInput prog p input) where
+    listable : (w : Bool) → isSecond (p .n0) m ≡ w → Listable (blockAt w b0 b1) m
     listable w e =
-        let found : fetched.Found m k ≡ fetched′ = found-fetched m k f in
-        let z = found-sized (inputGeometry half) b0 b1 0 1 0 0 m k (sym found) in
-        let a = found-reads (inputGeometry half) b0 b1 0 1 0 0 m k (sym found) in
+        let found : fetched.Found m k ≡ fetches b0 b1 = found-fetched m k f in
+        let z = found-sized (inputGeometry prog half) b0 b1 (p .n0) (p .n1) 0 0 m k (sym found) in
+        let a = found-reads (inputGeometry prog half) b0 b1 (p .n0) (p .n1) 0 0 m k (sym found) in
         let same : a .w ≡ w = sym (a .place) ∙ e in
         rw (← same)
         (record {
@@ -135,32 +141,32 @@ module _ (input : List ℕ) where
           count′ = a .count′;
         })
       where
-        long : (v : Bool) → Sized (inputGeometry half) b0 b1 → length (blockAt v b0 b1) ≡ half
+        long : (v : Bool) → Sized (inputGeometry prog half) b0 b1 → length (blockAt v b0 b1) ≡ half
         long false z = z .first
         long true z = z .second
 
     -- the first block answers
-    module _ (h : m .pair .n0 ≡ 0) where
-      is-first : isSecond 0 m ≡ false
-      is-first = ap not (eq-eqb (m .pair .n0) 0 h)
+    module _ (h : m .pair .n0 ≡ p .n0) where
+      is-first : isSecond (p .n0) m ≡ false
+      is-first = ap not (eq-eqb (m .pair .n0) (p .n0) h)
 
       pub first-listable : Listable front m
       first-listable = rw (cut-front half input) (listable false is-first)
 
       pub shown-first : (shows : LfsMdir → List ℕ → List ℕ) (s r : Text) → r ≡ putsOf s (shows m front)
-          → r ≡ putsOf s (fetchedText shows input (fetchInput input))
+          → r ≡ putsOf s (shownBy shows)
       shown-first shows s r er = shown-found shows s r m k f false is-first
           (er ∙ ap (λ (b : List ℕ). putsOf s (shows m b)) (cut-front half input))
 
     -- the second block answers
-    module _ (h : m .pair .n0 ≡ 0 → ⊥) where
-      is-second : isSecond 0 m ≡ true
-      is-second = ap not (ne-eqb (m .pair .n0) 0 h)
+    module _ (h : m .pair .n0 ≡ p .n0 → ⊥) where
+      is-second : isSecond (p .n0) m ≡ true
+      is-second = ap not (ne-eqb (m .pair .n0) (p .n0) h)
 
       pub second-listable : Listable rest m
       second-listable = rw (cut-back half input) (listable true is-second)
 
       pub shown-second : (shows : LfsMdir → List ℕ → List ℕ) (s r : Text) → r ≡ putsOf s (shows m rest)
-          → r ≡ putsOf s (fetchedText shows input (fetchInput input))
+          → r ≡ putsOf s (shownBy shows)
       shown-second shows s r er = shown-found shows s r m k f true is-second
           (er ∙ ap (λ (b : List ℕ). putsOf s (shows m b)) (cut-back half input))

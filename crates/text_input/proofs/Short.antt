@@ -15,6 +15,7 @@ use Rattle.format.specs.Listing.{ascii, decimalDigit, decimalIn, decimal, hexBy
 use Rattle.format.specs.Listing.{nameBytes, numberLine}
 use Rattle.format.specs.Listing.{integer, refusedLine}
 use Rattle.format.specs.Listing.{fetchedText}
+use Rattle.format.specs.declared.LfsPair.{LfsPair}
 use Rattle.format.specs.declared.LfsMdir.{LfsMdir}
 use Rattle.format.specs.declared.Refusal.{Refusal}
 use Rattle.format.specs.declared.Fetched.{Fetched}
@@ -78,7 +79,7 @@ slot-loads s ok c = go (s c) refl
 
 -- a text is short if what is said of each block is
 pub fetched-short : (shows : LfsMdir → List ℕ → List ℕ) → ((m : LfsMdir) (b : List ℕ) → length (shows m b) < 2 ^ 32)
-    → (input : List ℕ) (f : Fetched) → length (fetchedText shows input f) < 2 ^ 32
-fetched-short shows h input (fetched.Refused r) = omega (arith, refused-short r)
-fetched-short shows h input (fetched.Found m s) =
-    h m (blockAt (isSecond 0 m) (take (length input / 2) input) (drop (length input / 2) input))
+    → (p : LfsPair) (input : List ℕ) (f : Fetched) → length (fetchedText shows p input f) < 2 ^ 32
+fetched-short shows h p input (fetched.Refused r) = omega (arith, refused-short r)
+fetched-short shows h p input (fetched.Found m s) =
+    h m (blockAt (isSecond (p .n0) m) (take (length input / 2) input) (drop (length input / 2) input))

@@ -6,12 +6,13 @@ ghost use Rattle.text.specs.Put.{text, putsOf};
 ghost use Rattle.text_input.specs.Input.{Numbers};
 use format::Fetched;
 use format::Geometry;
+use format::LfsPair;
 use format::Refusal;
 
-// What fetch answers for both images, one behind the other: "block size is half the length, program size 16, numbers 0
-// and 1, block count 0, seed 0; an odd length or one above 65,536 is -22".
-pub fn fetch_input(input: &[u8]) -> Fetched
-    ensures { λ r. ⌜ r ≡ fetchInput (now (input .entry)) ⌝ }
+// What fetch answers for both images, one behind the other: "block size is half the length, .. block count 0, seed 0;
+// an odd length or one above 65,536 is -22". The program size and the two block numbers are given.
+pub fn fetch_input(prog_size: u32, numbers: LfsPair, input: &[u8]) -> Fetched
+    ensures { λ r. ⌜ r ≡ fetchInput «prog_size» numbers (now (input .entry)) ⌝ }
 {
     let n = input.len();
     if n % 2 == 1 {
@@ -23,9 +24,17 @@ pub fn fetch_input(input: &[u8]) -> Fetched
     let half = n / 2;
     let g = Geometry {
         block_size: half as u32,
-        prog_size: 16,
+        prog_size: prog_size,
     };
-    fetch::lfs_dir_fetch(g, &input[0..half], &input[half..], 0, 1, 0, 0)
+    fetch::lfs_dir_fetch(
+        g,
+        &input[0..half],
+        &input[half..],
+        numbers.n0,
+        numbers.n1,
+        0,
+        0,
+    )
 }
 
 // The number of a refusal, without its sign.

@@ -6,13 +6,13 @@ use Rattle.text_input.proofs.fetch_input.Statement.{statement}
 use Rattle.text_input.proofs.fetch_input.Tie as tie
 
 returns : tie.Need-returns
-returns c = input-odd (c .before .before .args .input .now) (c .if1 .taken)
+returns c = input-odd _ _ (c .before .before .args .input .now) (c .if1 .taken)
 
 returns-2 : tie.Need-returns-2
-returns-2 c = input-long (c .before .before .before .args .input .now) (c .before .if1 .left) (c .if2 .taken)
+returns-2 c = input-long _ _ (c .before .before .before .args .input .now) (c .before .if1 .left) (c .if2 .taken)
 
 returns-3 : tie.Need-returns-3
-returns-3 c = input-fetched (c .before .before .before .before .before .before .args .input .now)
+returns-3 c = input-fetched _ _ (c .before .before .before .before .before .before .args .input .now)
     (c .before .before .before .before .if1 .left) (c .before .before .before .if2 .left) _ (c .lfs-dir-fetch .ensures)
 
 pub fetch-input-spec : {M : Type 1} → statement M
