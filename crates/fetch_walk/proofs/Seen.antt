@@ -151,12 +151,14 @@ pub record EntrySeen (b : List ℕ) (c : Cursor) (t : ℕ) (d : Cursor) : Type 0
   pub plain : isCheck t ≡ false
   pub end : d .at ≡ c .at + tagLength t
   pub prev : d .prev ≡ t
+  pub sum : d .sum ≡ crc (c .sum) (take (tagLength t) (drop (c .at) b))
 
 pub record CheckSeen (b : List ℕ) (c : Cursor) (d : Cursor) : Type 0 where
   pub whole : Whole (tagAt b c) (length (drop (c .at) b))
   pub is : isCheck (tagAt b c) ≡ true
   pub end : d .at ≡ c .at + tagLength (tagAt b c)
   pub prev : d .prev ≡ tagFlipped (tagAt b c)
+  pub sum : d .sum ≡ allOnes
 
 apart : {A : Type 0} → _≡_ {A = ℕ} 0 1 → A
 apart e = absurd (omega arith)
@@ -192,6 +194,8 @@ module _ (b : List ℕ) (c : Cursor) where
             plain = rw eu at (w .1);
             end = sym (ap (λ (y : Cursor). y .at) ed) ∙ ap (λ (y : ℕ). c .at + tagLength y) eu;
             prev = sym (ap (λ (y : Cursor). y .prev) ed) ∙ eu;
+            sum = sym (ap (λ (y : Cursor). y .sum) ed)
+                ∙ ap (λ (y : ℕ). crc (c .sum) (take (tagLength y) rest)) eu;
           }
 
   pub check-seen : {x : ℕ} {d : Cursor} → nextOf b c ≡ Check x d → CheckSeen b c d
@@ -214,4 +218,5 @@ module _ (b : List ℕ) (c : Cursor) where
                 is = w .1;
                 end = sym (ap (λ (y : Cursor). y .at) ed);
                 prev = sym (ap (λ (y : Cursor). y .prev) ed);
+                sum = sym (ap (λ (y : Cursor). y .sum) ed);
               }

@@ -91,20 +91,22 @@ tagName t = cond (isCheck t) (ascii "ccrc        ") (nameIn typeNames (tagType3 
 abbrev pub heading : List ℕ
 heading = ascii "off       tag       type name          id  len  data\n"
 
+unfoldable pub typeColumns : ℕ → List ℕ
+typeColumns t = hexType (tagType3 t) ++ (ascii "  " ++ (tagName t ++ (idColumn t ++ (ascii " " ++ sizeColumn t))))
+
 unfoldable pub tagColumns : ℕ → ℕ → List ℕ
-tagColumns at t =
-    hexWord at
-    ++ (ascii ": "
-    ++ (hexWord t
-    ++ (ascii "  "
-    ++ (hexType (tagType3 t) ++ (ascii "  " ++ (tagName t ++ (idColumn t ++ (ascii " " ++ sizeColumn t))))))))
+tagColumns at t = hexWord at ++ (ascii ": " ++ (hexWord t ++ (ascii "  " ++ typeColumns t)))
 
 -- ---- data: in hex, and as letters where they are letters
--- n places for bytes, each of three columns; blank where there is none
+-- the first byte in three columns; blank where there is none
+unfoldable pub cell : List ℕ → List ℕ
+cell [] = ascii "   "
+cell (b ∷ l) = hexByte b ++ ascii " "
+
+-- n bytes
 unfoldable pub hexCells : ℕ → List ℕ → List ℕ
 hexCells zero l = []
-hexCells (suc n) [] = ascii "   " ++ hexCells n []
-hexCells (suc n) (b ∷ l) = (hexByte b ++ ascii " ") ++ hexCells n l
+hexCells (suc n) l = cell l ++ hexCells n (drop 1 l)
 
 unfoldable pub letter : ℕ → ℕ
 letter b = cond (leb 0x20 b && leb b 0x7e) b 0x2e
@@ -209,13 +211,16 @@ blockLog full n b =
 
 -- ---- the whole text
 -- which block answers
-unfoldable pub answerLine : Fetched → List ℕ
-answerLine (Refused r) = refusedLine r
-answerLine (Found m s) = ascii "block " ++ (decimal (m .pair .n0) ++ ascii " answers\n")
+unfoldable pub answersLine : ℕ → List ℕ
+answersLine n = ascii "block " ++ (decimal n ++ ascii " answers\n")
 
--- "Block size 128 to 32,768": an input that can't be two such blocks is refused, and nothing of it is shown.
-unfoldable pub isShown : List ℕ → Bool
-isShown input = eqb (length input % 2) 0 && leb 256 (length input) && leb (length input) 65_536
+abbrev pub answerLine : Fetched → List ℕ
+answerLine (Refused r) = refusedLine r
+answerLine (Found m s) = answersLine (m .pair .n0)
+
+-- "Block size 128 to 32,768": an input of a length that can't be two such blocks is refused, and nothing of it is shown.
+unfoldable pub isShown : ℕ → Bool
+isShown len = eqb (len % 2) 0 && leb 256 len && leb len 65_536
 
 unfoldable pub blockLogs : Bool → LfsPair → List ℕ → List ℕ
 blockLogs full p input = blockLog full (p .n0) (take (length input / 2) input)
@@ -223,4 +228,4 @@ blockLogs full p input = blockLog full (p .n0) (take (length input / 2) input)
 
 -- the raw log of a pair of that program size, whose blocks have those numbers
 abbrev pub rawLogOf : Bool → ℕ → LfsPair → List ℕ → List ℕ
-rawLogOf full prog p input = cond (isShown input) (blockLogs full p input) [] ++ answerLine (fetchInput prog p input)
+rawLogOf full prog p input = cond (isShown (length input)) (blockLogs full p input) [] ++ answerLine (fetchInput prog p input)

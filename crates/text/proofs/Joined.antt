@@ -36,6 +36,10 @@ puts-none s = refl
 pub join : (s t u : Text) (xs ys : List ℕ) → t ≡ putsOf s xs → u ≡ putsOf t ys → u ≡ putsOf s (xs ++ ys)
 join s t u xs ys et eu = eu ∙ ap (λ (z : Text). putsOf z ys) et ∙ puts-app xs ys s
 
+-- a part by another name
+pub same-part : (s r : Text) (xs ys : List ℕ) → xs ≡ ys → r ≡ putsOf s xs → r ≡ putsOf s ys
+same-part s r xs ys e er = er ∙ ap (putsOf s) e
+
 -- ---- a loop over bytes: f shows one of them, F all; a is where all of them end
 module _ (F : List ℕ → List ℕ) (f : ℕ → List ℕ) (bytes : List ℕ) where
   pub each-more : ((b : ℕ) (bs : List ℕ) → F (b ∷ bs) ≡ f b ++ F bs) → (i : ℕ) (a s r : Text) → i < length bytes

@@ -4,10 +4,11 @@
 ghost use mathlib.Core.Path.{_≡_};
 ghost use Rattle.format.specs.Listing.{decimalIn, decimal, hexDigit, hexByte, hexBytes, hexType, isPlain, nameByte};
 ghost use Rattle.format.specs.Listing.{nameBytes, numberLine};
+ghost use Rattle.format.specs.RawLog.{hexWord};
 ghost use Rattle.text.specs.Put.{text, putOf, putsOf};
 
 // One byte.
-fn put(out: &mut [u8], at: u32, x: u8) -> u32
+pub fn put(out: &mut [u8], at: u32, x: u8) -> u32
     ensures { λ r. ⌜ text r (now (out .exit)) ≡ putOf (text at (now (out .entry))) x ⌝ }
 {
     let next = std::num::wrapping_add_u32(at, 1);
@@ -66,7 +67,7 @@ fn hex_digit(n: u32) -> u8
 }
 
 // A byte in hex.
-fn hex_byte(out: &mut [u8], at: u32, b: u8) -> u32
+pub fn hex_byte(out: &mut [u8], at: u32, b: u8) -> u32
     ensures { λ r. ⌜ text r (now (out .exit)) ≡ putsOf (text at (now (out .entry))) (hexByte b) ⌝ }
 {
     let digits = [hex_digit(b as u32 / 16), hex_digit(b as u32)];
@@ -84,6 +85,14 @@ pub fn hex_bytes(out: &mut [u8], at: u32, bytes: &[u8]) -> u32
         i += 1;
     }
     n
+}
+
+// A word in hex, eight digits.
+pub fn hex_word(out: &mut [u8], at: u32, n: u32) -> u32
+    ensures { λ r. ⌜ text r (now (out .exit)) ≡ putsOf (text at (now (out .entry))) (hexWord n) ⌝ }
+{
+    let bytes = word::be_bytes(n);
+    hex_bytes(out, at, &bytes)
 }
 
 // A type in hex, three digits.

@@ -1,0 +1,12 @@
+-- The events of a walk from a cursor on, as text. Assumes nothing.
+use mathlib.Core.Bool.{Bool, _&&_}
+use mathlib.Core.List.{List}
+use Prim.Native.Nat.{ℕ, _%_}
+use lib.ListN.{drop}
+use lib.Dec.{leb, eqb}
+use Rattle.format.specs.RawLog.{eventTexts}
+use Rattle.fetch_walk.specs.State.{from}
+use Rattle.fetch_walk.specs.declared.cursor.Cursor.{Cursor}
+
+unfoldable pub textsFrom : Bool → List ℕ → Cursor → List ℕ
+textsFrom full b c = eventTexts full (c .at) (c .prev) (c .sum) (drop (c .at) b) (from b c)
