@@ -1,18 +1,27 @@
-// The audit as a program: both images of a pair on standard input, one behind the other, as the program `list` takes
-// them; the text on standard output.
+// The audit as a program: both images of a pair on standard input, one behind the other, and the arguments, as the
+// program `list` takes them; the text on standard output.
+use format::LfsPair;
 use libc::STDIN_FILENO;
+use text_args::Request;
 
 // The buffer has room for every text. A slot with a line has a create and a deadline, or a create and a struct of one
 // byte or more: eight bytes at least, and its line without the name has at most 24. A byte of a name shows at most
 // four. So a block of 32,768 bytes shows at most 4 * 32,768, and the three lines behind have at most 89 bytes.
-fn show(pair: &[u8]) {
+fn show(prog_size: u32, numbers: LfsPair, pair: &[u8]) {
     let mut text = [0u8; 131_200];
-    let n = text_audit::lfs_dir_audit(pair, &mut text);
+    let n = text_audit::lfs_dir_audit_as(prog_size, numbers, pair, &mut text);
     text_print::whole(&text, n as usize);
 }
 
 fn main() {
-    let mut pair = [0u8; 65_537];
-    let n = io::read_full(STDIN_FILENO, &mut pair);
-    show(&pair[..n]);
+    match text_args::asked(1) {
+        Request::As(prog_size, numbers) => {
+            let mut pair = [0u8; 65_537];
+            let n = io::read_full(STDIN_FILENO, &mut pair);
+            show(prog_size, numbers, &pair[..n]);
+        }
+        Request::Unclear => {
+            text_print::usage(b"usage: audit [PROG_SIZE A B], both images on standard input\n");
+        }
+    }
 }

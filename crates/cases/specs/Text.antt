@@ -14,7 +14,7 @@ use Rattle.format.specs.Directory.{empty, upd, apply, dir, act, acts, dirOf}
 use Rattle.format.specs.Listing.{ascii, hexDigit, decimalIn, decimal, hexBytes, isPlain, nameByte, nameBytes}
 use Rattle.format.specs.Listing.{numberLine, tailLine, erasedLine, recordLines, nameFields, structFields, slotLine}
 use Rattle.format.specs.Listing.{attrLine, attrLines, slotLines, refusedLine, dirLines, blockText, fetchInput}
-use Rattle.format.specs.Listing.{listingOf}
+use Rattle.format.specs.Listing.{listingAs, listingOf}
 use Rattle.cases.specs.Listing.{blank, listing}
 
 pub text : listingOf (listing ++ blank 128)
@@ -26,6 +26,21 @@ unfolding fetchInput blockText dirLines refusedLine slotLines attrLines attrLine
     committed walk walkFrom walkIn classOf readBehind bodyLength tagFlipped tagLength be32 le32 toLe32 xor crc crcByte
     crcBits crcBit
 text = refl
+
+-- The same images with program size 32, as the blocks 4 and 5: only the number is another, that of the half that
+-- answers. Two blocks with one number are no pair.
+pub text-as : (listingAs 32 (record { n0 = 4; n1 = 5 }) (listing ++ blank 128)
+    ≡ ascii "rev 1\nblock 4\nend 48\ncount 1\ntail none\nerased no\nslot 0 001 q212 201 3\nattr 0 374 905f0100\n")
+    × (listingAs 32 (record { n0 = 4; n1 = 5 }) (blank 128 ++ listing)
+    ≡ ascii "rev 1\nblock 5\nend 48\ncount 1\ntail none\nerased no\nslot 0 001 q212 201 3\nattr 0 374 905f0100\n")
+    × (listingAs 32 (record { n0 = 4; n1 = 4 }) (listing ++ blank 128) ≡ ascii "refused -22\n")
+unfolding fetchInput blockText dirLines refusedLine slotLines attrLines attrLine slotLine structFields nameFields
+    recordLines erasedLine tailLine numberLine nameBytes nameByte isPlain hexBytes decimalIn hexDigit dirOf acts act dir
+    apply upd empty Regular regularFrom ruleOf ruleHolds countAfter fetchOf mdirOf erasedOf tooHigh pairFits
+    geometryFits view rank seedOf forwardOf splitOf tailOf countOf counted stoppedStraight tagAfter span eventLength log
+    committed walk walkFrom walkIn classOf readBehind bodyLength tagFlipped tagLength be32 le32 toLe32 xor crc crcByte
+    crcBits crcBit
+text-as = (refl, refl, refl)
 
 -- erased flash: no valid commit; an odd length, an empty input, halves that are no block
 pub refusals : (listingOf (blank 256) ≡ ascii "refused -84\n")

@@ -12,12 +12,13 @@ use Rattle.format.specs.Lookup.{getsliceOf, getsliceBuffer, getOf, getBuffer, g
 use Rattle.format.specs.Writer.{Images, unlimited, commitImages, commitOf, commitStoresOf}
 use Rattle.format.specs.Compaction.{compactImages, compactOf, compactStoresOf}
 use Rattle.format.specs.Stopped.{CommitLeaves, CommitStoresLeaves, CompactLeaves, CompactStoresLeaves}
-use Rattle.format.specs.Listing.{listingOf, writtenTo}
-use Rattle.format.specs.Audit.{auditOf}
+use Rattle.format.specs.Listing.{listingAs, listingOf, writtenTo}
+use Rattle.format.specs.Audit.{auditAs, auditOf}
 use Rattle.format.specs.Bytes.{le32At, be32At, putAnswer, putLe32, putBe32}
 use Rattle.format.specs.Arith.{alignDown, alignUp}
 use Rattle.format.specs.Gstate.{gstateXor}
 use Rattle.format.specs.declared.Geometry.{Geometry}
+use Rattle.format.specs.declared.LfsPair.{LfsPair}
 use Rattle.format.specs.declared.LfsMdir.{LfsMdir}
 use Rattle.format.specs.declared.LfsGstate.{LfsGstate}
 use Rattle.format.specs.declared.Entry.{Entry}
@@ -105,11 +106,23 @@ module _ (g : Geometry) (b0 b1 : List ℕ) (n0 n1 : ℕ) (dir : LfsMdir) (gdisk 
   )
 
 -- ---- the texts: the length, and the buffer afterwards
-pub list-decided : (input out : List ℕ) → Decides (length (listingOf input)) × Decides (writtenTo out (listingOf input))
-list-decided input out = (decided (length (listingOf input)), decided (writtenTo out (listingOf input)))
+abbrev TextDecided : List ℕ → List ℕ → Type 0
+TextDecided out text = Decides (length text) × Decides (writtenTo out text)
 
-pub audit-decided : (input out : List ℕ) → Decides (length (auditOf input)) × Decides (writtenTo out (auditOf input))
-audit-decided input out = (decided (length (auditOf input)), decided (writtenTo out (auditOf input)))
+text-decided : (out text : List ℕ) → TextDecided out text
+text-decided out text = (decided (length text), decided (writtenTo out text))
+
+pub list-as-decided : (prog : ℕ) (p : LfsPair) (input out : List ℕ) → TextDecided out (listingAs prog p input)
+list-as-decided prog p input out = text-decided out (listingAs prog p input)
+
+pub list-decided : (input out : List ℕ) → TextDecided out (listingOf input)
+list-decided input out = text-decided out (listingOf input)
+
+pub audit-as-decided : (prog : ℕ) (p : LfsPair) (input out : List ℕ) → TextDecided out (auditAs prog p input)
+audit-as-decided prog p input out = text-decided out (auditAs prog p input)
+
+pub audit-decided : (input out : List ℕ) → TextDecided out (auditOf input)
+audit-decided input out = text-decided out (auditOf input)
 
 -- ---- words at an offset, alignment, the state's XOR
 pub words-decided : (s : List ℕ) (off : ℕ) → Decides (le32At s off) × Decides (be32At s off)

@@ -11,7 +11,8 @@ use Rattle.format.specs.Regular.{Regular}
 use Rattle.format.specs.Directory.{Load, Slot, dirOf}
 use Rattle.format.specs.Listing.{ascii, decimal, numberLine, refusedLine, fetchInput}
 use Rattle.format.specs.Audit.{lacksDeadline, lacksPayload, nameOrDash, lackLine, auditLine, auditLines, tally}
-use Rattle.format.specs.Audit.{totalLines, slotsAudit, blockAudit, auditOf}
+use Rattle.format.specs.Audit.{totalLines, slotsAudit, blockAudit, auditAs}
+use Rattle.format.specs.declared.LfsPair.{LfsPair}
 use Rattle.format.specs.declared.LfsMdir.{LfsMdir}
 use Rattle.format.specs.declared.Refusal.the-variants.{Irregular}
 use Rattle.theory.specs.Blocks.SlotItems.{OkSlot, OkSlots, ok-dirOf}
@@ -100,5 +101,5 @@ block-short m b = go (Regular (log b)) refl
     )
     go false e = omega (arith, refused-short Irregular)
 
-pub audit-short : (input : List ℕ) → length (auditOf input) < 2 ^ 32
-audit-short input = fetched-short blockAudit block-short input (fetchInput input)
+pub audit-short : (prog : ℕ) (p : LfsPair) (input : List ℕ) → length (auditAs prog p input) < 2 ^ 32
+audit-short prog p input = fetched-short blockAudit block-short p input (fetchInput prog p input)

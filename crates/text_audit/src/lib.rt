@@ -8,7 +8,7 @@ ghost use Rattle.format.specs.Log.{log};
 ghost use Rattle.format.specs.Directory.{dirOf};
 ghost use Rattle.format.specs.Listing.{writtenTo};
 ghost use Rattle.format.specs.Audit.{isInstruction, isPayload, isDeadline, lackLine, nameOrDash, totalLines};
-ghost use Rattle.format.specs.Audit.{blockAudit, auditOf};
+ghost use Rattle.format.specs.Audit.{blockAudit, auditAs, auditOf};
 ghost use Rattle.text.specs.Put.{text, putsOf};
 ghost use Rattle.compact_slot.specs.Seat.{loadIn, Inside};
 ghost use Rattle.compact_slot.specs.Slots.{Slots, slotIn};
@@ -17,8 +17,11 @@ ghost use Rattle.text_input.specs.Input.{Listable};
 ghost use Rattle.text_audit.specs.Audited.{Told, Few, SlotAudited, SlotsAudited};
 use format::Fetched;
 use format::LfsMdir;
+use format::LfsPair;
 use format::Refusal;
 use format::types::*;
+use text_input::INPUT_PAIR;
+use text_input::INPUT_PROG_SIZE;
 
 // The class of the deadline, the user attribute 0x74: a name and a struct come before.
 const DEADLINE: usize = 2 + 0x74;
@@ -162,21 +165,30 @@ fn block_audit(out: &mut [u8], b: &[u8], m: LfsMdir) -> u32
     total_lines(out, a, m.count as u32)
 }
 
-// Both images, one behind the other, as the listing takes them.
-pub fn lfs_dir_audit(input: &[u8], out: &mut [u8]) -> u32
-    ensures { λ r. ⌜ r ≡ length (auditOf (now (input .entry))) ⌝ }
-    ensures { λ _. ⌜ now (out .exit) ≡ writtenTo (now (out .entry)) (auditOf (now (input .entry))) ⌝ }
+// Both images, one behind the other, the program size and the numbers of the two blocks, as the listing takes them.
+pub fn lfs_dir_audit_as(prog_size: u32, numbers: LfsPair, input: &[u8], out: &mut [u8]) -> u32
+    ensures { λ r. ⌜ r ≡ length (auditAs «prog_size» numbers (now (input .entry))) ⌝ }
+    ensures { λ _. ⌜ now (out .exit)
+        ≡ writtenTo (now (out .entry)) (auditAs «prog_size» numbers (now (input .entry))) ⌝ }
 {
     let half = input.len() / 2;
-    match text_input::fetch_input(input) {
+    match text_input::fetch_input(prog_size, numbers, input) {
         Fetched::Refused(r) => text_input::refused(out, 0, r),
         Fetched::Found(m, _) => {
             let pair = m.pair;
-            if pair.n0 == 0 {
+            if pair.n0 == numbers.n0 {
                 block_audit(out, &input[0..half], m)
             } else {
                 block_audit(out, &input[half..], m)
             }
         }
     }
+}
+
+// The audit of document 01's own input: "program size 16, numbers 0 and 1".
+pub fn lfs_dir_audit(input: &[u8], out: &mut [u8]) -> u32
+    ensures { λ r. ⌜ r ≡ length (auditOf (now (input .entry))) ⌝ }
+    ensures { λ _. ⌜ now (out .exit) ≡ writtenTo (now (out .entry)) (auditOf (now (input .entry))) ⌝ }
+{
+    lfs_dir_audit_as(INPUT_PROG_SIZE, INPUT_PAIR, input, out)
 }

@@ -14,7 +14,7 @@ use Rattle.format.specs.Compaction.{isNoTail}
 use Rattle.format.specs.Listing.{ascii, decimal, hexByte, hexBytes, hexType}
 use Rattle.format.specs.Listing.{numberLine, tailKind, tailLine, erasedLine, recordLines, nameFields}
 use Rattle.format.specs.Listing.{structFields, slotLine, attrData, attrLine, attrLines, slotLines, refusedLine}
-use Rattle.format.specs.Listing.{dirLines, blockText, fetchInput, listingOf}
+use Rattle.format.specs.Listing.{dirLines, blockText, fetchInput, listingAs}
 use Rattle.format.specs.declared.LfsPair.{LfsPair}
 use Rattle.format.specs.declared.LfsMdir.{LfsMdir}
 use Rattle.format.specs.declared.Refusal.the-variants.{Irregular}
@@ -171,5 +171,6 @@ block-short : (m : LfsMdir) (b : List ℕ) → length (blockText m b) ≤ 546_32
 unfolding blockText
 block-short m b = omega (arith, length-append (recordLines m) (dirLines b), record-short m, dir-short b)
 
-pub listing-short : (input : List ℕ) → length (listingOf input) < 2 ^ 32
-listing-short input = fetched-short blockText (λ m b. omega (arith, block-short m b)) input (fetchInput input)
+pub listing-short : (prog : ℕ) (p : LfsPair) (input : List ℕ) → length (listingAs prog p input) < 2 ^ 32
+listing-short prog p input =
+    fetched-short blockText (λ m b. omega (arith, block-short m b)) p input (fetchInput prog p input)

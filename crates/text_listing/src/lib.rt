@@ -8,7 +8,7 @@ ghost use Rattle.format.specs.Log.{log};
 ghost use Rattle.format.specs.Directory.{dirOf};
 ghost use Rattle.format.specs.Listing.{tailKind, tailLine, erasedLine, recordLines, nameFields, structFields, attrData};
 ghost use Rattle.format.specs.Listing.{attrLine, attrLines, slotLines, refusedLine, blockText, fetchInput, listingOf};
-ghost use Rattle.format.specs.Listing.{writtenTo};
+ghost use Rattle.format.specs.Listing.{listingAs, writtenTo};
 ghost use Rattle.text.specs.Put.{text, putsOf};
 ghost use Rattle.compact_slot.specs.Seat.{loadIn, Inside};
 ghost use Rattle.compact_slot.specs.Slots.{Slots, slotIn};
@@ -20,6 +20,8 @@ use format::LfsMdir;
 use format::LfsPair;
 use format::Refusal;
 use format::types::LFS_BLOCK_NULL;
+use text_input::INPUT_PAIR;
+use text_input::INPUT_PROG_SIZE;
 
 // The class of the first user attribute: a name and a struct come before.
 const ATTRIBUTES: usize = 2;
@@ -192,24 +194,33 @@ fn block_text(out: &mut [u8], b: &[u8], m: LfsMdir) -> u32
     slot_lines(out, n, b, m.off as usize, m.etag, m.count as u32)
 }
 
-// The listing of both images, one behind the other, as far as `out` has room. The answer is the length of the whole
-// text, so a caller whose buffer was too short knows how long a one to lend. The images have the numbers 0 and 1, so
-// the first number of the record says which half is listed. No listing reaches 2^32 bytes, where `text`'s count would
-// wrap.
-pub fn lfs_dir_list(input: &[u8], out: &mut [u8]) -> u32
-    ensures { λ r. ⌜ r ≡ length (listingOf (now (input .entry))) ⌝ }
-    ensures { λ _. ⌜ now (out .exit) ≡ writtenTo (now (out .entry)) (listingOf (now (input .entry))) ⌝ }
+// The listing of both images, one behind the other, as far as `out` has room; the program size and the numbers of the
+// two blocks are given. The answer is the length of the whole text, so a caller whose buffer was too short knows how
+// long a one to lend. Fetch refuses two equal numbers, so the first number of the record says which half is listed. No
+// listing reaches 2^32 bytes, where `text`'s count would wrap.
+pub fn lfs_dir_list_as(prog_size: u32, numbers: LfsPair, input: &[u8], out: &mut [u8]) -> u32
+    ensures { λ r. ⌜ r ≡ length (listingAs «prog_size» numbers (now (input .entry))) ⌝ }
+    ensures { λ _. ⌜ now (out .exit)
+        ≡ writtenTo (now (out .entry)) (listingAs «prog_size» numbers (now (input .entry))) ⌝ }
 {
     let half = input.len() / 2;
-    match text_input::fetch_input(input) {
+    match text_input::fetch_input(prog_size, numbers, input) {
         Fetched::Refused(r) => text_input::refused(out, 0, r),
         Fetched::Found(m, _) => {
             let pair = m.pair;
-            if pair.n0 == 0 {
+            if pair.n0 == numbers.n0 {
                 block_text(out, &input[0..half], m)
             } else {
                 block_text(out, &input[half..], m)
             }
         }
     }
+}
+
+// The listing of document 01's own input: "program size 16, numbers 0 and 1".
+pub fn lfs_dir_list(input: &[u8], out: &mut [u8]) -> u32
+    ensures { λ r. ⌜ r ≡ length (listingOf (now (input .entry))) ⌝ }
+    ensures { λ _. ⌜ now (out .exit) ≡ writtenTo (now (out .entry)) (listingOf (now (input .entry))) ⌝ }
+{
+    lfs_dir_list_as(INPUT_PROG_SIZE, INPUT_PAIR, input, out)
 }

@@ -1,4 +1,4 @@
-// A text on standard output, for the programs that show one.
+// A text on standard output, for the programs that show one, and how such a program is used.
 ghost use mathlib.Core.Path.{_≡_};
 ghost use lib.ListN.{length};
 ghost use lib.Dec.{leb};
@@ -18,4 +18,10 @@ pub fn whole(text: &[u8], n: usize) -> bool
     }
     io::write_all(STDOUT_FILENO, &text[..n]);
     true
+}
+
+// How the program is used, for arguments that it does not understand: on standard error, so that nothing is taken for a
+// text.
+pub fn usage(line: &[u8]) {
+    io::write_all(STDERR_FILENO, line);
 }

@@ -1,0 +1,2 @@
+-- A number grows by a digit at a time.
+pub mod Digits

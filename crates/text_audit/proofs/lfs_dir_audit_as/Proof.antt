@@ -1,0 +1,53 @@
+-- `text_audit::lfs_dir_audit_as` meets its contract: the text is put from the start, and is shorter than 2^32. Assumes
+-- nothing.
+use mathlib.Core.Path.{sym, _∙_}
+use borrow.Author.Needs.{needs}
+use Rattle.format.specs.Audit.{blockAudit}
+use Rattle.text.proofs.Written.{puts-written}
+use Rattle.text_input.proofs.Input.{shown-refused, first-listable, shown-first, second-listable, shown-second}
+use Rattle.text_audit.proofs.Fits.{audit-short}
+use Rattle.text_audit.proofs.lfs_dir_audit_as.Statement.{statement}
+use Rattle.text_audit.proofs.lfs_dir_audit_as.Tie as tie
+
+block-audit-requires : tie.Need-block-audit-requires
+block-audit-requires c κs =
+    first-listable _ _ _ _ _ (sym (c .before .before .before .before .before .before .before .m .given .1)
+    ∙ c .before .before .before .before .before .before .before .before .before .fetch-input .ensures)
+    (c .before .before .if1 .taken)
+
+block-audit-requires-2 : tie.Need-block-audit-requires-2
+block-audit-requires-2 c κs =
+    second-listable _ _ _ _ _ (sym (c .before .before .before .before .before .before .before .m .given .1)
+    ∙ c .before .before .before .before .before .before .before .before .before .fetch-input .ensures)
+    (c .before .before .if1 .left)
+
+returns : tie.Need-returns
+returns c = puts-written _ _ _ _ (audit-short _ _ _)
+    (shown-refused _ _ _ blockAudit _ _ _
+    (sym (c .before .before .before .before .before .r .given .1)
+    ∙ c .before .before .before .before .before .before .before .fetch-input .ensures)
+    (c .before .before .refused .ensures))
+
+returns-2 : tie.Need-returns-2
+returns-2 c = puts-written _ _ _ _ (audit-short _ _ _)
+    (shown-first _ _ _ _ _
+    (sym (c .before .before .before .before .before .before .before .before .before .before .m .given .1)
+    ∙ c .before .before .before .before .before .before .before .before .before .before .before .before .fetch-input
+    .ensures) (c .before .before .before .before .before .if1 .taken) blockAudit _ _
+    (c .before .before .block-audit .ensures))
+
+returns-3 : tie.Need-returns-3
+returns-3 c = puts-written _ _ _ _ (audit-short _ _ _)
+    (shown-second _ _ _ _ _
+    (sym (c .before .before .before .before .before .before .before .before .before .before .m .given .1)
+    ∙ c .before .before .before .before .before .before .before .before .before .before .before .before .fetch-input
+    .ensures) (c .before .before .before .before .before .if1 .left) blockAudit _ _
+    (c .before .before .block-audit2 .ensures))
+
+pub lfs-dir-audit-as-spec : {M : Type 1} → statement M
+lfs-dir-audit-as-spec =
+    tie.close
+    (tie.spec (λ c κs. search needs) (λ c. search needs) (λ c κs. search needs) (λ c. search needs) (λ c. search needs)
+    (λ c. search needs) (λ c. search needs) block-audit-requires (λ c. search needs) (λ c. search needs)
+    (λ c. search needs) block-audit-requires-2 (λ c. search needs) returns (λ c. search needs) returns-2
+    (λ c. search needs) returns-3)
