@@ -119,7 +119,7 @@ typedef struct { uint32_t pair[2]; } lanolin_pair;
 typedef struct { int32_t result; lanolin_mdir dir; uint32_t seed; } lanolin_fetched;
 /* tag: 0 on a refusal */
 typedef struct { int32_t result; uint32_t tag; } lanolin_got;
-/* type: LANOLIN_TYPE_REG, LANOLIN_TYPE_DIR, ..; all zero but the result on a refusal */
+/* type: LANOLIN_TYPE_REG or LANOLIN_TYPE_DIR, as the name has it; all zero but the result on a refusal */
 typedef struct { int32_t result; uint8_t type; uint32_t size; uint8_t name[256]; } lanolin_info;
 /* dir and seed as lanolin_fetched has them; index: of LANOLIN_ERR_BADENTRY the entry's, from 0, else 0 */
 typedef struct { int32_t result; uint32_t index; lanolin_mdir dir; uint32_t seed; } lanolin_committed;
@@ -146,10 +146,10 @@ lanolin_got lanolin_get(lanolin_geometry g, const uint8_t *b0, size_t b0_len, co
                         uint32_t n0, uint32_t n1, lanolin_mdir dir, lanolin_gstate gdisk,
                         uint32_t gmask, uint32_t gtag, uint8_t *buffer, size_t gsize);
 
-/* lfs_dir_getinfo: type, size and name of the slot id (LANOLIN_NO_SLOT: the root). Of the name at most name_max + 1
- * bytes are read (name_max 1 to LANOLIN_NAME_MAX), and the rest of the 256 is zero. So there is a zero behind it, but
- * for one case: a stored name of more than 255 bytes, read with name_max 255, fills all 256. A name_max of 254 or less
- * always leaves a zero. */
+/* lfs_dir_getinfo: type, size and name of the slot id (LANOLIN_NO_SLOT: the root). The superblock's slot is
+ * LANOLIN_ERR_NOENT, as in littlefs. Of the name at most name_max + 1 bytes are read (name_max 1 to LANOLIN_NAME_MAX),
+ * and the rest of the 256 is zero. So there is a zero behind it, but for one case: a stored name of more than 255
+ * bytes, read with name_max 255, fills all 256. A name_max of 254 or less always leaves a zero. */
 lanolin_info lanolin_getinfo(lanolin_geometry g, const uint8_t *b0, size_t b0_len, const uint8_t *b1, size_t b1_len,
                              uint32_t n0, uint32_t n1, lanolin_mdir dir, lanolin_gstate gdisk,
                              uint32_t name_max, uint32_t id);
