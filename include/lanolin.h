@@ -1,12 +1,14 @@
-/* lanolin.h: the proved littlefs metadata calls, from C. Link with liblanolin.a (rt staticlib lanolin), x86-64.
+/* lanolin.h: the proved littlefs metadata calls, from C (C99 or later) and C++ (C++11 or later). Link with
+ * target/staticlib/liblanolin.a, x86-64, which `./lanolin lib` builds.
  *
- * Every call takes any bytes, numbers and records, and ends. A result is 0 or document 01's refusal: -22 a size or
- * number is broken, -84 nothing valid is there or a read would pass the block, -2 no entry, or a count above 1,023;
- * writing also -202 the log isn't regular, -201 an entry is bad, -28 no space, -203 the room behind the end is not
- * clean, -204 the checksum coincidence. A refused call alters no byte of what it was lent.
+ * Every call takes any bytes, numbers and records, and ends. A result is LANOLIN_OK or one of the LANOLIN_ERR_
+ * refusals, and a refused call alters no byte of what it was lent.
  *
  * The caller's duties, all of them: a pointer is valid for its count (null with count 0 is allowed), lent buffers do
- * not overlap each other, and a bool is 0 or 1. */
+ * not overlap each other, and a bool is 0 or 1.
+ *
+ * "Document 01" is what this project calls the rules that it is built to: which sizes are taken, what is read, what may
+ * be written, what is refused. docs/FORMAT.md tells the format, docs/REFUSALS.md each refusal and what to do then. */
 #ifndef LANOLIN_H
 #define LANOLIN_H
 
@@ -18,9 +20,65 @@
 extern "C" {
 #endif
 
+/* ---- names: the results, the types of entries, the masks of a lookup, and the limits */
+
+/* The version, as littlefs has its own: the major number in the upper half, the minor in the lower. */
+#define LANOLIN_VERSION_MAJOR 0
+#define LANOLIN_VERSION_MINOR 1
+#define LANOLIN_VERSION (LANOLIN_VERSION_MAJOR << 16 | LANOLIN_VERSION_MINOR)
+
+/* Results. The first four refusals are littlefs's LFS_ERR_ numbers, the others are document 01's own. */
+#define LANOLIN_OK 0
+#define LANOLIN_ERR_INVAL (-22)        /* a size or number is outside the limits, or they don't fit each other */
+#define LANOLIN_ERR_CORRUPT (-84)      /* no valid commit, a block number too high, or a read would pass the block */
+#define LANOLIN_ERR_NOENT (-2)         /* a lookup: no such entry; the other calls: a pair of more than 1,023 slots */
+#define LANOLIN_ERR_NOSPC (-28)        /* writing: what is to be written passes the block */
+#define LANOLIN_ERR_BADENTRY (-201)    /* commit: an entry is bad; `index` says which */
+#define LANOLIN_ERR_IRREGULAR (-202)   /* writing: the log that is there isn't regular; reading it is allowed */
+#define LANOLIN_ERR_UNCLEAN (-203)     /* commit: the room behind the end isn't clean, as after a power cut: compact */
+#define LANOLIN_ERR_COINCIDENCE (-204) /* writing: cut short, this very commit could be taken for a whole one */
+
+/* Types of entries, littlefs's LFS_TYPE_ names: what lanolin_tag_type3 answers, and what lanolin_mktag and an entry of
+ * a commit take. One marked (class) stands for every type with the same upper three bits: lanolin_tag_type1. */
+#define LANOLIN_TYPE_NAME 0x000         /* (class) a name */
+#define LANOLIN_TYPE_REG 0x001          /* the name of a file */
+#define LANOLIN_TYPE_DIR 0x002          /* the name of a directory */
+#define LANOLIN_TYPE_SUPERBLOCK 0x0ff   /* the name of the superblock; read, but not written */
+#define LANOLIN_TYPE_STRUCT 0x200       /* (class) a struct: where the contents are */
+#define LANOLIN_TYPE_DIRSTRUCT 0x200    /* of a directory: the two block numbers of its pair */
+#define LANOLIN_TYPE_INLINESTRUCT 0x201 /* of a file whose bytes stand in the log: these bytes */
+#define LANOLIN_TYPE_CTZSTRUCT 0x202    /* of a file in blocks of its own: its last block and its length */
+#define LANOLIN_TYPE_USERATTR 0x300     /* (class) user attributes: plus a byte of the user's choice */
+#define LANOLIN_TYPE_SPLICE 0x400       /* (class) a create or a delete */
+#define LANOLIN_TYPE_CREATE 0x401       /* a slot comes in; those from its id on move up */
+#define LANOLIN_TYPE_DELETE 0x4ff       /* a slot goes; those behind it move down */
+#define LANOLIN_TYPE_CCRC 0x500         /* the check that closes a commit, by lanolin_tag_type2; the commit makes it */
+#define LANOLIN_TYPE_FCRC 0x5ff         /* the forward check of the room behind a commit; read, but not written */
+#define LANOLIN_TYPE_TAIL 0x600         /* (class) a tail: the two block numbers of the next pair */
+#define LANOLIN_TYPE_SOFTTAIL 0x600     /* to another directory */
+#define LANOLIN_TYPE_HARDTAIL 0x601     /* to the rest of the same directory */
+#define LANOLIN_TYPE_MOVESTATE 0x7ff    /* the pair's part of the global state: three words */
+
+/* Masks of a lookup: which bits of the key must agree. */
+#define LANOLIN_MASK_TYPE 0x7ffffc00u  /* this type exactly, of this slot: a user attribute */
+#define LANOLIN_MASK_CLASS 0x700ffc00u /* any type of the same class, of this slot: the name, the struct */
+
+/* Marks. */
+#define LANOLIN_NO_SLOT 0x3ff          /* the id of what belongs to no slot: tails, the move state, the root */
+#define LANOLIN_REMOVAL 0x3ff          /* the length that removes a user attribute; a tag of this size has no data */
+#define LANOLIN_BLOCK_NULL 0xffffffffu /* the number of no block: littlefs's LFS_BLOCK_NULL */
+
+/* Limits: more is refused. */
+#define LANOLIN_ATTR_MAX 1022    /* bytes of a name, an inline file or a user attribute that is written */
+#define LANOLIN_SLOTS_MAX 1023   /* slots of a pair */
+#define LANOLIN_NAME_MAX 255     /* name_max of lanolin_getinfo */
+#define LANOLIN_BUFFER_MAX 65536 /* bytes of a lookup's buffer */
+#define LANOLIN_ENTRIES_MAX 8192 /* entries of a commit */
+#define LANOLIN_DATA_MAX 65536   /* bytes of their data */
+
 /* ---- what goes in and what comes back */
 
-/* Block size 128 to 32,768, program size 4 to 512, block size a multiple of it: else -22. */
+/* Block size 128 to 32,768, program size 4 to 512, block size a multiple of it: else LANOLIN_ERR_INVAL. */
 typedef struct { uint32_t block_size, prog_size; } lanolin_geometry;
 
 /* The record of a metadata pair, as lanolin_fetch reads it. Lookups read pair, off and etag alone. */
@@ -32,56 +90,71 @@ typedef struct {
     uint16_t count;   /* slots */
     bool erased;      /* the room behind the end passed its forward check; that it is empty this does not say */
     bool split;       /* the tail is hard */
-    uint32_t tail[2]; /* two 0xffffffff: none */
+    uint32_t tail[2]; /* two LANOLIN_BLOCK_NULL: none */
 } lanolin_mdir;
 
 /* The global state: three words that XOR. */
 typedef struct { uint32_t tag; uint32_t pair[2]; } lanolin_gstate;
 
-/* An entry of a commit: `len` bytes of the data buffer from `off` on; a length of 1,023 removes a user attribute, and
- * has no data. */
+/* An entry of a commit: `len` bytes of the data buffer from `off` on. These types are taken, with these lengths; any
+ * other entry is LANOLIN_ERR_BADENTRY, as is one whose data pass the buffer:
+ *
+ *     CREATE                 0
+ *     DELETE                 0
+ *     REG, DIR               1 to LANOLIN_ATTR_MAX
+ *     DIRSTRUCT, CTZSTRUCT   8
+ *     INLINESTRUCT           0 to LANOLIN_ATTR_MAX
+ *     USERATTR + a byte      0 to LANOLIN_ATTR_MAX; or LANOLIN_REMOVAL, which removes it and has no data
+ *     SOFTTAIL, HARDTAIL     8
+ *     MOVESTATE              12
+ *
+ * The id of the last two lines is LANOLIN_NO_SLOT. Every other id is below the number of slots, as the entries before
+ * it leave it; a create's may be that number itself, up to LANOLIN_SLOTS_MAX slots in all. */
 typedef struct { uint16_t type; uint16_t id; uint32_t off; uint32_t len; } lanolin_entry;
 
 /* value: 0 on a refusal */
 typedef struct { int32_t result; uint32_t value; } lanolin_value;
 typedef struct { uint32_t pair[2]; } lanolin_pair;
-/* -2: dir and seed as read; any other refusal: dir all zero, seed as given */
+/* LANOLIN_ERR_NOENT: dir and seed as read; any other refusal: dir all zero, seed as given */
 typedef struct { int32_t result; lanolin_mdir dir; uint32_t seed; } lanolin_fetched;
 /* tag: 0 on a refusal */
 typedef struct { int32_t result; uint32_t tag; } lanolin_got;
-/* all zero but the result on a refusal */
+/* type: LANOLIN_TYPE_REG or LANOLIN_TYPE_DIR, as the name has it; all zero but the result on a refusal */
 typedef struct { int32_t result; uint8_t type; uint32_t size; uint8_t name[256]; } lanolin_info;
-/* dir and seed as lanolin_fetched has them; index: that of -201's entry, else 0 */
+/* dir and seed as lanolin_fetched has them; index: of LANOLIN_ERR_BADENTRY the entry's, from 0, else 0 */
 typedef struct { int32_t result; uint32_t index; lanolin_mdir dir; uint32_t seed; } lanolin_committed;
 /* stores: those made, 0 on a refusal */
 typedef struct { int32_t result; uint32_t index; uint32_t stores; } lanolin_stored;
 
-/* ---- reading a pair: b0 and b1 are the images of the blocks n0 and n1, each block_size bytes */
+/* ---- reading a pair: b0 and b1 are the images of the blocks n0 and n1, each block_size bytes. The
+ * first word at each call is littlefs's name for it */
 
-/* The newest valid log of the pair. A block_count of 0 tests no number. */
+/* lfs_dir_fetch: the newest valid log of the pair. A block_count of 0 tests no number. */
 lanolin_fetched lanolin_fetch(lanolin_geometry g, const uint8_t *b0, size_t b0_len, const uint8_t *b1, size_t b1_len,
                               uint32_t n0, uint32_t n1, uint32_t block_count, uint32_t seed);
 
-/* The newest entry that gtag matches under gmask: its tag, and of its data min(size, gsize) bytes from goff on, the
- * rest of the buffer zeroed. gdisk is the global state on disk: a pending move hides its entry. At most 65,536 bytes of
- * buffer. */
+/* lfs_dir_getslice: the newest entry that gtag matches under gmask. Answers its tag, and min(size, gsize) bytes of its
+ * data from goff on; the rest of the buffer is zeroed. gdisk is the global state on disk: a pending move hides its
+ * entry. At most LANOLIN_BUFFER_MAX bytes of buffer. */
 lanolin_got lanolin_getslice(lanolin_geometry g, const uint8_t *b0, size_t b0_len, const uint8_t *b1, size_t b1_len,
                              uint32_t n0, uint32_t n1, lanolin_mdir dir, lanolin_gstate gdisk,
                              uint32_t gmask, uint32_t gtag, uint32_t goff, uint8_t *buffer, size_t gsize);
 
-/* The same from 0 on, into the buffer's first (gtag & 0x3ff) bytes; a shorter buffer is -22. */
+/* lfs_dir_get: the same from 0 on, into the buffer's first lanolin_tag_size(gtag) bytes; a shorter buffer is
+ * LANOLIN_ERR_INVAL. */
 lanolin_got lanolin_get(lanolin_geometry g, const uint8_t *b0, size_t b0_len, const uint8_t *b1, size_t b1_len,
                         uint32_t n0, uint32_t n1, lanolin_mdir dir, lanolin_gstate gdisk,
                         uint32_t gmask, uint32_t gtag, uint8_t *buffer, size_t gsize);
 
-/* Type, size and name of the slot id (1,023: the root). Of the name at most name_max + 1 bytes are read (name_max 1 to
- * 255), and the rest of the 256 is zero. So there is a zero behind it, but for one case: a stored name of more than 255
+/* lfs_dir_getinfo: type, size and name of the slot id (LANOLIN_NO_SLOT: the root). The superblock's slot is
+ * LANOLIN_ERR_NOENT, as in littlefs. Of the name at most name_max + 1 bytes are read (name_max 1 to LANOLIN_NAME_MAX),
+ * and the rest of the 256 is zero. So there is a zero behind it, but for one case: a stored name of more than 255
  * bytes, read with name_max 255, fills all 256. A name_max of 254 or less always leaves a zero. */
 lanolin_info lanolin_getinfo(lanolin_geometry g, const uint8_t *b0, size_t b0_len, const uint8_t *b1, size_t b1_len,
                              uint32_t n0, uint32_t n1, lanolin_mdir dir, lanolin_gstate gdisk,
                              uint32_t name_max, uint32_t id);
 
-/* The move state of the pair, XORed into *gstate where it stands; none found leaves it as it is. */
+/* lfs_dir_getgstate: the move state of the pair, XORed into *gstate where it stands; none found leaves it as it is. */
 int32_t lanolin_getgstate(lanolin_geometry g, const uint8_t *b0, size_t b0_len, const uint8_t *b1, size_t b1_len,
                           uint32_t n0, uint32_t n1, lanolin_mdir dir, lanolin_gstate gdisk, lanolin_gstate *gstate);
 
@@ -108,49 +181,121 @@ lanolin_committed lanolin_compact(lanolin_geometry g, uint8_t *b0, size_t b0_len
 lanolin_stored lanolin_compact_stores(lanolin_geometry g, uint8_t *b0, size_t b0_len, uint8_t *b1, size_t b1_len,
                                       uint32_t n0, uint32_t n1, uint32_t block_count, uint32_t seed, uint32_t stores);
 
-/* ---- the leaves; a test answers exactly 0 or 1 */
+/* ---- the leaves; a test answers exactly 0 or 1. lanolin_x is littlefs's lfs_x, but where another name is said */
 
+/* The checksum, CRC-32 without inversion at its end, gone on with over the bytes; a commit's begins at 0xffffffff. */
 uint32_t lanolin_crc(uint32_t crc, const uint8_t *bytes, size_t len);
 
+/* A tag of its three fields, nothing masked: LFS_MKTAG. */
 uint32_t lanolin_mktag(uint32_t type, uint32_t id, uint32_t size);
+/* The same, or 0 where the condition is false: LFS_MKTAG_IF. */
 uint32_t lanolin_mktag_if(bool cond, uint32_t type, uint32_t id, uint32_t size);
+/* Whether bit 31 is clear. */
 uint32_t lanolin_tag_isvalid(uint32_t tag);
+/* Whether the size is LANOLIN_REMOVAL. */
 uint32_t lanolin_tag_isdelete(uint32_t tag);
+/* The type under 0x700: its class. */
 uint32_t lanolin_tag_type1(uint32_t tag);
+/* The type under 0x780: what tells a commit check, LANOLIN_TYPE_CCRC. */
 uint32_t lanolin_tag_type2(uint32_t tag);
+/* The type, all eleven bits. */
 uint32_t lanolin_tag_type3(uint32_t tag);
+/* The type's low eight bits: of a user attribute, the byte of the user's choice. */
 uint32_t lanolin_tag_chunk(uint32_t tag);
+/* The chunk as a signed number, -128 to 127: by how much a splice moves the count. */
 int32_t lanolin_tag_splice(uint32_t tag);
+/* The id: the slot, or LANOLIN_NO_SLOT. */
 uint32_t lanolin_tag_id(uint32_t tag);
+/* The size field: how many bytes of data, or LANOLIN_REMOVAL. */
 uint32_t lanolin_tag_size(uint32_t tag);
+/* The length that is stored, the tag's own four bytes with it; of a removal 4. */
 uint32_t lanolin_tag_dsize(uint32_t tag);
 
+/* The smaller of the two. */
 uint32_t lanolin_min(uint32_t a, uint32_t b);
+/* The larger of the two. */
 uint32_t lanolin_max(uint32_t a, uint32_t b);
-lanolin_value lanolin_aligndown(uint32_t a, uint32_t alignment); /* alignment 0: -22 */
+/* The last multiple of the alignment at or below a; alignment 0: LANOLIN_ERR_INVAL. */
+lanolin_value lanolin_aligndown(uint32_t a, uint32_t alignment);
+/* The first multiple at or above a, in 32 bits that wrap; alignment 0: LANOLIN_ERR_INVAL. */
 lanolin_value lanolin_alignup(uint32_t a, uint32_t alignment);
+/* The least n with a at most 2 to the n; but 1 for 1, and 32 for 0. */
 uint32_t lanolin_npw2(uint32_t a);
+/* How many zeros stand below the lowest set bit; 0 for 0. */
 uint32_t lanolin_ctz(uint32_t a);
+/* How many bits are set. */
 uint32_t lanolin_popc(uint32_t a);
+/* a - b, wrapping and read as signed: above 0 where a is the newer revision. */
 int32_t lanolin_scmp(uint32_t a, uint32_t b);
 
-lanolin_value lanolin_le32_at(const uint8_t *bytes, size_t len, size_t at); /* past the end: -84 */
+/* The little-endian word at an offset, lfs_fromle32; past the end: LANOLIN_ERR_CORRUPT. */
+lanolin_value lanolin_le32_at(const uint8_t *bytes, size_t len, size_t at);
+/* The big-endian word at an offset, lfs_frombe32; past the end: LANOLIN_ERR_CORRUPT. */
 lanolin_value lanolin_be32_at(const uint8_t *bytes, size_t len, size_t at);
+/* Stores a word little-endian, lfs_tole32; past the end: LANOLIN_ERR_CORRUPT. */
 int32_t lanolin_put_le32(uint8_t *bytes, size_t len, size_t at, uint32_t value);
+/* Stores a word big-endian, lfs_tobe32; past the end: LANOLIN_ERR_CORRUPT. */
 int32_t lanolin_put_be32(uint8_t *bytes, size_t len, size_t at, uint32_t value);
 
+/* The pair with its two numbers exchanged. */
 lanolin_pair lanolin_pair_swap(uint32_t p0, uint32_t p1);
+/* Whether either number is LANOLIN_BLOCK_NULL. */
 uint32_t lanolin_pair_isnull(uint32_t p0, uint32_t p1);
-int32_t lanolin_pair_cmp(uint32_t p0, uint32_t p1, uint32_t q0, uint32_t q1); /* 0: they share a block; else 1 */
+/* 0 where the two pairs share a block, else 1. */
+int32_t lanolin_pair_cmp(uint32_t p0, uint32_t p1, uint32_t q0, uint32_t q1);
+/* Whether they are the same two blocks, in either order. */
 uint32_t lanolin_pair_issync(uint32_t p0, uint32_t p1, uint32_t q0, uint32_t q1);
 
+/* Whether all three words are 0. */
 uint32_t lanolin_gstate_iszero(const lanolin_gstate *a);
+/* Whether the tag's size is not 0. */
 uint32_t lanolin_gstate_hasorphans(const lanolin_gstate *a);
+/* The number of orphans: the size's low eight bits. */
 uint32_t lanolin_gstate_getorphans(const lanolin_gstate *a);
+/* Whether a move is pending: the tag's class is not 0. */
 uint32_t lanolin_gstate_hasmove(const lanolin_gstate *a);
+/* Whether the superblock is to be written anew: the size's highest bit. */
 uint32_t lanolin_gstate_needssuperblock(const lanolin_gstate *a);
+/* Whether a move is pending whose pair shares a block with this one. */
 uint32_t lanolin_gstate_hasmovehere(const lanolin_gstate *a, uint32_t p0, uint32_t p1);
+/* XORs b into a where it stands: so the move states of all pairs give the global state. */
 void lanolin_gstate_xor(lanolin_gstate *a, const lanolin_gstate *b);
+
+/* ---- the layout of the structs: a compiler that lays them out otherwise than the archive is refused here (C11, C++11;
+ * before them a header can't assert) */
+
+#if defined(__cplusplus) && __cplusplus >= 201103L
+#define LANOLIN_LAYOUT_(as) static_assert(as, "not the layout of liblanolin.a");
+#elif defined(__STDC_VERSION__) && __STDC_VERSION__ >= 201112L
+#define LANOLIN_LAYOUT_(as) _Static_assert(as, "not the layout of liblanolin.a");
+#else
+#define LANOLIN_LAYOUT_(as)
+#endif
+#define LANOLIN_AT_(type, field, at) (offsetof(lanolin_##type, field) == at)
+
+LANOLIN_LAYOUT_(sizeof(bool) == 1)
+LANOLIN_LAYOUT_(sizeof(lanolin_geometry) == 8 && LANOLIN_AT_(geometry, block_size, 0) &&
+                LANOLIN_AT_(geometry, prog_size, 4))
+LANOLIN_LAYOUT_(sizeof(lanolin_mdir) == 32 && LANOLIN_AT_(mdir, pair, 0) && LANOLIN_AT_(mdir, rev, 8) &&
+                LANOLIN_AT_(mdir, off, 12) && LANOLIN_AT_(mdir, etag, 16) && LANOLIN_AT_(mdir, count, 20) &&
+                LANOLIN_AT_(mdir, erased, 22) && LANOLIN_AT_(mdir, split, 23) && LANOLIN_AT_(mdir, tail, 24))
+LANOLIN_LAYOUT_(sizeof(lanolin_gstate) == 12 && LANOLIN_AT_(gstate, tag, 0) && LANOLIN_AT_(gstate, pair, 4))
+LANOLIN_LAYOUT_(sizeof(lanolin_entry) == 12 && LANOLIN_AT_(entry, type, 0) && LANOLIN_AT_(entry, id, 2) &&
+                LANOLIN_AT_(entry, off, 4) && LANOLIN_AT_(entry, len, 8))
+LANOLIN_LAYOUT_(sizeof(lanolin_value) == 8 && LANOLIN_AT_(value, result, 0) && LANOLIN_AT_(value, value, 4))
+LANOLIN_LAYOUT_(sizeof(lanolin_pair) == 8 && LANOLIN_AT_(pair, pair, 0))
+LANOLIN_LAYOUT_(sizeof(lanolin_fetched) == 40 && LANOLIN_AT_(fetched, result, 0) && LANOLIN_AT_(fetched, dir, 4) &&
+                LANOLIN_AT_(fetched, seed, 36))
+LANOLIN_LAYOUT_(sizeof(lanolin_got) == 8 && LANOLIN_AT_(got, result, 0) && LANOLIN_AT_(got, tag, 4))
+LANOLIN_LAYOUT_(sizeof(lanolin_info) == 268 && LANOLIN_AT_(info, result, 0) && LANOLIN_AT_(info, type, 4) &&
+                LANOLIN_AT_(info, size, 8) && LANOLIN_AT_(info, name, 12))
+LANOLIN_LAYOUT_(sizeof(lanolin_committed) == 44 && LANOLIN_AT_(committed, result, 0) &&
+                LANOLIN_AT_(committed, index, 4) && LANOLIN_AT_(committed, dir, 8) && LANOLIN_AT_(committed, seed, 40))
+LANOLIN_LAYOUT_(sizeof(lanolin_stored) == 12 && LANOLIN_AT_(stored, result, 0) && LANOLIN_AT_(stored, index, 4) &&
+                LANOLIN_AT_(stored, stores, 8))
+
+#undef LANOLIN_AT_
+#undef LANOLIN_LAYOUT_
 
 #ifdef __cplusplus
 }

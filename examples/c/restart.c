@@ -13,16 +13,9 @@
 #include <stdlib.h>
 #include <string.h>
 
-enum { PROG_SIZE = 16, MOST_BLOCK = 32768, MOST_SLOTS = 1023, MOST_NAME = 1022 };
+enum { PROG_SIZE = 16, MOST_BLOCK = 32768 };
+enum { DEADLINE = LANOLIN_TYPE_USERATTR + 0x74 }; /* the byte that this controller chose */
 enum { BUCKETS = 64, NONE = 0xffff };
-
-/* What is looked up for a slot: any name and any struct, by the type's upper three bits; the deadline, user attribute
- * 0x74, by all of them. */
-enum { BY_CLASS = 0x700ffc00, NAME = 0x000, STRUCT = 0x200 };
-enum { BY_TYPE = 0x7ffffc00, DEADLINE = 0x374 };
-
-/* What is found. */
-enum { DIRECTORY = 0x002, SUPERBLOCK = 0x0ff, INLINE_STRUCT = 0x201, CTZ_STRUCT = 0x202 };
 
 typedef struct {
     bool payload, attribute; /* whether there is one */
@@ -35,7 +28,7 @@ typedef struct {
 static uint8_t image[2 * MOST_BLOCK + 1]; /* one byte more: a longer file is seen */
 static lanolin_geometry g;
 static lanolin_mdir dir;
-static slot_t slots[MOST_SLOTS];
+static slot_t slots[LANOLIN_SLOTS_MAX];
 static uint16_t wheel[BUCKETS]; /* the first slot of each bucket */
 
 static void give_up(int status, const char *what, const char *why) {
@@ -45,9 +38,9 @@ static void give_up(int status, const char *what, const char *why) {
 
 /* Fetch's three refusals. It's proved that it gives no other. */
 static const char *why(int32_t refusal) {
-    if (refusal == -22) return "refused, -22: a block has 128 to 32,768 bytes, a multiple of 16";
-    if (refusal == -84) return "refused, -84: neither block has a valid commit";
-    if (refusal == -2) return "refused, -2: more than 1,023 slots";
+    if (refusal == LANOLIN_ERR_INVAL) return "refused, -22: a block has 128 to 32,768 bytes, a multiple of 16";
+    if (refusal == LANOLIN_ERR_CORRUPT) return "refused, -84: neither block has a valid commit";
+    if (refusal == LANOLIN_ERR_NOENT) return "refused, -2: more than 1,023 slots";
     return "no answer of fetch's: the archive and lanolin.h don't belong together";
 }
 
@@ -62,7 +55,7 @@ static void read_pair(const char *file) {
     g = (lanolin_geometry){.block_size = (uint32_t)size / 2, .prog_size = PROG_SIZE};
 
     lanolin_fetched fetched = lanolin_fetch(g, image, g.block_size, image + g.block_size, g.block_size, 0, 1, 0, 0);
-    if (fetched.result != 0) give_up(1, file, why(fetched.result));
+    if (fetched.result != LANOLIN_OK) give_up(1, file, why(fetched.result));
     dir = fetched.dir;
 }
 
@@ -73,10 +66,9 @@ static bool look(uint32_t mask, uint32_t type, uint16_t id, uint8_t *buffer, siz
     lanolin_got got = lanolin_getslice(g, image, g.block_size, image + g.block_size, g.block_size, 0, 1, dir,
                                        (lanolin_gstate){0}, mask, lanolin_mktag(type, id, 0), 0, buffer, size);
     *tag = got.tag;
-    /* -2 is "no entry". With the record that fetch gave no other refusal comes; if one did, to go on would be to lose
-     * an instruction. */
-    if (got.result != 0 && got.result != -2) give_up(1, "lookup", "refused");
-    return got.result == 0;
+    /* With the record that fetch gave no other refusal comes; if one did, to go on would be to lose an instruction. */
+    if (got.result != LANOLIN_OK && got.result != LANOLIN_ERR_NOENT) give_up(1, "lookup", "refused");
+    return got.result == LANOLIN_OK;
 }
 
 /* Reads what the slot has. Directories and the superblock are no instructions; they stay without payload and
@@ -85,17 +77,17 @@ static void read_slot(uint16_t id) {
     slot_t *slot = &slots[id];
     uint8_t data[8] = {0};
     uint32_t tag;
-    if (look(BY_CLASS, NAME, id, data, sizeof data, &tag)) {
+    if (look(LANOLIN_MASK_CLASS, LANOLIN_TYPE_NAME, id, data, sizeof data, &tag)) {
         uint32_t type = lanolin_tag_type3(tag);
-        if (type == DIRECTORY || type == SUPERBLOCK) return;
+        if (type == LANOLIN_TYPE_DIR || type == LANOLIN_TYPE_SUPERBLOCK) return;
     }
-    if (look(BY_CLASS, STRUCT, id, data, sizeof data, &tag)) {
+    if (look(LANOLIN_MASK_CLASS, LANOLIN_TYPE_STRUCT, id, data, sizeof data, &tag)) {
         uint32_t type = lanolin_tag_type3(tag), size = lanolin_tag_size(tag);
-        slot->payload = type == CTZ_STRUCT || (type == INLINE_STRUCT && size > 0);
-        slot->length =
-            type == CTZ_STRUCT ? lanolin_le32_at(data, 8, 4).value : size; /* a CTZ struct: last block, then length */
+        slot->payload = type == LANOLIN_TYPE_CTZSTRUCT || (type == LANOLIN_TYPE_INLINESTRUCT && size > 0);
+        /* a CTZ struct: last block, then length */
+        slot->length = type == LANOLIN_TYPE_CTZSTRUCT ? lanolin_le32_at(data, 8, 4).value : size;
     }
-    if (look(BY_TYPE, DEADLINE, id, data, sizeof data, &tag)) {
+    if (look(LANOLIN_MASK_TYPE, DEADLINE, id, data, sizeof data, &tag)) {
         slot->attribute = true;
         slot->attribute_size = lanolin_tag_size(tag);
         slot->deadline = lanolin_le32_at(data, 8, 0).value;
@@ -126,9 +118,9 @@ static uint16_t next_due(void) {
 }
 
 static void print_name(uint16_t id) {
-    static uint8_t name[MOST_NAME];
+    static uint8_t name[LANOLIN_ATTR_MAX];
     uint32_t tag;
-    bool found = look(BY_CLASS, NAME, id, name, sizeof name, &tag);
+    bool found = look(LANOLIN_MASK_CLASS, LANOLIN_TYPE_NAME, id, name, sizeof name, &tag);
     if (!found) printf("-");
     for (uint32_t i = 0; found && i < lanolin_tag_size(tag); i++)
         printf(name[i] >= 0x21 && name[i] <= 0x7e && name[i] != '\\' ? "%c" : "\\x%02x", name[i]);

@@ -1,7 +1,9 @@
-//! Links the archive `liblanolin.a` of `rt staticlib lanolin`, from
+//! Links the archive `liblanolin.a` that `./lanolin lib` builds, from
 //! `target/staticlib` of the repository or the directory that LANOLIN_LIB names.
 //!
-//! Assumes nothing: an archive that is not there stops the build.
+//! Where the archive is missing it warns and goes on: `cargo check` and `cargo doc`
+//! link nothing and need none. What links stops then, with rustc's own error,
+//! below this warning.
 
 use std::env;
 use std::path::PathBuf;
@@ -16,9 +18,9 @@ fn main() {
     let directory = std::path::absolute(&given).unwrap_or(given);
     let archive = directory.join("liblanolin.a");
     if !archive.is_file() {
-        panic!(
-            "the archive is not at {}: run `rt staticlib lanolin` first, \
-             or name its directory by LANOLIN_LIB",
+        println!(
+            "cargo::warning=the archive is not at {}: nothing can be linked before `./lanolin lib` \
+             has built it; another directory is named by LANOLIN_LIB",
             archive.display()
         );
     }

@@ -95,11 +95,11 @@ static uint32_t chain(uint8_t *block, uint32_t at, uint32_t before, uint32_t tag
 }
 
 /* One commit: slot 0 with the name and an empty inline file. */
-static void lay_named(uint8_t *block, const uint8_t *name, uint32_t n) {
+static void lay_named(uint8_t *block, uint32_t type, const uint8_t *name, uint32_t n) {
     memset(block, 0xff, 512);
     EXPECT(lanolin_put_le32(block, 512, 0, 1) == 0);
     uint32_t tag = chain(block, 4, 0xffffffff, lanolin_mktag(0x401, 0, 0));
-    tag = chain(block, 8, tag, lanolin_mktag(0x001, 0, n));
+    tag = chain(block, 8, tag, lanolin_mktag(type, 0, n));
     memcpy(block + 12, name, n);
     tag = chain(block, 12 + n, tag, lanolin_mktag(0x201, 0, 0));
     chain(block, 16 + n, tag, lanolin_mktag(0x500, 1023, 4));
@@ -115,7 +115,7 @@ static void test_long_names(void) {
     for (int i = 0; i < 300; i++) name[i] = (uint8_t)('a' + i % 26);
     for (int i = 0; i < 3; i++) {
         uint32_t n = LENGTHS[i];
-        lay_named(block, name, n);
+        lay_named(block, 0x001, name, n);
         lanolin_fetched f = lanolin_fetch(g, block, 512, erased, 512, 0, 1, 0, 0);
         EXPECT(f.result == 0 && f.dir.count == 1 && f.dir.off == 24 + n);
         lanolin_info info = lanolin_getinfo(g, block, 512, erased, 512, 0, 1, f.dir, STILL, 255, 0);
@@ -270,6 +270,156 @@ static void test_compact(void) {
     EXPECT(lanolin_compact(G, b1, 128, c1, 64, 0, 1, 0, 7).result == -22);
 }
 
+/* ---- the names of lanolin.h, each by what the archive answers to it; document 01 says what that is */
+
+/* One entry and its check, in an erased block. */
+static void lay_one(uint8_t *block, uint32_t tag, const uint8_t *data, uint32_t n) {
+    memset(block, 0xff, 512);
+    EXPECT(lanolin_put_le32(block, 512, 0, 1) == LANOLIN_OK);
+    chain(block, 4, 0xffffffff, tag);
+    memcpy(block + 8, data, n);
+    chain(block, 8 + n, tag, lanolin_mktag(LANOLIN_TYPE_CCRC, LANOLIN_NO_SLOT, 4));
+    EXPECT(lanolin_put_le32(block, 512, 12 + n, lanolin_crc(0xffffffff, block, 12 + n)) == LANOLIN_OK);
+}
+
+/* A commit behind the listing, on a copy. */
+static int32_t committed(const lanolin_entry *entries, size_t count, const uint8_t *data, size_t size) {
+    static uint8_t c0[4096], c1[4096];
+    memset(c0, 0xff, sizeof c0);
+    memset(c1, 0xff, sizeof c1);
+    memcpy(c0, LISTED, sizeof LISTED);
+    return lanolin_commit((lanolin_geometry){4096, 16}, c0, 4096, c1, 4096, 0, 1, 0, 0, entries, count, data, size)
+        .result;
+}
+
+static void test_names_of_refusals(void) {
+    static const uint8_t COINCIDES[4] = {0x3e, 0xaa, 0xbb, 0x6d}; /* as in samples/writes/cases */
+    const lanolin_entry deadline = {LANOLIN_TYPE_USERATTR + 0x74, 0, 0, 4};
+    const lanolin_entry large = {LANOLIN_TYPE_INLINESTRUCT, 0, 0, 69}; /* 68 would end at the block's end */
+    const lanolin_entry absent = {LANOLIN_TYPE_DELETE, 1, 0, 0};
+    uint8_t c0[128], block[512], erased[512];
+    EXPECT(fetch(0, 1, 0, 0).result == LANOLIN_OK && fetch(1, 1, 0, 0).result == LANOLIN_ERR_INVAL);
+    EXPECT(fetch(0, 1, 1, 0).result == LANOLIN_ERR_CORRUPT); /* number 1 is too high */
+    EXPECT(slice(fetch(0, 1, 0, 0).dir, STILL, LANOLIN_MASK_TYPE, 0, 0, NULL, 0).result == LANOLIN_ERR_NOENT);
+    EXPECT(committed(&deadline, 1, LISTED, 4) == LANOLIN_OK && committed(&absent, 1, NULL, 0) == LANOLIN_ERR_BADENTRY);
+    EXPECT(committed(&deadline, 1, COINCIDES, 4) == LANOLIN_ERR_COINCIDENCE);
+    memcpy(c0, b0, sizeof c0);
+    EXPECT(lanolin_commit(G, c0, 128, b1, 128, 0, 1, 0, 0, &large, 1, b1, 69).result == LANOLIN_ERR_NOSPC);
+    c0[127] = 0;
+    EXPECT(lanolin_commit(G, c0, 128, b1, 128, 0, 1, 0, 0, NULL, 0, NULL, 0).result == LANOLIN_ERR_UNCLEAN);
+    lay_one(block, lanolin_mktag(LANOLIN_TYPE_REG, 0, 4), LISTED + 12, 4); /* a name without its create */
+    memset(erased, 0xff, sizeof erased);
+    EXPECT(lanolin_compact((lanolin_geometry){512, 16}, block, 512, erased, 512, 0, 1, 0, 0).result ==
+           LANOLIN_ERR_IRREGULAR);
+}
+
+/* Every type that a commit takes; behind the delete of slot 0 the other ids are one less. */
+static void test_names_of_types(void) {
+    static const uint8_t WORDS[12] = {4, 0, 0, 0, 5, 0, 0, 0, 6, 0, 0, 0};
+    static const lanolin_entry ENTRIES[15] = {
+        {LANOLIN_TYPE_CREATE, 1, 0, 0},          {LANOLIN_TYPE_REG, 1, 0, 1},
+        {LANOLIN_TYPE_INLINESTRUCT, 1, 0, 3},    {LANOLIN_TYPE_USERATTR + 0x74, 1, 0, 4},
+        {LANOLIN_TYPE_USERATTR + 0x75, 1, 0, 4}, {LANOLIN_TYPE_USERATTR + 0x75, 1, 0, LANOLIN_REMOVAL},
+        {LANOLIN_TYPE_CREATE, 2, 0, 0},          {LANOLIN_TYPE_DIR, 2, 4, 1},
+        {LANOLIN_TYPE_DIRSTRUCT, 2, 0, 8},       {LANOLIN_TYPE_CREATE, 3, 0, 0},
+        {LANOLIN_TYPE_REG, 3, 8, 1},             {LANOLIN_TYPE_CTZSTRUCT, 3, 0, 8},
+        {LANOLIN_TYPE_DELETE, 0, 0, 0},          {LANOLIN_TYPE_MOVESTATE, LANOLIN_NO_SLOT, 0, 12},
+        {LANOLIN_TYPE_SOFTTAIL, LANOLIN_NO_SLOT, 4, 8},
+    };
+    static const lanolin_entry HARD = {LANOLIN_TYPE_HARDTAIL, LANOLIN_NO_SLOT, 0, 8};
+    static const uint8_t TYPES[3] = {LANOLIN_TYPE_REG, LANOLIN_TYPE_DIR, LANOLIN_TYPE_REG};
+    static const uint32_t STRUCTS[3] = {LANOLIN_TYPE_INLINESTRUCT, LANOLIN_TYPE_DIRSTRUCT, LANOLIN_TYPE_CTZSTRUCT};
+    static const uint32_t SIZES[3] = {3, 0, 5};
+    const lanolin_geometry g = {512, 16};
+    uint8_t c0[512], c1[512], read[4];
+    memset(c0, 0xff, sizeof c0);
+    memset(c1, 0xff, sizeof c1);
+    memcpy(c0, LISTED, sizeof LISTED);
+    lanolin_mdir dir = lanolin_commit(g, c0, 512, c1, 512, 0, 1, 0, 0, ENTRIES, 15, WORDS, 12).dir;
+    EXPECT(dir.count == 3 && !dir.split && dir.tail[0] == 5 && dir.tail[1] == 6);
+    dir = lanolin_commit(g, c0, 512, c1, 512, 0, 1, 0, 0, &HARD, 1, WORDS, 12).dir;
+    EXPECT(dir.count == 3 && dir.split && dir.tail[0] == 4 && dir.tail[1] == 5);
+    EXPECT(lanolin_tag_type2(dir.etag) == LANOLIN_TYPE_CCRC && lanolin_tag_id(dir.etag) == LANOLIN_NO_SLOT);
+    for (uint32_t id = 0; id < 3; id++) {
+        lanolin_info info = lanolin_getinfo(g, c0, 512, c1, 512, 0, 1, dir, STILL, LANOLIN_NAME_MAX, id);
+        EXPECT(info.result == LANOLIN_OK && info.type == TYPES[id] && info.size == SIZES[id]);
+        lanolin_got got = lanolin_getslice(g, c0, 512, c1, 512, 0, 1, dir, STILL, LANOLIN_MASK_CLASS,
+                                           lanolin_mktag(LANOLIN_TYPE_STRUCT, id, 0), 0, NULL, 0);
+        EXPECT(got.result == LANOLIN_OK && lanolin_tag_type3(got.tag) == STRUCTS[id]);
+        got = lanolin_getslice(g, c0, 512, c1, 512, 0, 1, dir, STILL, LANOLIN_MASK_CLASS,
+                               lanolin_mktag(LANOLIN_TYPE_NAME, id, 0), 0, read, 1);
+        EXPECT(got.result == LANOLIN_OK && lanolin_tag_type3(got.tag) == TYPES[id] && read[0] == WORDS[4 * id]);
+    }
+    lanolin_got got = lanolin_getslice(g, c0, 512, c1, 512, 0, 1, dir, STILL, LANOLIN_MASK_TYPE,
+                                       lanolin_mktag(LANOLIN_TYPE_USERATTR + 0x74, 0, 0), 0, read, 4);
+    EXPECT(got.result == LANOLIN_OK && !memcmp(read, WORDS, 4));
+    got = lanolin_getslice(g, c0, 512, c1, 512, 0, 1, dir, STILL, LANOLIN_MASK_TYPE,
+                           lanolin_mktag(LANOLIN_TYPE_USERATTR + 0x75, 0, 0), 0, read, 4);
+    EXPECT(got.result == LANOLIN_ERR_NOENT);
+    lanolin_gstate state = STILL;
+    EXPECT(lanolin_getgstate(g, c0, 512, c1, 512, 0, 1, dir, STILL, &state) == LANOLIN_OK);
+    EXPECT(state.tag == 4 && state.pair[0] == 5 && state.pair[1] == 6);
+    EXPECT(lanolin_tag_type1(lanolin_mktag(LANOLIN_TYPE_SUPERBLOCK, 0, 0)) == LANOLIN_TYPE_NAME);
+    EXPECT(lanolin_tag_type1(lanolin_mktag(LANOLIN_TYPE_CTZSTRUCT, 0, 0)) == LANOLIN_TYPE_STRUCT);
+    EXPECT(lanolin_tag_type1(lanolin_mktag(LANOLIN_TYPE_USERATTR + 0xff, 0, 0)) == LANOLIN_TYPE_USERATTR);
+    EXPECT(lanolin_tag_type1(lanolin_mktag(LANOLIN_TYPE_DELETE, 0, 0)) == LANOLIN_TYPE_SPLICE);
+    EXPECT(lanolin_tag_type1(lanolin_mktag(LANOLIN_TYPE_HARDTAIL, 0, 0)) == LANOLIN_TYPE_TAIL);
+}
+
+/* What is read and not written: a superblock's name is no fault of a log, and a forward check that fits marks the room
+ * behind the end as erased. */
+static void test_names_of_what_is_read(void) {
+    const lanolin_geometry g = {512, 8};
+    uint8_t block[512], other[512], forward[8] = {4, 0, 0, 0};
+    const lanolin_entry superblock = {LANOLIN_TYPE_SUPERBLOCK, 0, 0, 8};
+    EXPECT(committed(&superblock, 1, (const uint8_t *)"littlefs", 8) == LANOLIN_ERR_BADENTRY);
+    memset(other, 0xff, sizeof other);
+    lay_named(block, LANOLIN_TYPE_SUPERBLOCK, (const uint8_t *)"littlefs", 8);
+    lanolin_mdir dir = lanolin_fetch(g, block, 512, other, 512, 0, 1, 0, 0).dir;
+    lanolin_got got = lanolin_getslice(g, block, 512, other, 512, 0, 1, dir, STILL, LANOLIN_MASK_CLASS,
+                                       lanolin_mktag(LANOLIN_TYPE_NAME, 0, 0), 0, NULL, 0);
+    EXPECT(got.result == LANOLIN_OK && lanolin_tag_type3(got.tag) == LANOLIN_TYPE_SUPERBLOCK);
+    lanolin_info info = lanolin_getinfo(g, block, 512, other, 512, 0, 1, dir, STILL, LANOLIN_NAME_MAX, 0);
+    EXPECT(info.result == LANOLIN_ERR_NOENT); /* it looks for names under 0x780, as littlefs's own */
+    EXPECT(lanolin_compact(g, block, 512, other, 512, 0, 1, 0, 0).result == LANOLIN_OK);
+    memset(other, 0xff, sizeof other);
+    EXPECT(lanolin_put_le32(forward, 8, 4, lanolin_crc(0xffffffff, other, 4)) == LANOLIN_OK);
+    lay_one(block, lanolin_mktag(LANOLIN_TYPE_FCRC, LANOLIN_NO_SLOT, 8), forward, 8);
+    lanolin_fetched f = lanolin_fetch(g, block, 512, other, 512, 0, 1, 0, 0);
+    EXPECT(f.result == LANOLIN_OK && f.dir.off == 24 && f.dir.erased);
+    EXPECT(f.dir.tail[0] == LANOLIN_BLOCK_NULL && f.dir.tail[1] == LANOLIN_BLOCK_NULL);
+    info = lanolin_getinfo(g, block, 512, other, 512, 0, 1, f.dir, STILL, LANOLIN_NAME_MAX, LANOLIN_NO_SLOT);
+    EXPECT(info.result == LANOLIN_OK && info.type == LANOLIN_TYPE_DIR && !strcmp((char *)info.name, "/"));
+}
+
+/* Each limit is taken, and one more is refused. */
+static void test_names_of_limits(void) {
+    static uint8_t plenty[LANOLIN_BUFFER_MAX + 1];
+    static const lanolin_entry MANY[LANOLIN_ENTRIES_MAX + 1]; /* names of length 0: the first is bad */
+    const lanolin_geometry g = {512, 16};
+    uint8_t block[512], erased[512];
+    lanolin_mdir dir = fetch(0, 1, 0, 0).dir;
+    EXPECT(slice(dir, STILL, LANOLIN_MASK_CLASS, 0, 0, plenty, LANOLIN_BUFFER_MAX).result == LANOLIN_OK);
+    EXPECT(slice(dir, STILL, LANOLIN_MASK_CLASS, 0, 0, plenty, LANOLIN_BUFFER_MAX + 1).result == LANOLIN_ERR_INVAL);
+    lanolin_info info = lanolin_getinfo(G, b0, 128, b1, 128, 0, 1, dir, STILL, LANOLIN_NAME_MAX, 0);
+    EXPECT(info.result == LANOLIN_OK && info.type == LANOLIN_TYPE_REG);
+    info = lanolin_getinfo(G, b0, 128, b1, 128, 0, 1, dir, STILL, LANOLIN_NAME_MAX + 1, 0);
+    EXPECT(info.result == LANOLIN_ERR_INVAL);
+    EXPECT(committed(MANY, LANOLIN_ENTRIES_MAX, NULL, 0) == LANOLIN_ERR_BADENTRY);
+    EXPECT(committed(MANY, LANOLIN_ENTRIES_MAX + 1, NULL, 0) == LANOLIN_ERR_INVAL);
+    EXPECT(committed(NULL, 0, plenty, LANOLIN_DATA_MAX) == LANOLIN_OK);
+    EXPECT(committed(NULL, 0, plenty, LANOLIN_DATA_MAX + 1) == LANOLIN_ERR_INVAL);
+    lanolin_entry file = {LANOLIN_TYPE_INLINESTRUCT, 0, 0, LANOLIN_ATTR_MAX};
+    EXPECT(committed(&file, 1, plenty, LANOLIN_DATA_MAX) == LANOLIN_OK);
+    file.len++;
+    EXPECT(committed(&file, 1, plenty, LANOLIN_DATA_MAX) == LANOLIN_ERR_BADENTRY);
+    memset(erased, 0xff, sizeof erased);
+    lay_one(block, lanolin_mktag(LANOLIN_TYPE_REG, LANOLIN_SLOTS_MAX - 1, 1), plenty, 1);
+    EXPECT(lanolin_fetch(g, block, 512, erased, 512, 0, 1, 0, 0).result == LANOLIN_OK);
+    lay_one(block, lanolin_mktag(LANOLIN_TYPE_REG, LANOLIN_SLOTS_MAX, 1), plenty, 1);
+    EXPECT(lanolin_fetch(g, block, 512, erased, 512, 0, 1, 0, 0).result == LANOLIN_ERR_NOENT);
+}
+
 int main(void) {
     memset(b0, 0xff, sizeof b0);
     memset(b1, 0xff, sizeof b1);
@@ -284,6 +434,10 @@ int main(void) {
     test_pairs_and_states();
     test_commit();
     test_compact();
+    test_names_of_refusals();
+    test_names_of_types();
+    test_names_of_what_is_read();
+    test_names_of_limits();
     printf("C: %d checks, %d failed\n", checks, failures);
     return failures != 0;
 }

@@ -8,29 +8,20 @@
 //!
 //! Exits 2 if it is no such file, 1 if its pair is refused.
 
-use lanolin::{Geometry, Gstate, Pair, Record, Refusal, Tag};
+use lanolin::{
+    Geometry, Gstate, Pair, Record, Refusal, Tag, ATTR_MAX, MASK_CLASS, MASK_TYPE, SLOTS_MAX,
+    TYPE_CTZSTRUCT, TYPE_DIR, TYPE_INLINESTRUCT, TYPE_NAME, TYPE_STRUCT, TYPE_SUPERBLOCK,
+    TYPE_USERATTR,
+};
 use std::path::{Path, PathBuf};
 use std::process::ExitCode;
 use std::{env, fs};
 
 const PROG_SIZE: u32 = 16;
 const MOST_BLOCK: usize = 32768;
-const MOST_SLOTS: usize = 1023;
 const BUCKETS: usize = 64;
-
-// What is looked up for a slot: any name and any struct, by the type's upper
-// three bits; the deadline, user attribute 0x74, by all of them.
-const BY_CLASS: u32 = 0x700ffc00;
-const BY_TYPE: u32 = 0x7ffffc00;
-const NAME: u32 = 0x000;
-const STRUCT: u32 = 0x200;
-const DEADLINE: u32 = 0x374;
-
-// What is found.
-const DIRECTORY: u32 = 0x002;
-const SUPERBLOCK: u32 = 0x0ff;
-const INLINE_STRUCT: u32 = 0x201;
-const CTZ_STRUCT: u32 = 0x202;
+/// The byte that this controller chose.
+const DEADLINE: u32 = TYPE_USERATTR + 0x74;
 
 #[derive(Clone, Copy)]
 enum Deadline {
@@ -83,17 +74,18 @@ impl Directory<'_> {
     /// What the slot has. Directories and the superblock are no instructions.
     fn slot(&self, id: u16) -> Result<Slot, Refusal> {
         let mut data = [0; 8];
-        let name = self.look(BY_CLASS, NAME, id, &mut data)?;
-        if name.is_some_and(|tag| tag.type3() == DIRECTORY || tag.type3() == SUPERBLOCK) {
+        let name = self.look(MASK_CLASS, TYPE_NAME, id, &mut data)?;
+        if name.is_some_and(|tag| matches!(tag.type3(), TYPE_DIR | TYPE_SUPERBLOCK)) {
             return Ok(EMPTY);
         }
-        let found = self.look(BY_CLASS, STRUCT, id, &mut data)?;
+        let found = self.look(MASK_CLASS, TYPE_STRUCT, id, &mut data)?;
         let payload = found.and_then(|tag| match (tag.type3(), tag.size()) {
-            (CTZ_STRUCT, _) => Some(le32(&data[4..])), // last block, then length
-            (INLINE_STRUCT, size) if size > 0 => Some(size),
+            (TYPE_CTZSTRUCT, _) => Some(le32(&data[4..])), // last block, then length
+            (TYPE_INLINESTRUCT, size) if size > 0 => Some(size),
             _ => None,
         });
-        let deadline = match self.look(BY_TYPE, DEADLINE, id, &mut data)?.map(Tag::size) {
+        let found = self.look(MASK_TYPE, DEADLINE, id, &mut data)?;
+        let deadline = match found.map(Tag::size) {
             None => Deadline::None,
             Some(4) => Deadline::Seconds(le32(&data)),
             Some(size) => Deadline::OfBytes(size),
@@ -102,8 +94,8 @@ impl Directory<'_> {
     }
 
     fn name(&self, id: u16) -> Result<String, Refusal> {
-        let mut name = [0; 1022];
-        let Some(tag) = self.look(BY_CLASS, NAME, id, &mut name)? else {
+        let mut name = [0; ATTR_MAX];
+        let Some(tag) = self.look(MASK_CLASS, TYPE_NAME, id, &mut name)? else {
             return Ok(String::from("-"));
         };
         let shown = |byte: &u8| match byte {
@@ -140,16 +132,16 @@ fn le32(bytes: &[u8]) -> u32 {
 /// one head. Equal deadlines share a bucket and keep the order of their slots.
 struct Wheel {
     heads: [Option<u16>; BUCKETS],
-    next: [Option<u16>; MOST_SLOTS],
-    due: [u32; MOST_SLOTS],
+    next: [Option<u16>; SLOTS_MAX],
+    due: [u32; SLOTS_MAX],
 }
 
 impl Wheel {
     fn new() -> Wheel {
         Wheel {
             heads: [None; BUCKETS],
-            next: [None; MOST_SLOTS],
-            due: [0; MOST_SLOTS],
+            next: [None; SLOTS_MAX],
+            due: [0; SLOTS_MAX],
         }
     }
 
@@ -205,7 +197,7 @@ fn restart(image: &[u8]) -> Result<(), Refusal> {
     let record = pair.fetch(0, 0)?.record;
     let directory = Directory { pair, record };
 
-    let mut slots = [EMPTY; MOST_SLOTS];
+    let mut slots = [EMPTY; SLOTS_MAX];
     let mut wheel = Wheel::new();
     for (id, slot) in (0..record.count).zip(&mut slots) {
         *slot = directory.slot(id)?;

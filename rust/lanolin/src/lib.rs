@@ -1,25 +1,54 @@
 //! littlefs metadata pairs from Rust: fetch, lookup, commit and compaction of
 //! one pair, each proved against its definition, through the C-callable archive
-//! `liblanolin.a`.
+//! `liblanolin.a`, which `./lanolin lib` builds.
+//!
+//! The deadline of a slot, its user attribute 0x74:
+//!
+//! ```
+//! use lanolin::{Geometry, Gstate, Pair, Tag, MASK_TYPE, TYPE_USERATTR};
+//!
+//! // Both blocks of the pair, one behind the other.
+//! let image = include_bytes!(concat!(env!("CARGO_MANIFEST_DIR"), "/../../samples/q212.pair"));
+//! let (b0, b1) = image.split_at(image.len() / 2);
+//! let geometry = Geometry { block_size: 128, prog_size: 16 };
+//! let pair = Pair { geometry, images: [b0, b1], numbers: [0, 1] };
+//!
+//! let record = pair.fetch(0, 0)?.record;
+//! let mut seconds = [0; 4];
+//! let key = Tag::new(TYPE_USERATTR + 0x74, 0, 0);
+//! pair.get_slice(record, Gstate::default(), MASK_TYPE, key, 0, &mut seconds)?;
+//! assert_eq!(u32::from_le_bytes(seconds), 90_000);
+//! # Ok::<(), lanolin::Refusal>(())
+//! ```
 //!
 //! What is proved is said at each call in the words of `docs/PROMISES.md`, which
 //! has the theorems' names, what they rest on and what they do not say. The
 //! caller owes nothing: every call takes any bytes, numbers and records, ends,
 //! and answers bad input with a [`Refusal`], which alters no byte of what was
-//! lent. `examples/restart.rs` is a controller's restart.
+//! lent. "Document 01" is what this project calls the rules that it is built to;
+//! `docs/FORMAT.md` tells the format, `docs/REFUSALS.md` each refusal and what to
+//! do then.
+//!
+//! The constants are those of `include/lanolin.h` without their `LANOLIN_`. Whole
+//! programs are `examples/deadline.rs` and `examples/restart.rs`, a controller's
+//! restart.
 //!
 //! The calls with a limit of stores, which are for trying what a power cut
-//! leaves, `get` and `getinfo` are not here; `include/lanolin.h` has them.
+//! leaves, and most of the leaves are not here; `include/lanolin.h` has them.
 //!
 //! Assumes that the archive is the one of this repository.
 
 #![no_std]
-#![deny(unsafe_code, unsafe_op_in_unsafe_fn)]
+#![deny(missing_docs, unsafe_code, unsafe_op_in_unsafe_fn)]
 
+mod entry;
+mod names;
 #[allow(unsafe_code)]
 mod raw;
 mod refusal;
 
+pub use entry::Entry;
+pub use names::*;
 pub use refusal::Refusal;
 
 /// Block size 128 to 32,768, program size 4 to 512, block size a multiple of
@@ -27,7 +56,9 @@ pub use refusal::Refusal;
 #[repr(C)]
 #[derive(Clone, Copy, Debug, PartialEq, Eq)]
 pub struct Geometry {
+    /// Bytes of a block.
     pub block_size: u32,
+    /// Bytes that the device programs at once: a commit ends at a multiple.
     pub prog_size: u32,
 }
 
@@ -51,7 +82,7 @@ pub struct Record {
     pub erased: bool,
     /// The tail is hard: the directory goes on in the pair `tail`.
     pub split: bool,
-    /// Two 0xffffffff: none.
+    /// Two [`BLOCK_NULL`]: none.
     pub tail: [u32; 2],
 }
 
@@ -60,19 +91,10 @@ pub struct Record {
 #[repr(C)]
 #[derive(Clone, Copy, Debug, Default, PartialEq, Eq)]
 pub struct Gstate {
+    /// A pending move's type and id; the number of orphans.
     pub tag: u32,
+    /// The pair of a pending move.
     pub pair: [u32; 2],
-}
-
-/// An entry of a commit: `len` bytes of the data from `off` on. A length of
-/// 1,023 removes a user attribute, and has no data.
-#[repr(C)]
-#[derive(Clone, Copy, Debug, PartialEq, Eq)]
-pub struct Entry {
-    pub type_: u16,
-    pub id: u16,
-    pub off: u32,
-    pub len: u32,
 }
 
 /// A tag: type 11 bits, id 10 bits, size 10 bits.
@@ -86,33 +108,60 @@ impl Tag {
         Tag(raw::mktag(type_, id, size))
     }
 
+    /// All eleven bits of the type: one of the `TYPE_` names.
     pub fn type3(self) -> u32 {
         raw::tag_type3(self.0)
     }
 
+    /// The slot, or [`NO_SLOT`].
     pub fn id(self) -> u32 {
         raw::tag_id(self.0)
     }
 
+    /// How many bytes of data, or [`REMOVAL`].
     pub fn size(self) -> u32 {
         raw::tag_size(self.0)
     }
 }
 
-/// What fetch finds: the record, and the seed with the checksums of the
-/// answering block's commits added.
+/// What fetch finds.
 #[derive(Clone, Copy, Debug, PartialEq, Eq)]
 pub struct Fetched {
+    /// The record of the pair.
     pub record: Record,
+    /// The seed with the checksums of the answering block's commits added.
     pub seed: u32,
+}
+
+/// What is shown of a slot.
+#[derive(Clone, Copy, Debug, PartialEq, Eq)]
+pub struct Info {
+    /// [`TYPE_REG`] or [`TYPE_DIR`], as the name has it.
+    pub type_: u32,
+    /// The file's length; 0 where the struct is neither inline nor CTZ.
+    pub size: u32,
+    name: [u8; 256],
+}
+
+impl Info {
+    /// The name, up to its first zero byte, as C has it: at most `name_max` + 1
+    /// bytes, so that one byte more than `name_max` says that there are more.
+    /// [`Pair::get_slice`] reads a name whole.
+    pub fn name(&self) -> &[u8] {
+        let end = self.name.iter().position(|&byte| byte == 0);
+        &self.name[..end.unwrap_or(self.name.len())]
+    }
 }
 
 /// A pair to read: the images of two blocks, each `block_size` bytes, and their
 /// numbers, which are not equal; else [`Refusal::Invalid`].
 #[derive(Clone, Copy, Debug)]
 pub struct Pair<'a> {
+    /// The sizes.
     pub geometry: Geometry,
+    /// The blocks' bytes.
     pub images: [&'a [u8]; 2],
+    /// The blocks' numbers, in the same order.
     pub numbers: [u32; 2],
 }
 
@@ -124,6 +173,21 @@ impl Pair<'_> {
     /// and `Corrupt` exactly when neither block begins with a valid commit, or a
     /// number is not below a `block_count` that is not 0 (`invalid-exactly`,
     /// `corrupt-exactly`). With more than 1,023 slots it is `TooMany`.
+    ///
+    /// ```
+    /// # use lanolin::{Geometry, Pair, Refusal};
+    /// # let image = include_bytes!(concat!(env!("CARGO_MANIFEST_DIR"), "/../../samples/q212.pair"));
+    /// # let (b0, b1) = image.split_at(128);
+    /// # let geometry = Geometry { block_size: 128, prog_size: 16 };
+    /// # let pair = Pair { geometry, images: [b0, b1], numbers: [0, 1] };
+    /// let record = pair.fetch(0, 0)?.record;
+    /// assert_eq!((record.rev, record.off, record.count), (1, 48, 1));
+    ///
+    /// let erased = [0xff; 128];
+    /// let nothing = Pair { images: [&erased, &erased], ..pair };
+    /// assert_eq!(nothing.fetch(0, 0), Err(Refusal::Corrupt));
+    /// # Ok::<(), lanolin::Refusal>(())
+    /// ```
     pub fn fetch(&self, block_count: u32, seed: u32) -> Result<Fetched, Refusal> {
         let answer = raw::fetch(self, block_count, seed);
         refusal::of_fetch(answer.result, 0, answer.record, answer.seed)
@@ -136,15 +200,36 @@ impl Pair<'_> {
     /// `record` is fetch's of the same images; with another one the answer is
     /// the definition's still, and says nothing of the directory. `gdisk` is the
     /// global state on disk, the XOR of the move states of all pairs
-    /// ([`Pair::get_gstate`]): a pending move hides its entry. At most 65,536
-    /// bytes of buffer.
+    /// ([`Pair::get_gstate`]): a pending move hides its entry. At most
+    /// [`BUFFER_MAX`] bytes of buffer.
     ///
     /// Proved: answer and buffer equal `getsliceOf`; a refusal leaves the buffer
     /// alone (`getslice-refused`). In a regular log, for ids below the count, no
-    /// pending move and offset 0, name and struct (mask 0x700ffc00) and user
-    /// attributes (mask 0x7ffffc00) are those of the directory machine
+    /// pending move and offset 0, name and struct ([`MASK_CLASS`]) and user
+    /// attributes ([`MASK_TYPE`]) are those of the directory machine
     /// (`directory-lookups`). Of ids at or above the count nothing is promised
     /// beyond the definition: such a lookup may find an entry of a deleted slot.
+    ///
+    /// ```
+    /// # use lanolin::*;
+    /// # let image = include_bytes!(concat!(env!("CARGO_MANIFEST_DIR"), "/../../samples/q212.pair"));
+    /// # let (b0, b1) = image.split_at(128);
+    /// # let geometry = Geometry { block_size: 128, prog_size: 16 };
+    /// # let pair = Pair { geometry, images: [b0, b1], numbers: [0, 1] };
+    /// # let record = pair.fetch(0, 0)?.record;
+    /// // The name of slot 0, whatever its kind.
+    /// let mut name = [0; ATTR_MAX];
+    /// let key = Tag::new(TYPE_NAME, 0, 0);
+    /// let tag = pair.get_slice(record, Gstate::default(), MASK_CLASS, key, 0, &mut name)?;
+    /// assert_eq!(tag.type3(), TYPE_REG);
+    /// assert_eq!(&name[..tag.size() as usize], b"q212");
+    ///
+    /// // A user attribute that it doesn't have.
+    /// let key = Tag::new(TYPE_USERATTR + 0x75, 0, 0);
+    /// let none = pair.get_slice(record, Gstate::default(), MASK_TYPE, key, 0, &mut []);
+    /// assert_eq!(none, Err(Refusal::NoEntry));
+    /// # Ok::<(), lanolin::Refusal>(())
+    /// ```
     pub fn get_slice(
         &self,
         record: Record,
@@ -156,6 +241,59 @@ impl Pair<'_> {
     ) -> Result<Tag, Refusal> {
         let got = raw::get_slice(self, record, gdisk, mask, key.0, offset, buffer);
         refusal::of_lookup(got.result, Tag(got.tag))
+    }
+
+    /// As [`Pair::get_slice`] from 0 on, into the buffer's first `key.size()`
+    /// bytes: a shorter buffer is [`Refusal::Invalid`].
+    ///
+    /// Proved: answer and buffer equal `getOf` and `getBuffer`; a refusal leaves
+    /// the buffer alone (`get-refused`).
+    pub fn get(
+        &self,
+        record: Record,
+        gdisk: Gstate,
+        mask: u32,
+        key: Tag,
+        buffer: &mut [u8],
+    ) -> Result<Tag, Refusal> {
+        let got = raw::get(self, record, gdisk, mask, key.0, buffer);
+        refusal::of_lookup(got.result, Tag(got.tag))
+    }
+
+    /// Type, size and name of the slot `id`; with [`NO_SLOT`] those of the root,
+    /// `/`. Of the name at most `name_max` + 1 bytes are read; `name_max` is 1 to
+    /// [`NAME_MAX`]. The superblock's slot is [`Refusal::NoEntry`].
+    ///
+    /// Proved: the answer equals `getinfoOf`.
+    ///
+    /// ```
+    /// # use lanolin::*;
+    /// # let image = include_bytes!(concat!(env!("CARGO_MANIFEST_DIR"), "/../../samples/q212.pair"));
+    /// # let (b0, b1) = image.split_at(128);
+    /// # let geometry = Geometry { block_size: 128, prog_size: 16 };
+    /// # let pair = Pair { geometry, images: [b0, b1], numbers: [0, 1] };
+    /// # let record = pair.fetch(0, 0)?.record;
+    /// for id in 0..u32::from(record.count) {
+    ///     let info = pair.get_info(record, Gstate::default(), NAME_MAX, id)?;
+    ///     assert_eq!((info.type_, info.size, info.name()), (TYPE_REG, 3, &b"q212"[..]));
+    /// }
+    /// # Ok::<(), lanolin::Refusal>(())
+    /// ```
+    pub fn get_info(
+        &self,
+        record: Record,
+        gdisk: Gstate,
+        name_max: u32,
+        id: u32,
+    ) -> Result<Info, Refusal> {
+        let raw::Info {
+            result,
+            type_,
+            size,
+            name,
+        } = raw::get_info(self, record, gdisk, name_max, id);
+        let type_ = type_.into();
+        refusal::of_lookup(result, Info { type_, size, name })
     }
 
     /// The move state of the pair, XORed into `state`; none found leaves it as
@@ -181,8 +319,11 @@ impl Pair<'_> {
 /// byte, made in that order.
 #[derive(Debug)]
 pub struct PairMut<'a> {
+    /// The sizes.
     pub geometry: Geometry,
+    /// The blocks' bytes.
     pub images: [&'a mut [u8]; 2],
+    /// The blocks' numbers, in the same order.
     pub numbers: [u32; 2],
 }
 
@@ -198,8 +339,8 @@ impl PairMut<'_> {
     }
 
     /// One commit of all the entries, appended to the block that answers. Gives
-    /// what a fetch of the finished pair from the same seed gives. At most 8,192
-    /// entries and 65,536 bytes of data.
+    /// what a fetch of the finished pair from the same seed gives. At most
+    /// [`ENTRIES_MAX`] entries and [`DATA_MAX`] bytes of data.
     ///
     /// Proved: it is accepted exactly when document 01 says
     /// (`commit-accepted-exactly`), and lays down exactly its bytes; a refused
@@ -208,6 +349,28 @@ impl PairMut<'_> {
     /// record's erased mark may differ (`commit-stopped`).
     ///
     /// After a stop the room may be torn: `Unclean`, until [`PairMut::compact`].
+    ///
+    /// ```
+    /// # use lanolin::*;
+    /// # let mut image = *include_bytes!(concat!(env!("CARGO_MANIFEST_DIR"), "/../../samples/q212.pair"));
+    /// # let (b0, b1) = image.split_at_mut(128);
+    /// # let geometry = Geometry { block_size: 128, prog_size: 16 };
+    /// # let mut pair = PairMut { geometry, images: [b0, b1], numbers: [0, 1] };
+    /// // A new deadline for slot 0. A block that is full, or was torn by a power
+    /// // cut, is compacted, and then it is tried once more.
+    /// let deadline = [Entry::user_attr(0x74, 0, 0, 4)];
+    /// let seconds = 3600u32.to_le_bytes();
+    /// let record = match pair.commit(0, 0, &deadline, &seconds) {
+    ///     Err(Refusal::NoSpace | Refusal::Unclean) => {
+    ///         pair.compact(0, 0)?;
+    ///         pair.commit(0, 0, &deadline, &seconds)?
+    ///     }
+    ///     other => other?,
+    /// }
+    /// .record;
+    /// assert_eq!((record.rev, record.off), (1, 64));
+    /// # Ok::<(), lanolin::Refusal>(())
+    /// ```
     pub fn commit(
         &mut self,
         block_count: u32,
@@ -229,6 +392,17 @@ impl PairMut<'_> {
     /// the same directory. Stopped after any number of its stores, the erase
     /// being the first, the pair reads as finished or as never begun
     /// (`compact-stopped`).
+    ///
+    /// ```
+    /// # use lanolin::*;
+    /// # let mut image = *include_bytes!(concat!(env!("CARGO_MANIFEST_DIR"), "/../../samples/q212.pair"));
+    /// # let (b0, b1) = image.split_at_mut(128);
+    /// # let geometry = Geometry { block_size: 128, prog_size: 16 };
+    /// # let mut pair = PairMut { geometry, images: [b0, b1], numbers: [0, 1] };
+    /// let record = pair.compact(0, 0)?.record;
+    /// assert_eq!((record.pair, record.rev, record.count), ([1, 0], 2, 1));
+    /// # Ok::<(), lanolin::Refusal>(())
+    /// ```
     pub fn compact(&mut self, block_count: u32, seed: u32) -> Result<Fetched, Refusal> {
         let answer = raw::compact(self, block_count, seed);
         refusal::of_fetch(answer.result, answer.index, answer.record, answer.seed)

@@ -10,9 +10,18 @@
 //! pointers, so as to see what these declarations take for granted.
 //!
 //! Assumes that the archive keeps to the shapes of the header: the linker sees
-//! names only. The tests' runs are what checks it.
+//! names only. The tests' runs are what checks it; the sizes below are those that
+//! the header asserts.
 
 use crate::{Entry, Geometry, Gstate, Record};
+use core::mem::size_of;
+
+const _: () = {
+    assert!(size_of::<Geometry>() == 8 && size_of::<Record>() == 32);
+    assert!(size_of::<Gstate>() == 12 && size_of::<Entry>() == 12);
+    assert!(size_of::<Fetched>() == 40 && size_of::<Committed>() == 44);
+    assert!(size_of::<Got>() == 8 && size_of::<Info>() == 268);
+};
 
 /// `lanolin_fetched`.
 #[repr(C)]
@@ -27,6 +36,15 @@ pub struct Fetched {
 pub struct Got {
     pub result: i32,
     pub tag: u32,
+}
+
+/// `lanolin_info`.
+#[repr(C)]
+pub struct Info {
+    pub result: i32,
+    pub type_: u8,
+    pub size: u32,
+    pub name: [u8; 256],
 }
 
 /// `lanolin_committed`.
@@ -49,6 +67,15 @@ extern "C" {
         n0: u32, n1: u32, dir: Record, gdisk: Gstate,
         gmask: u32, gtag: u32, goff: u32, buffer: *mut u8, gsize: usize,
     ) -> Got;
+    fn lanolin_get(
+        geometry: Geometry, b0: *const u8, b0_len: usize, b1: *const u8, b1_len: usize,
+        n0: u32, n1: u32, dir: Record, gdisk: Gstate,
+        gmask: u32, gtag: u32, buffer: *mut u8, gsize: usize,
+    ) -> Got;
+    fn lanolin_getinfo(
+        geometry: Geometry, b0: *const u8, b0_len: usize, b1: *const u8, b1_len: usize,
+        n0: u32, n1: u32, dir: Record, gdisk: Gstate, name_max: u32, id: u32,
+    ) -> Info;
     fn lanolin_getgstate(
         geometry: Geometry, b0: *const u8, b0_len: usize, b1: *const u8, b1_len: usize,
         n0: u32, n1: u32, dir: Record, gdisk: Gstate, gstate: *mut Gstate,
@@ -94,6 +121,28 @@ pub fn get_slice(
             g, p0, l0, p1, l1, n0, n1, record, gdisk, mask, key, offset, p, l,
         )
     }
+}
+
+pub fn get(
+    pair: &crate::Pair,
+    record: Record,
+    gdisk: Gstate,
+    mask: u32,
+    key: u32,
+    buffer: &mut [u8],
+) -> Got {
+    let (g, [b0, b1], [n0, n1]) = (pair.geometry, pair.images, pair.numbers);
+    let (p0, l0, p1, l1) = (b0.as_ptr(), b0.len(), b1.as_ptr(), b1.len());
+    let (p, l) = (buffer.as_mut_ptr(), buffer.len());
+    // SAFETY: as for `get_slice`.
+    unsafe { lanolin_get(g, p0, l0, p1, l1, n0, n1, record, gdisk, mask, key, p, l) }
+}
+
+pub fn get_info(pair: &crate::Pair, record: Record, gdisk: Gstate, name_max: u32, id: u32) -> Info {
+    let (g, [b0, b1], [n0, n1]) = (pair.geometry, pair.images, pair.numbers);
+    let (p0, l0, p1, l1) = (b0.as_ptr(), b0.len(), b1.as_ptr(), b1.len());
+    // SAFETY: the images are valid for their lengths; any number is answered.
+    unsafe { lanolin_getinfo(g, p0, l0, p1, l1, n0, n1, record, gdisk, name_max, id) }
 }
 
 pub fn get_gstate(pair: &crate::Pair, record: Record, gdisk: Gstate, state: &mut Gstate) -> i32 {

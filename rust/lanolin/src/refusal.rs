@@ -2,14 +2,21 @@
 //! table, with what comes back. The cases and their names are those of
 //! `crates/format/src/lib.rt`.
 //!
-//! Assumes that a call gives no other answers than its own, which is proved
-//! (`fetch-possible`, `getslice-possible`, `commit-possible`,
-//! `compact-possible`).
+//! That a call gives no other answers than its own is proved (`fetch-possible`,
+//! `getslice-possible`, `commit-possible`, `compact-possible`), of the archive of
+//! this repository. A number of another archive is handed on as it is: a
+//! controller is not to stop for it.
 
+use crate::names::*;
 use crate::{Fetched, Record};
 use core::fmt;
 
 /// Why a call was refused. A refused call alters no byte of what it was lent.
+///
+/// There may be more of them one day, so that a `match` needs a last arm. What
+/// is right there is what is right for [`Refusal::Unknown`]: not to repeat the
+/// call, and to report [`Refusal::number`].
+#[non_exhaustive]
 #[derive(Clone, Copy, Debug, PartialEq, Eq)]
 pub enum Refusal {
     /// -22: a size or number is broken.
@@ -33,20 +40,33 @@ pub enum Refusal {
     /// -204: the checksum coincidence, in which a commit cut short could be
     /// taken for a whole one. Commit and compaction.
     Coincidence,
+    /// A number that none of these has. The archive of this repository never
+    /// answers one; it comes from an archive that is newer than this crate. Of
+    /// it nothing is promised here.
+    Unknown(i32),
 }
 
 impl Refusal {
-    /// Document 01's number.
+    /// Document 01's number: one of the `ERR_` names.
+    ///
+    /// ```
+    /// use lanolin::{Refusal, ERR_BADENTRY};
+    ///
+    /// let refusal = Refusal::BadEntry(3);
+    /// assert_eq!(refusal.number(), ERR_BADENTRY);
+    /// assert_eq!(refusal.to_string(), "refused, -201: entry 3 is bad");
+    /// ```
     pub fn number(self) -> i32 {
         match self {
-            Refusal::Invalid => -22,
-            Refusal::Corrupt => -84,
-            Refusal::NoEntry | Refusal::TooMany(_) => -2,
-            Refusal::BadEntry(_) => -201,
-            Refusal::Irregular => -202,
-            Refusal::NoSpace => -28,
-            Refusal::Unclean => -203,
-            Refusal::Coincidence => -204,
+            Refusal::Invalid => ERR_INVAL,
+            Refusal::Corrupt => ERR_CORRUPT,
+            Refusal::NoEntry | Refusal::TooMany(_) => ERR_NOENT,
+            Refusal::BadEntry(_) => ERR_BADENTRY,
+            Refusal::Irregular => ERR_IRREGULAR,
+            Refusal::NoSpace => ERR_NOSPC,
+            Refusal::Unclean => ERR_UNCLEAN,
+            Refusal::Coincidence => ERR_COINCIDENCE,
+            Refusal::Unknown(number) => number,
         }
     }
 }
@@ -64,6 +84,7 @@ impl fmt::Display for Refusal {
             Refusal::NoSpace => write!(f, "no space"),
             Refusal::Unclean => write!(f, "the room behind the end isn't clean"),
             Refusal::Coincidence => write!(f, "the checksum coincidence"),
+            Refusal::Unknown(_) => write!(f, "a number that this crate doesn't know"),
         }
     }
 }
@@ -73,8 +94,8 @@ impl core::error::Error for Refusal {}
 /// The answer of a lookup.
 pub(crate) fn of_lookup<T>(result: i32, found: T) -> Result<T, Refusal> {
     match result {
-        0 => Ok(found),
-        -2 => Err(Refusal::NoEntry),
+        OK => Ok(found),
+        ERR_NOENT => Err(Refusal::NoEntry),
         other => Err(refused(other, 0)),
     }
 }
@@ -89,21 +110,42 @@ pub(crate) fn of_fetch(
 ) -> Result<Fetched, Refusal> {
     let fetched = Fetched { record, seed };
     match result {
-        0 => Ok(fetched),
-        -2 => Err(Refusal::TooMany(fetched)),
+        OK => Ok(fetched),
+        ERR_NOENT => Err(Refusal::TooMany(fetched)),
         other => Err(refused(other, index)),
     }
 }
 
 fn refused(number: i32, index: u32) -> Refusal {
     match number {
-        -22 => Refusal::Invalid,
-        -84 => Refusal::Corrupt,
-        -201 => Refusal::BadEntry(index),
-        -202 => Refusal::Irregular,
-        -28 => Refusal::NoSpace,
-        -203 => Refusal::Unclean,
-        -204 => Refusal::Coincidence,
-        other => unreachable!("no call answers {other}"),
+        ERR_INVAL => Refusal::Invalid,
+        ERR_CORRUPT => Refusal::Corrupt,
+        ERR_BADENTRY => Refusal::BadEntry(index),
+        ERR_IRREGULAR => Refusal::Irregular,
+        ERR_NOSPC => Refusal::NoSpace,
+        ERR_UNCLEAN => Refusal::Unclean,
+        ERR_COINCIDENCE => Refusal::Coincidence,
+        other => Refusal::Unknown(other),
+    }
+}
+
+#[cfg(test)]
+mod tests {
+    use super::*;
+
+    /// Every refusal of document 01 comes back under its own number, and a
+    /// number that it hasn't is handed on, whatever it is.
+    #[test]
+    fn numbers_are_kept() {
+        for number in [-22, -84, -201, -202, -28, -203, -204] {
+            let refusal = refused(number, 0);
+            assert_eq!(refusal.number(), number);
+            assert!(!matches!(refusal, Refusal::Unknown(_)));
+        }
+        for number in [-213, -1, 1, i32::MIN, i32::MAX] {
+            assert_eq!(refused(number, 0), Refusal::Unknown(number));
+            assert_eq!(of_lookup(number, ()), Err(Refusal::Unknown(number)));
+            assert_eq!(Refusal::Unknown(number).number(), number);
+        }
     }
 }

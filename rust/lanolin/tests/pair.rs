@@ -5,7 +5,7 @@
 //! Each field of each answer is compared: a declaration that is not the header's
 //! shows here.
 
-use lanolin::{Entry, Fetched, Geometry, Gstate, Pair, PairMut, Record, Refusal, Tag};
+use lanolin::*;
 
 const LISTING: &[u8; 256] = include_bytes!("../../../samples/q212.pair");
 /// A name alone, of id 1,023 or 1,022, so that the count is one more, and no
@@ -61,6 +61,20 @@ fn pair_mut(bytes: &mut [u8; 256]) -> PairMut<'_> {
     let (b0, b1) = bytes.split_at_mut(128);
     PairMut {
         geometry: GEOMETRY,
+        images: [b0, b1],
+        numbers: [0, 1],
+    }
+}
+
+/// The listing in blocks of 1,024 bytes.
+fn roomy(bytes: &mut [u8; 2048]) -> PairMut<'_> {
+    let (b0, b1) = bytes.split_at_mut(1024);
+    b0[..128].copy_from_slice(&LISTING[..128]);
+    PairMut {
+        geometry: Geometry {
+            block_size: 1024,
+            ..GEOMETRY
+        },
         images: [b0, b1],
         numbers: [0, 1],
     }
@@ -176,6 +190,48 @@ fn refused_lookups_leave_the_buffer() {
 }
 
 #[test]
+fn get_fills_as_many_bytes_as_the_key_says() {
+    let mut buffer = [0xa5; 6];
+    let key = |size| Tag::new(0x374, 0, size);
+    let answer = pair(LISTING).get(LISTED, NO_MOVE, MASK_TYPE, key(5), &mut buffer);
+    let found = (Ok(Tag::new(0x374, 0, 4)), *b"\x90\x5f\x01\0\0\xa5");
+    assert_eq!((answer, buffer), found);
+    let answer = pair(LISTING).get(LISTED, NO_MOVE, MASK_TYPE, key(7), &mut buffer);
+    assert_eq!((answer, buffer), (Err(Refusal::Invalid), found.1));
+    let key = Tag::new(0x375, 0, 4);
+    let answer = pair(LISTING).get(LISTED, NO_MOVE, MASK_TYPE, key, &mut buffer);
+    assert_eq!((answer, buffer), (Err(Refusal::NoEntry), found.1));
+}
+
+#[test]
+fn info_tells_type_size_and_name() {
+    let told = |name_max, id| {
+        let info = pair(LISTING).get_info(LISTED, NO_MOVE, name_max, id)?;
+        Ok((info.type_, info.size, info.name().to_vec()))
+    };
+    assert_eq!(told(255, 0), Ok((0x001, 3, b"q212".to_vec())));
+    assert_eq!(told(2, 0), Ok((0x001, 3, b"q21".to_vec())));
+    assert_eq!(told(255, 1023), Ok((0x002, 0, b"/".to_vec())));
+    assert_eq!(told(255, 1), Err(Refusal::NoEntry));
+    assert_eq!(told(256, 0), Err(Refusal::Invalid));
+    assert_eq!(told(255, 1024), Err(Refusal::Invalid));
+}
+
+/// A name that fills all 256 bytes has no zero behind it.
+#[test]
+fn a_long_name_is_shown_to_the_256th_byte() {
+    let mut bytes = [0xff; 2048];
+    let mut pair = roomy(&mut bytes);
+    for len in [255, 256, 300] {
+        let renamed = [Entry::file_name(0, 0, len)];
+        pair.compact(0, 0).unwrap();
+        let record = pair.commit(0, 0, &renamed, &[b'n'; 300]).unwrap().record;
+        let info = pair.as_pair().get_info(record, NO_MOVE, NAME_MAX, 0);
+        assert_eq!(info.unwrap().name(), &[b'n'; 300][..len.min(256) as usize]);
+    }
+}
+
+#[test]
 fn a_pending_move_hides_its_entry() {
     let gdisk = Gstate {
         tag: Tag::new(0x4ff, 0, 0).0,
@@ -250,6 +306,33 @@ fn compaction_writes_the_other_block() {
     assert_eq!(bytes[..128], LISTING[..128]);
     assert_eq!(bytes[128..], renewed);
     assert_eq!(pair(&bytes).fetch(0, 0), Ok(answer));
+}
+
+/// Document 01's types and lengths. That a commit takes each shows that it is
+/// whole.
+#[test]
+fn entries_are_what_a_commit_takes() {
+    let made = [
+        (Entry::create(1), entry(0x401, 1, 0, 0)),
+        (Entry::file_name(1, 2, 3), entry(0x001, 1, 2, 3)),
+        (Entry::inline_struct(1, 2, 3), entry(0x201, 1, 2, 3)),
+        (Entry::ctz_struct(1, 4), entry(0x202, 1, 4, 8)),
+        (Entry::user_attr(0x74, 1, 2, 3), entry(0x374, 1, 2, 3)),
+        (Entry::remove_attr(0xff, 1), entry(0x3ff, 1, 0, 1023)),
+        (Entry::dir_name(1, 2, 3), entry(0x002, 1, 2, 3)),
+        (Entry::dir_struct(1, 4), entry(0x200, 1, 4, 8)),
+        (Entry::delete(1), entry(0x4ff, 1, 0, 0)),
+        (Entry::soft_tail(4), entry(0x600, 1023, 4, 8)),
+        (Entry::hard_tail(4), entry(0x601, 1023, 4, 8)),
+        (Entry::move_state(0), entry(0x7ff, 1023, 0, 12)),
+    ];
+    let mut bytes = [0xff; 2048];
+    let mut pair = roomy(&mut bytes);
+    for (made, expected) in made {
+        assert_eq!(made, expected);
+    }
+    let entries = made.map(|(made, _)| made);
+    assert!(pair.commit(0, 0, &entries, &[7; 12]).is_ok());
 }
 
 /// A commit that is refused, and leaves both images as they were.
@@ -331,4 +414,46 @@ fn broken_sizes_and_numbers_are_invalid() {
         assert_eq!(pair.fetch(0, 0), Err(Refusal::Invalid));
     }
     assert_eq!(good.fetch(1, 0), Err(Refusal::Corrupt)); // number 1 is too high
+}
+
+/// A number as the header writes it: `1022`, `(-22)`, `0x401`, `0x7ffffc00u`.
+fn number(written: &str) -> i64 {
+    let plain = written.trim_matches(['(', ')', 'u']);
+    match plain.strip_prefix("0x") {
+        Some(hex) => i64::from_str_radix(hex, 16).unwrap(),
+        None => plain.parse().unwrap(),
+    }
+}
+
+/// Each `#define LANOLIN_NAME number` of the header, and no other name, is here
+/// with the same number.
+#[test]
+fn the_names_are_the_header_s() {
+    macro_rules! named {
+        ($($name:ident)*) => { [$((stringify!($name), $name as i64)),*] };
+    }
+    let names = named![
+        VERSION_MAJOR VERSION_MINOR
+        OK ERR_INVAL ERR_CORRUPT ERR_NOENT ERR_NOSPC ERR_BADENTRY ERR_IRREGULAR ERR_UNCLEAN
+        ERR_COINCIDENCE
+        TYPE_NAME TYPE_REG TYPE_DIR TYPE_SUPERBLOCK TYPE_STRUCT TYPE_DIRSTRUCT TYPE_INLINESTRUCT
+        TYPE_CTZSTRUCT TYPE_USERATTR TYPE_SPLICE TYPE_CREATE TYPE_DELETE TYPE_CCRC TYPE_FCRC
+        TYPE_TAIL TYPE_SOFTTAIL TYPE_HARDTAIL TYPE_MOVESTATE
+        MASK_TYPE MASK_CLASS NO_SLOT REMOVAL BLOCK_NULL
+        ATTR_MAX SLOTS_MAX NAME_MAX BUFFER_MAX ENTRIES_MAX DATA_MAX
+    ];
+    let header = include_str!("../../../include/lanolin.h").lines();
+    let defined: Vec<(&str, i64)> = header
+        .filter_map(|line| line.strip_prefix("#define LANOLIN_")?.split_once(' '))
+        .filter(|(name, _)| *name != "VERSION" && !name.contains('('))
+        .map(|(name, rest)| (name, number(rest.split(' ').next().unwrap())))
+        .collect();
+    assert_eq!(defined, names);
+    assert_eq!(VERSION, VERSION_MAJOR << 16 | VERSION_MINOR);
+    let package = concat!(
+        env!("CARGO_PKG_VERSION_MAJOR"),
+        ".",
+        env!("CARGO_PKG_VERSION_MINOR")
+    );
+    assert_eq!(package, format!("{VERSION_MAJOR}.{VERSION_MINOR}"));
 }
