@@ -19,7 +19,7 @@ import sys
 
 ARCHIVE = "target/staticlib/liblanolin.a"
 OUTSIDE = {"memcpy": 0, "memset": 0}  # the C library's own: not counted
-RED_ZONE = 128  # the x86-64 ABI: so many bytes below the stack pointer are a function's own while it calls nothing
+RED_ZONE = 128  # the x86-64 ABI: so many bytes below the stack pointer belong to a function that calls nothing
 ADDRESS = 8  # of a return, pushed by the call
 
 FUNCTION = re.compile(r"^[0-9a-f]+ <(.+)>:$")
@@ -103,6 +103,13 @@ def depths(name, code):
         waiting.append((missed[0], next(iter(tables))))
 
 
+def red_zone(code):
+    """Counted whole where a function that calls nothing looks at the stack at all, by whichever register."""
+    calls = any(operation == "call" for _, operation, _, _ in code)
+    looks = any("%rsp" in operands and not operands.endswith(",%rsp") for _, _, operands, _ in code)
+    return RED_ZONE if looks and not calls else 0
+
+
 def bound(name, code_of, known, above=()):
     """The most that a call of this function takes, return address included."""
     if name in OUTSIDE:
@@ -115,7 +122,7 @@ def bound(name, code_of, known, above=()):
         most, code = 0, code_of[name]
         for at, d in depths(name, code).items():
             _, operation, operands, outside = code[at]
-            own = RED_ZONE if re.search(r"-0x[0-9a-f]+\(%rsp", operands) else 0
+            own = red_zone(code)
             if operation == "call" and outside is None:
                 fail(f"{name}: call {operands}, through a pointer")
             if outside is not None:  # a jump to another function hands on the return address that is there
