@@ -85,6 +85,7 @@ misused "takes one FILE" list
 misused "takes one FILE" list "$pair" "$pair"
 misused "no option --nope" list --nope "$pair"
 misused "--prog-size needs a value" list "$pair" --prog-size
+misused "--pair needs a value" list --pair= "$pair"
 misused "--full goes with log alone" list --full "$pair"
 misused "go together" list --block-size 128 "$pair"
 misused "go together" audit --pair 4,5 "$pair"
