@@ -1,0 +1,166 @@
+/* How deep each call of the archive really goes: the stack below a call is painted, the call is made, and the paint
+ * that is gone is counted. A pair of 32,768-byte blocks with 1,000 slots is read, written and compacted, and refused
+ * calls are among them. Prints each call's name and the most bytes that it took, return address included: a measure on
+ * these inputs, to hold beside the bounds of tools/stack.py. Exits 1 if a call does not answer as it must.
+ *
+ * Compiled with -maccumulate-outgoing-args, so that the stack pointer stays where it is in a function that calls, and
+ * linked with -z now, since a function of the C library that is bound at its first call goes through the loader. */
+#include "lanolin.h"
+
+#include <stdio.h>
+#include <stdlib.h>
+#include <string.h>
+
+enum { BLOCK = 32768, PROG = 16, SLOTS = 1000, PAINTED = 65536, PAINT = 0xa5 };
+
+static const lanolin_geometry G = {BLOCK, PROG};
+static const lanolin_gstate STILL;
+static uint8_t b0[BLOCK], b1[BLOCK], buffer[65536];
+
+#define MUST(c) ((c) ? (void)0 : (printf("%s:%d: not so: %s\n", __FILE__, __LINE__, #c), exit(1)))
+
+/* Names, and the most that each took. */
+static struct { const char *name; long most; } calls[64];
+
+static void took(const char *name, long bytes) {
+    int i = 0;
+    while (calls[i].name && strcmp(calls[i].name, name)) i++;
+    MUST(i < 63);
+    calls[i].name = name;
+    if (bytes > calls[i].most) calls[i].most = bytes;
+}
+
+/* Paints, calls and counts in the function that calls, with no call in between: so what is gone, the call took. The
+ * volatile bytes keep the compiler from making calls of the two loops. */
+#define DEPTH(call, ...)                                                     \
+    do {                                                                     \
+        volatile uint8_t *sp;                                                \
+        __asm__ volatile("mov %%rsp, %0" : "=r"(sp));                        \
+        for (long i = 1; i <= PAINTED; i++) sp[-i] = PAINT;                  \
+        (void)call(__VA_ARGS__);                                             \
+        long below = PAINTED;                                                \
+        while (below > 0 && sp[-below] == PAINT) below--;                    \
+        took(#call, below);                                                  \
+    } while (0)
+
+#define PAIR b0, BLOCK, b1, BLOCK, 0, 1
+
+/* The first commit, a check alone: what a writer finds when it is called for the first time. */
+static void format(void) {
+    memset(b0, 0xff, BLOCK);
+    memset(b1, 0xff, BLOCK);
+    MUST(lanolin_put_le32(b0, BLOCK, 0, 1) == 0);
+    MUST(lanolin_put_be32(b0, BLOCK, 4, 0xffffffff ^ lanolin_mktag(0x500, 0x3ff, 8)) == 0);
+    MUST(lanolin_put_le32(b0, BLOCK, 8, lanolin_crc(0xffffffff, b0, 8)) == 0);
+}
+
+/* Slots of a name of four bytes, a payload of three and a deadline of four, eight to a commit. */
+static void fill(int slots) {
+    static const uint8_t DATA[] = {'q', '2', '1', '2', 'a', 'b', 'c', 0x90, 0x5f, 0x01, 0x00};
+    for (int id = 0; id < slots; id += 8) {
+        lanolin_entry entries[32];
+        size_t n = 0;
+        for (int i = id; i < id + 8 && i < slots; i++) {
+            entries[n++] = (lanolin_entry){0x401, (uint16_t)i, 0, 0};
+            entries[n++] = (lanolin_entry){0x001, (uint16_t)i, 0, 4};
+            entries[n++] = (lanolin_entry){0x201, (uint16_t)i, 4, 3};
+            entries[n++] = (lanolin_entry){0x374, (uint16_t)i, 7, 4};
+        }
+        MUST(lanolin_commit(G, PAIR, 0, 0, entries, n, DATA, sizeof DATA).result == 0);
+    }
+}
+
+static __attribute__((noinline)) void reading(void) {
+    lanolin_mdir dir = lanolin_fetch(G, PAIR, 0, 0).dir;
+    lanolin_gstate state = STILL, moving = {0x4ff00000, {0, 1}};
+    MUST(dir.count == SLOTS);
+    DEPTH(lanolin_fetch, G, PAIR, 0, 0);
+    DEPTH(lanolin_fetch, G, PAIR, 1, 0);
+    DEPTH(lanolin_fetch, G, b0, 0, b1, 0, 0, 1, 0, 0);
+    for (uint32_t id = 0; id < SLOTS + 2; id += 77) {
+        DEPTH(lanolin_getslice, G, PAIR, dir, STILL, 0x7ffffc00, lanolin_mktag(0x374, id, 0), 0, buffer, 4);
+        DEPTH(lanolin_getslice, G, PAIR, dir, moving, 0x700ffc00, lanolin_mktag(0, id, 0), 0, buffer, sizeof buffer);
+        DEPTH(lanolin_get, G, PAIR, dir, STILL, 0x700ffc00, lanolin_mktag(0x200, id, 255), buffer, sizeof buffer);
+        DEPTH(lanolin_get, G, PAIR, dir, STILL, 0x7ffffc00, lanolin_mktag(0x375, id, 1022), buffer, 1022);
+        DEPTH(lanolin_getinfo, G, PAIR, dir, STILL, 255, id);
+    }
+    DEPTH(lanolin_getslice, G, PAIR, dir, STILL, 0x7ffffc00, lanolin_mktag(0x374, 1, 0), BLOCK, buffer, 4);
+    DEPTH(lanolin_getinfo, G, PAIR, dir, STILL, 255, 0x3ff);
+    DEPTH(lanolin_getgstate, G, PAIR, dir, STILL, &state);
+    DEPTH(lanolin_getgstate, G, b0, BLOCK, b1, BLOCK, 0, 2, dir, STILL, &state);
+}
+
+/* An entry of every kind, and one that is bad. */
+static __attribute__((noinline)) void committing(void) {
+    static const uint8_t DATA[16] = "0123456789abcde";
+    static const lanolin_entry ENTRIES[] = {
+        {0x401, 0, 0, 0},    {0x001, 0, 0, 9}, {0x201, 0, 1, 15}, {0x374, 0, 0, 4}, {0x374, 0, 0, 1023},
+        {0x4ff, 0, 0, 0},    {0x002, 1, 0, 3}, {0x200, 1, 0, 8},  {0x202, 2, 0, 8}, {0x601, 0x3ff, 0, 8},
+        {0x7ff, 0x3ff, 0, 12}, {0x500, 0, 0, 0}};
+    const size_t good = sizeof ENTRIES / sizeof *ENTRIES - 1;
+    lanolin_stored half = lanolin_commit_stores(G, PAIR, 0, 0, ENTRIES, good, DATA, sizeof DATA, 0);
+    MUST(half.result == 0);
+    DEPTH(lanolin_commit_stores, G, PAIR, 0, 0, ENTRIES, good + 1, DATA, sizeof DATA, 100);
+    DEPTH(lanolin_commit, G, PAIR, 0, 0, ENTRIES, good + 1, DATA, sizeof DATA);
+    DEPTH(lanolin_commit, G, PAIR, 0, 0, ENTRIES, good, DATA, sizeof DATA);
+    DEPTH(lanolin_commit_stores, G, PAIR, 0, 0, ENTRIES, good, DATA, sizeof DATA, 50);
+    DEPTH(lanolin_commit, G, PAIR, 0, 0, ENTRIES, good, DATA, sizeof DATA); /* torn: -203 */
+    MUST(lanolin_commit(G, PAIR, 0, 0, ENTRIES, good, DATA, sizeof DATA).result == -203);
+    DEPTH(lanolin_commit, G, PAIR, 1, 0, ENTRIES, good, DATA, sizeof DATA);
+}
+
+static __attribute__((noinline)) void compacting(void) {
+    uint32_t answers = lanolin_fetch(G, PAIR, 0, 0).dir.pair[0];
+    DEPTH(lanolin_compact_stores, G, PAIR, 0, 0, 1000);
+    DEPTH(lanolin_compact, G, PAIR, 0, 0);
+    MUST(lanolin_fetch(G, PAIR, 0, 0).dir.pair[0] != answers);
+    DEPTH(lanolin_compact, G, PAIR, 0, 0);
+    DEPTH(lanolin_compact_stores, G, PAIR, 0, 0, 0xffffffff);
+    DEPTH(lanolin_compact, G, PAIR, 1, 0);
+    MUST(lanolin_fetch(G, PAIR, 0, 0).dir.count == SLOTS);
+}
+
+#define TAG_LEAVES(OF) OF(isvalid) OF(isdelete) OF(type1) OF(type2) OF(type3) OF(chunk) OF(splice) OF(id) OF(size) \
+    OF(dsize)
+#define TAG_DEPTH(leaf) DEPTH(lanolin_tag_##leaf, 0x4ff003ff);
+#define STATE_LEAVES(OF) OF(iszero) OF(hasorphans) OF(getorphans) OF(hasmove) OF(needssuperblock)
+#define STATE_DEPTH(leaf) DEPTH(lanolin_gstate_##leaf, &state);
+
+static __attribute__((noinline)) void leaves(void) {
+    lanolin_gstate state = {0x4ff00000, {0, 1}};
+    DEPTH(lanolin_crc, 0xffffffff, b0, BLOCK);
+    DEPTH(lanolin_mktag, 0x374, 3, 4);
+    DEPTH(lanolin_mktag_if, true, 0x374, 3, 4);
+    TAG_LEAVES(TAG_DEPTH)
+    DEPTH(lanolin_min, 3, 4);
+    DEPTH(lanolin_max, 3, 4);
+    DEPTH(lanolin_aligndown, 100, 16);
+    DEPTH(lanolin_alignup, 100, 16);
+    DEPTH(lanolin_npw2, 0x80000001);
+    DEPTH(lanolin_ctz, 0x80000000);
+    DEPTH(lanolin_popc, 0xffffffff);
+    DEPTH(lanolin_scmp, 1, 2);
+    DEPTH(lanolin_le32_at, b0, BLOCK, BLOCK - 4);
+    DEPTH(lanolin_be32_at, b0, BLOCK, BLOCK - 3);
+    DEPTH(lanolin_put_le32, buffer, sizeof buffer, 0, 1);
+    DEPTH(lanolin_put_be32, buffer, sizeof buffer, sizeof buffer, 1);
+    DEPTH(lanolin_pair_swap, 1, 2);
+    DEPTH(lanolin_pair_isnull, 1, 2);
+    DEPTH(lanolin_pair_cmp, 1, 2, 3, 4);
+    DEPTH(lanolin_pair_issync, 1, 2, 2, 1);
+    STATE_LEAVES(STATE_DEPTH)
+    DEPTH(lanolin_gstate_hasmovehere, &state, 1, 2);
+    DEPTH(lanolin_gstate_xor, &state, &STILL);
+}
+
+int main(void) {
+    leaves();
+    format();
+    DEPTH(lanolin_compact, G, PAIR, 0, 0); /* no slot */
+    fill(SLOTS);
+    reading();
+    committing();
+    compacting();
+    for (int i = 0; calls[i].name; i++) printf("%s %ld\n", calls[i].name, calls[i].most);
+    return 0;
+}
