@@ -119,7 +119,7 @@ typedef struct { uint32_t pair[2]; } lanolin_pair;
 typedef struct { int32_t result; lanolin_mdir dir; uint32_t seed; } lanolin_fetched;
 /* tag: 0 on a refusal */
 typedef struct { int32_t result; uint32_t tag; } lanolin_got;
-/* type: LANOLIN_TYPE_REG or LANOLIN_TYPE_DIR, as the name has it; all zero but the result on a refusal */
+/* type: the name's, LANOLIN_TYPE_REG or LANOLIN_TYPE_DIR as littlefs writes it; all zero but the result on a refusal */
 typedef struct { int32_t result; uint8_t type; uint32_t size; uint8_t name[256]; } lanolin_info;
 /* dir and seed as lanolin_fetched has them; index: of LANOLIN_ERR_BADENTRY the entry's, from 0, else 0 */
 typedef struct { int32_t result; uint32_t index; lanolin_mdir dir; uint32_t seed; } lanolin_committed;

@@ -34,9 +34,9 @@ x86_cc() { x86_64-linux-gnu-gcc "$@"; }
 x86_run() { $emulator "$@"; }
 
 x86_cargo() {
-  local target=CARGO_TARGET_X86_64_UNKNOWN_LINUX_GNU
+  local target=CARGO_TARGET_X86_64_UNKNOWN_LINUX_GNU std="-L $x86/std/usr/lib/rustlib/x86_64-unknown-linux-gnu/lib"
   unpack_std
-  env RUSTC=/usr/bin/rustc RUSTFLAGS="-L $x86/std/usr/lib/rustlib/x86_64-unknown-linux-gnu/lib" \
+  env RUSTC=/usr/bin/rustc RUSTFLAGS="$std" RUSTDOC=/usr/bin/rustdoc RUSTDOCFLAGS="$std" \
     CARGO_BUILD_TARGET=x86_64-unknown-linux-gnu "${target}_LINKER=x86_64-linux-gnu-gcc" \
     "${target}_RUNNER=$emulator" cargo "$@"
 }

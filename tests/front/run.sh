@@ -57,7 +57,13 @@ from=$root
 tries 0 audit samples/instructions.pair
 ends "slots 10"
 
+tries 0 log "$pair"
+shows crates/log/stdout
+
 refused -84 "neither block has a valid commit" crates/check_edges/data/all-erased
+tries 1 log crates/check_edges/data/all-erased # the log is shown all the same
+ends "refused -84"
+grep -q '^block 1 rev 4294967295$' "$scratch/out" || fail "shows no log"
 refused -2 "more than 1,023 slots" crates/check_edges/data/count-1024
 refused -202 "not regular" samples/real/empty-128-0-1.pair
 [ "$(wc -l <"$scratch/out")" = 7 ] || fail "-202 comes behind six lines of the record"
@@ -71,6 +77,9 @@ quiet err
 lists "$four" "$volume" --pair 0x4,0x05 --block-size 0x80
 lists "$four" --block-size=128 --pair=5,4 --prog-size 4 - <"$volume"
 lists "$listed" --prog-size 016 "$pair" # not octal
+tries 0 log --full --block-size 128 --pair 5,4 "$volume"
+ends "block 4 answers"
+grep -q '^      0000000c: 71 32 31 32  *q212$' "$scratch/out" || fail "does not show all data"
 tries 1 list --block-size 128 --pair 6,7 "$volume"
 says "neither block"
 head -c 800 "$volume" >"$scratch/short"

@@ -8,3 +8,4 @@ pub mod Pairs
 pub mod Lookups
 pub mod Text
 pub mod Audit
+pub mod RawLog

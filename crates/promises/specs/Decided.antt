@@ -4,6 +4,7 @@
 -- that the contracts of the calls cite. What the four writing calls leave in both images is one definition of `format`,
 -- which their contracts cite whole (`CommitLeaves` and its like), and of which the same is shown. Assumes nothing.
 use mathlib.Core.Path.{_≡_, sym, _∙_}
+use mathlib.Core.Bool.{Bool}
 use mathlib.Core.List.{List}
 use Prim.Native.Nat.{ℕ}
 use lib.ListN.{length}
@@ -14,6 +15,7 @@ use Rattle.format.specs.Compaction.{compactImages, compactOf, compactStoresOf}
 use Rattle.format.specs.Stopped.{CommitLeaves, CommitStoresLeaves, CompactLeaves, CompactStoresLeaves}
 use Rattle.format.specs.Listing.{listingAs, listingOf, writtenTo}
 use Rattle.format.specs.Audit.{auditAs, auditOf}
+use Rattle.format.specs.RawLog.{rawLogOf}
 use Rattle.format.specs.Bytes.{le32At, be32At, putAnswer, putLe32, putBe32}
 use Rattle.format.specs.Arith.{alignDown, alignUp}
 use Rattle.format.specs.Gstate.{gstateXor}
@@ -123,6 +125,10 @@ audit-as-decided prog p input out = text-decided out (auditAs prog p input)
 
 pub audit-decided : (input out : List ℕ) → TextDecided out (auditOf input)
 audit-decided input out = text-decided out (auditOf input)
+
+pub log-decided : (full : Bool) (prog : ℕ) (p : LfsPair) (input out : List ℕ)
+    → TextDecided out (rawLogOf full prog p input)
+log-decided full prog p input out = text-decided out (rawLogOf full prog p input)
 
 -- ---- words at an offset, alignment, the state's XOR
 pub words-decided : (s : List ℕ) (off : ℕ) → Decides (le32At s off) × Decides (be32At s off)

@@ -35,7 +35,8 @@ pub cells-more : (n i : ℕ) (l : List ℕ) (a s r : Text) → i < n → a ≡ p
     → r ≡ putsOf s (cell (drop i l)) → a ≡ putsOf r (hexCells (n - (i + 1)) (drop (i + 1) l))
 cells-more n i l a s r h ea er =
     let R : List ℕ = hexCells (n - (i + 1)) (drop (i + 1) l) in
-    ea ∙ ap (putsOf s) (cells-next n i l h) ∙ sym (puts-app (cell (drop i l)) R s) ∙ ap (λ (z : Text). putsOf z R) (sym er)
+    ea ∙ ap (putsOf s) (cells-next n i l h) ∙ sym (puts-app (cell (drop i l)) R s) ∙ ap (λ (z : Text). putsOf z R)
+    (sym er)
 
 pub cells-start : (n : ℕ) (l : List ℕ) (s : Text) → putsOf s (hexCells n l) ≡ putsOf s (hexCells (n - 0) (drop 0 l))
 cells-start n l s =
@@ -95,7 +96,8 @@ pub cut-shown : (s t r : Text) (full : Bool) (d : List ℕ) (to : ℕ) → full 
     → r ≡ putsOf s (cutData full d)
 unfolding cutData
 cut-shown s t r full d to h p et er =
-    rw h (join s t r (ascii "  ") (cells 8 (take 8 d)) et (er ∙ ap (λ (l : List ℕ). putsOf t (cells 8 l)) (p .cut d refl)))
+    rw h (join s t r (ascii "  ") (cells 8 (take 8 d)) et (er ∙ ap (λ (l : List ℕ). putsOf t (cells 8 l)) (p .cut d
+    refl)))
 
 -- ---- a line
 pub line-cells : (v w : Text) (from to : ℕ) (d : List ℕ) → PartEnds (length d) from 16 to

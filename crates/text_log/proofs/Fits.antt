@@ -14,9 +14,9 @@ use Rattle.format.specs.Crc.{crc}
 use Rattle.format.specs.Walk.{Event, ent, chk, inv, Class, past, invalid, check, entry, classOf, checked, stepOf}
 use Rattle.format.specs.Walk.{walkIn, walkFrom, walk}
 use Rattle.format.specs.Log.{log, logEnd}
-use Rattle.format.specs.Listing.{ascii, decimal, hexByte, hexBytes, hexType, numberLine, fetchInput}
+use Rattle.format.specs.Listing.{ascii, decimal, hexBytes, hexType, numberLine, fetchInput}
 use Rattle.format.specs.RawLog.{hexWord, margin, column, idColumn, sizeColumn, Named, nameIn, typeNames, classNames}
-use Rattle.format.specs.RawLog.{className, tagName, heading, typeColumns, tagColumns, cell, hexCells, letter, letters}
+use Rattle.format.specs.RawLog.{className, tagName, heading, typeColumns, tagColumns, cell, hexCells, letters}
 use Rattle.format.specs.RawLog.{cells, cutData, dataLine, dataLines, fullData, dataOf, entryText, checkText, stopLine}
 use Rattle.format.specs.RawLog.{invalidStop, checkStop, pastStop, checkWhole, stopText, eventTexts, committedLine}
 use Rattle.format.specs.RawLog.{blockLog, answersLine, answerLine, isShown, blockLogs, rawLogOf}
@@ -42,7 +42,8 @@ word-eight n = omega arith
 
 column-short : (n : ℕ) → length (column n) ≤ 13
 unfolding column margin
-column-short n = both (cond (ltb n 10) (ascii "   ") (cond (ltb n 100) (ascii "  ") (cond (ltb n 1_000) (ascii " ") [])))
+column-short n = both (cond (ltb n 10) (ascii "   ") (cond (ltb n 100) (ascii "  ") (cond (ltb n 1_000) (ascii " ")
+    [])))
     (decimal n) 3 10
     (either (ltb n 10) (ascii "   ") (cond (ltb n 100) (ascii "  ") (cond (ltb n 1_000) (ascii " ") [])) 3 (omega arith)
     (either (ltb n 100) (ascii "  ") (cond (ltb n 1_000) (ascii " ") []) 3 (omega arith)
@@ -62,7 +63,8 @@ abbrev Twelve : List Named → Type 0
 Twelve [] = Unit {0}
 Twelve (n ∷ ns) = (length (n .name) ≤ 12) × Twelve ns
 
-name-short : (ns : List Named) (t : ℕ) (other : List ℕ) → Twelve ns → length other ≤ 12 → length (nameIn ns t other) ≤ 12
+name-short : (ns : List Named) (t : ℕ) (other : List ℕ) → Twelve ns → length other ≤ 12 → length (nameIn ns t other) ≤
+    12
 unfolding nameIn
 name-short [] t other h k = k
 name-short (n ∷ ns) t other h k = either (eqb t (n .type)) (n .name) (nameIn ns t other) 12 (h .0)
@@ -70,19 +72,66 @@ name-short (n ∷ ns) t other h k = either (eqb t (n .type)) (n .name) (nameIn n
 
 class-short : (t : ℕ) → length (className t) ≤ 12
 unfolding className
-class-short t = name-short classNames t (ascii "unknown     ") (omega arith, (omega arith, (omega arith, (omega arith, (omega arith, (omega arith, (omega arith, tt))))))) (omega arith)
+class-short t = name-short classNames t (ascii "unknown     ") (
+  omega arith,
+  (
+    omega arith,
+    (
+      omega arith,
+      (
+        omega arith,
+        (omega arith, (omega arith, (omega arith, tt))),
+      ),
+    ),
+  ),
+) (omega arith)
 
 tag-name-short : (t : ℕ) → length (tagName t) ≤ 12
 unfolding tagName
 tag-name-short t = either (isCheck t) (ascii "ccrc        ") (nameIn typeNames (tagType3 t) (className (tagType1 t))) 12
     (omega arith)
-    (name-short typeNames (tagType3 t) (className (tagType1 t)) (omega arith, (omega arith, (omega arith, (omega arith, (omega arith, (omega arith, (omega arith, (omega arith, (omega arith, (omega arith, (omega arith, (omega arith, tt))))))))))))
+    (name-short typeNames (tagType3 t) (className (tagType1 t)) (
+      omega arith,
+      (
+        omega arith,
+        (
+          omega arith,
+          (
+            omega
+                arith,
+            (
+              omega arith,
+              (
+                omega arith,
+                (
+                  omega arith,
+                  (
+                    omega arith,
+                    (
+                      omega arith,
+                      (
+                        omega arith,
+                        (
+                          omega arith,
+                          (omega arith, tt),
+                        ),
+                      ),
+                    ),
+                  ),
+                ),
+              ),
+            ),
+          ),
+        ),
+      ),
+    )
     (class-short (tagType1 t)))
 
 type-short : (t : ℕ) → length (typeColumns t) ≤ 44
 unfolding typeColumns
 type-short t =
-    both (hexType (tagType3 t)) (ascii "  " ++ (tagName t ++ (idColumn t ++ (ascii " " ++ sizeColumn t)))) 3 41 (omega arith)
+    both (hexType (tagType3 t)) (ascii "  " ++ (tagName t ++ (idColumn t ++ (ascii " " ++ sizeColumn t)))) 3 41 (omega
+    arith)
     (both (ascii "  ") (tagName t ++ (idColumn t ++ (ascii " " ++ sizeColumn t))) 2 39 (omega arith)
     (both (tagName t) (idColumn t ++ (ascii " " ++ sizeColumn t)) 12 27 (tag-name-short t)
     (both (idColumn t) (ascii " " ++ sizeColumn t) 13 14 (id-short t)
@@ -105,7 +154,13 @@ cell-short (b ∷ l) = omega arith
 hex-short : (n : ℕ) (l : List ℕ) → length (hexCells n l) ≤ 3 * n
 unfolding hexCells
 hex-short zero l = omega arith
-hex-short (suc n) l = omega (arith, length-append (cell l) (hexCells n (drop 1 l)), cell-short l, hex-short n (drop 1 l))
+hex-short (suc n) l = omega (
+  arith,
+  length-append (cell l) (hexCells n (drop 1 l)),
+  cell-short l,
+  hex-short n (drop 1
+      l),
+)
 
 letters-length : (l : List ℕ) → length (letters l) ≤ length l
 unfolding letters
@@ -199,7 +254,8 @@ check-stop-short at t sum rest =
     omega (
       arith,
       both (tagColumns at t)
-          (ascii "  checksum " ++ (hexWord x ++ (ascii " does not fit, computed " ++ (hexWord y ++ (ascii "\n" ++ S))))) 64
+          (ascii "  checksum " ++ (hexWord x ++ (ascii " does not fit, computed " ++ (hexWord y ++ (ascii "\n" ++
+          S))))) 64
           121 (tag-short at t)
           (both (ascii "  checksum ")
           (hexWord x ++ (ascii " does not fit, computed " ++ (hexWord y ++ (ascii "\n" ++ S)))) 11 110 (omega arith)
@@ -277,7 +333,11 @@ walk-few (suc n) sum prev rest = go (λ s p. walk-few n s p (drop (tagLength t) 
 
 events-few : (b : List ℕ) → length (walk b) ≤ suc (length b)
 unfolding walk walkFrom
-events-few b = omega (arith, walk-few (suc (length (drop 4 b))) (crc allOnes (take 4 b)) allOnes (drop 4 b), length-drop 4 b)
+events-few b = omega (
+  arith,
+  walk-few (suc (length (drop 4 b))) (crc allOnes (take 4 b)) allOnes (drop 4 b),
+  length-drop 4 b,
+)
 
 -- ---- a block, and the whole
 committed-short : (end : ℕ) → length (committedLine end) ≤ 26
@@ -298,7 +358,8 @@ block-short full n b h =
       arith,
       both (ascii "block ") (decimal n ++ (numberLine (ascii " rev ") (le32 b) ++ (heading ++ (E ++ C)))) 6 353_900_113
           (omega arith)
-          (both (decimal n) (numberLine (ascii " rev ") (le32 b) ++ (heading ++ (E ++ C))) 10 353_900_103 (decimal-short 10 n)
+          (both (decimal n) (numberLine (ascii " rev ") (le32 b) ++ (heading ++ (E ++ C))) 10 353_900_103
+          (decimal-short 10 n)
           (both (numberLine (ascii " rev ") (le32 b)) (heading ++ (E ++ C)) 16 353_900_087
           (number-short (ascii " rev ") (le32 b))
           (both heading (E ++ C) 61 353_900_026 (omega arith)
@@ -334,6 +395,7 @@ pub raw-short : (full : Bool) (prog : ℕ) (p : LfsPair) (input : List ℕ) → 
 raw-short full prog p input =
     omega (
       arith,
-      both (cond (isShown (length input)) (blockLogs full p input) []) (answerLine (fetchInput prog p input)) 707_820_000 30
+      both (cond (isShown (length input)) (blockLogs full p input) []) (answerLine (fetchInput prog p input))
+          707_820_000 30
           (blocks-short full p input) (answers-short (fetchInput prog p input)),
     )

@@ -1,13 +1,13 @@
 -- A block, both blocks, the whole text. Assumes nothing.
-use mathlib.Core.Path.{_≡_, refl, sym, ap, ap₂, _∙_}
+use mathlib.Core.Path.{_≡_, refl, sym, ap, _∙_}
 use mathlib.Core.Bool.{Bool, true, false, not, cond, _&&_}
 use mathlib.Core.List.{List, [], _++_}
-use Prim.Native.Nat.{ℕ, _+_, _-_, _/_, _%_, _^_, _≤_, _<_}
+use Prim.Native.Nat.{ℕ, _+_, _-_, _/_, _%_, _≤_}
 use native.Mathlib.Omega.{arith}
 use lib.Dec.{eqb, leb}
 use lib.ListN.{length, take, drop, length-take, length-drop}
 use lib.Seq.{take-all}
-use borrow.Author.Tests.{not-true, not-false, eq-eqb, ne-eqb, eqb-true, leb-true}
+use borrow.Author.Tests.{not-true, not-false, eq-eqb, ne-eqb, leb-true}
 use Rattle.format.specs.Log.{log, logEnd}
 use Rattle.format.specs.Listing.{ascii}
 use Rattle.format.specs.RawLog.{hexWord, committedLine, blockLog, isShown, blockLogs}

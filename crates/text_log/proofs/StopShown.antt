@@ -1,24 +1,24 @@
 -- Why a walk stops: the tests in order, each with what it shows. Assumes nothing.
 use mathlib.Core.Path.{_≡_, sym, ap, ap₂, _∙_}
-use mathlib.Core.Bool.{Bool, true, false, not, cond, _&&_}
+use mathlib.Core.Bool.{Bool, true, false, _&&_}
 use mathlib.Core.List.{List, _++_, append-assoc}
 use Prim.Native.Nat.{ℕ, _+_, _-_, _^_, _≤_, _<_}
 use native.Mathlib.Omega.{arith}
 use lib.Bits.{bitXor}
-use lib.Dec.{leb, ltb}
+use lib.Dec.{leb}
 use lib.ListN.{length, take, drop, length-drop}
 use lib.Seq.{drop-drop}
 use borrow.Author.Tests.{lt-ltb, le-ltb, leb-true}
 use Rattle.format.specs.Word.{be32, le32, xor}
-use Rattle.format.specs.Tag.{tagValid, tagLength}
+use Rattle.format.specs.Tag.{tagLength}
 use Rattle.format.specs.Kind.{isCheck}
 use Rattle.format.specs.Crc.{crc}
 use Rattle.format.specs.Listing.{ascii}
-use Rattle.format.specs.RawLog.{hexWord, tagColumns, stopLine, invalidStop, checkStop, pastStop, checkWhole, stopText}
+use Rattle.format.specs.RawLog.{hexWord, stopLine, invalidStop, checkStop, pastStop, checkWhole, stopText}
 use Rattle.fetch_walk.specs.Next.{tagAt}
 use Rattle.fetch_walk.specs.declared.cursor.Cursor.{Cursor}
 use Rattle.text.specs.Put.{Text, putsOf}
-use Rattle.text.proofs.Joined.{puts-app, join}
+use Rattle.text.proofs.Joined.{join}
 use Rattle.text_log.specs.Part.{Reached}
 
 -- what is put behind a stop's line is a part of its reason
@@ -36,7 +36,8 @@ module _ (b : List ℕ) (place : ℕ) where
   pub stored-is : (x : ℕ) → x ≡ le32 (drop (place + 4) b) → x ≡ le32 (drop 4 (drop place b))
   stored-is x e = e ∙ ap le32 (sym (drop-drop 4 place b))
 
-  pub computed-is : (sum x : ℕ) → x ≡ crc sum (take (place + 4 - place) (drop place b)) → x ≡ crc sum (take 4 (drop place b))
+  pub computed-is : (sum x : ℕ) → x ≡ crc sum (take (place + 4 - place) (drop place b)) → x ≡ crc sum (take 4 (drop
+      place b))
   computed-is sum x e =
       let f : place + 4 - place ≡ 4 = omega arith in
       e ∙ ap (λ (n : ℕ). crc sum (take n (drop place b))) f
@@ -97,7 +98,8 @@ module _ (b : List ℕ) (c : Cursor) (reached : Reached b (c .at) 0) where
       pub check-reach : x ≡ true → Reached b (c .at) 8
       check-reach h = reach-more 8 (whole-eight (bitXor w (c .prev)) (length b - c .at) (sym ex ∙ h))
 
-      pub stop-check : (s r : Text) → x ≡ true → r ≡ putsOf s (checkStop (c .at) (bitXor w (c .prev)) (c .sum) (drop (c .at) b))
+      pub stop-check : (s r : Text) → x ≡ true → r ≡ putsOf s (checkStop (c .at) (bitXor w (c .prev)) (c .sum) (drop
+          (c .at) b))
           → r ≡ putsOf s (stopText (c .at) (tagAt b c) (c .sum) (drop (c .at) b))
       unfolding stopText
       stop-check s r h er =

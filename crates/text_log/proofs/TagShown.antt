@@ -1,9 +1,8 @@
 -- The columns of a tag: a number with its margin, id and size, the type's name. Assumes nothing.
 use mathlib.Core.Path.{_≡_, sym, ap, _∙_}
-use mathlib.Core.Bool.{true, false, cond}
+use mathlib.Core.Bool.{true, false}
 use mathlib.Core.List.{List}
 use Prim.Native.Nat.{ℕ, _≤_, _<_}
-use lib.Dec.{eqb}
 use borrow.Author.Tests.{lt-ltb, le-ltb, eq-eqb, ne-eqb}
 use Rattle.format.specs.Tag.{tagId, tagSize, tagType1, tagType3}
 use Rattle.format.specs.Kind.{isCheck}

@@ -1,6 +1,6 @@
 -- A turn of the loop over a walk: what is left to show, from where the text stands; and the data behind a tag, as the
 -- code cuts them. Assumes nothing.
-use mathlib.Core.Path.{_≡_, refl, sym, ap, _∙_}
+use mathlib.Core.Path.{_≡_, sym, ap, _∙_}
 use mathlib.Core.Bool.{Bool}
 use mathlib.Core.List.{List, _∷_, _++_}
 use Prim.Native.Nat.{ℕ, _+_, _-_, _^_, _≤_}
@@ -9,9 +9,9 @@ use lib.Bits.{bitXor}
 use lib.ListN.{length, take, drop, length-drop, length-take}
 use lib.Seq.{drop-drop}
 use Rattle.format.specs.Word.{be32, xor, allOnes}
-use Rattle.format.specs.Tag.{tagLength, tagFlipped}
+use Rattle.format.specs.Tag.{tagLength}
 use Rattle.format.specs.Crc.{crc}
-use Rattle.format.specs.Walk.{ent, chk, inv, bodyOf, walk}
+use Rattle.format.specs.Walk.{ent, chk, bodyOf, walk}
 use Rattle.format.specs.RawLog.{dataOf, entryText, checkText, stopText, eventTexts}
 use Rattle.format.proofs.Words.{tagLength-ge}
 use Rattle.fetch_walk.specs.Next.{nextOf, startOf, tagAt}
@@ -21,7 +21,7 @@ use Rattle.fetch_walk.specs.declared.cursor.Seen.the-variants.{Entry, Check, In
 use Rattle.fetch_walk.proofs.Seen.{length-most, follow, from-next, entry-seen, check-seen}
 use Rattle.text.specs.Put.{Text, putsOf}
 use Rattle.text.proofs.Joined.{puts-app}
-use Rattle.text_log.specs.Part.{Placed, Reached}
+use Rattle.text_log.specs.Part.{Placed}
 use Rattle.text_log.specs.Events.{textsFrom}
 
 -- ---- the data behind a tag; n is what `lfs_tag_dsize` answers
@@ -81,7 +81,8 @@ module _ (full : Bool) (b : List ℕ) (c : Cursor) where
 
     -- w is what `be32` answers
     pub turn-check : {x : ℕ} {d : Cursor} (w : ℕ) (r : Text) → nextOf b c ≡ Check x d → w ≡ be32 (drop (c .at) b)
-        → r ≡ putsOf s (checkText full (c .at) (bitXor w (c .prev)) x (drop (c .at) b)) → a ≡ putsOf r (textsFrom full b d)
+        → r ≡ putsOf s (checkText full (c .at) (bitXor w (c .prev)) x (drop (c .at) b)) → a ≡ putsOf r (textsFrom full
+        b d)
     unfolding xor
     turn-check {x} {d} w r e ew er =
         let t : bitXor w (c .prev) ≡ tagAt b c = ap (λ (y : ℕ). xor y (c .prev)) ew in
@@ -105,7 +106,8 @@ module _ (b : List ℕ) (c : Cursor) where
       let s = entry-seen b c e in
       record { most = m; whole = omega (arith, length-drop (c .at) b, s .whole .fits, tagLength-ge t) }
 
-  pub check-placed : {x : ℕ} {d : Cursor} (w : ℕ) → w ≡ be32 (drop (c .at) b) → length b ≤ 2 ^ 16 → nextOf b c ≡ Check x d
+  pub check-placed : {x : ℕ} {d : Cursor} (w : ℕ) → w ≡ be32 (drop (c .at) b) → length b ≤ 2 ^ 16 → nextOf b c ≡ Check
+      x d
       → Placed b (c .at) (bitXor w (c .prev))
   unfolding xor
   check-placed {x} {d} w ew m e =

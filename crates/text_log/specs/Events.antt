@@ -1,9 +1,8 @@
 -- The events of a walk from a cursor on, as text. Assumes nothing.
-use mathlib.Core.Bool.{Bool, _&&_}
+use mathlib.Core.Bool.{Bool}
 use mathlib.Core.List.{List}
-use Prim.Native.Nat.{ℕ, _%_}
+use Prim.Native.Nat.{ℕ}
 use lib.ListN.{drop}
-use lib.Dec.{leb, eqb}
 use Rattle.format.specs.RawLog.{eventTexts}
 use Rattle.fetch_walk.specs.State.{from}
 use Rattle.fetch_walk.specs.declared.cursor.Cursor.{Cursor}

@@ -4,9 +4,7 @@
 ghost use mathlib.Core.Path.{_≡_};
 ghost use mathlib.Core.Bool.{cond};
 ghost use mathlib.Core.List.{[]};
-ghost use Prim.Native.Nat.{_^_, _≤_};
 ghost use lib.ListN.{length, drop};
-ghost use Rattle.format.specs.Word.{allOnes};
 ghost use Rattle.format.specs.Listing.{writtenTo};
 ghost use Rattle.format.specs.RawLog.{entryText, checkText, committedLine, blockLog, answersLine, isShown, blockLogs};
 ghost use Rattle.format.specs.RawLog.{rawLogOf};

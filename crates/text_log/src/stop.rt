@@ -1,6 +1,5 @@
 // Why a walk stops, as text: what stands at the cursor that has nothing behind it.
 ghost use mathlib.Core.Path.{_≡_};
-ghost use Prim.Native.Nat.{_^_, _≤_};
 ghost use lib.ListN.{length, drop};
 ghost use Rattle.format.specs.RawLog.{stopLine, invalidStop, checkStop, pastStop, checkWhole, stopText};
 ghost use Rattle.fetch_walk.specs.Next.{tagAt};

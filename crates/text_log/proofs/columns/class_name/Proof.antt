@@ -33,7 +33,8 @@ unfolding className nameIn
 returns-7 c = rw (c .before .before .match .keys7)
 
 returns-8 : tie.Need-returns-8
-returns-8 c = let n = c .before .before .match .rest in class-unknown _ (n .0 .0 .0 .0 .0 .0 .1) (n .0 .0 .0 .0 .0 .1) (n .0 .0 .0 .0 .1) (n .0 .0 .0 .1) (n .0 .0 .1) (n .0 .1) (n .1)
+returns-8 c = let n = c .before .before .match .rest in class-unknown _ (n .0 .0 .0 .0 .0 .0 .1) (n .0 .0 .0 .0 .0 .1)
+    (n .0 .0 .0 .0 .1) (n .0 .0 .0 .1) (n .0 .0 .1) (n .0 .1) (n .1)
 
 pub class-name-spec : {M : Type 1} → statement M
 class-name-spec =

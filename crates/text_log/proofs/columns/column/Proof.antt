@@ -7,7 +7,8 @@ use Rattle.text_log.proofs.columns.column.Tie as tie
 
 returns : tie.Need-returns
 unfolding column
-returns c = join _ _ _ _ _ (c .before .before .before .before .before .before .margin .ensures) (c .before .before .decimal .ensures)
+returns c = join _ _ _ _ _ (c .before .before .before .before .before .before .margin .ensures) (c .before .before
+    .decimal .ensures)
 
 pub column-spec : {M : Type 1} → statement M
 column-spec = tie.close (tie.spec (λ c κs. search needs) (λ c κs. search needs) (λ c. search needs) returns)

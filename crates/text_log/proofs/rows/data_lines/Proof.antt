@@ -7,12 +7,13 @@ use borrow.Author.Needs.{needs}
 use Rattle.format.specs.RawLog.{dataLines}
 use Rattle.text.specs.Put.{text, putsOf}
 use Rattle.text_log.proofs.DataShown.{lines-start, lines-more, lines-done}
-use borrow.Author.Needs.{needs}
 use Rattle.text_log.proofs.rows.data_lines.Statement.{statement}
 use Rattle.text_log.proofs.rows.data_lines.Tie as tie
 
 abbrev Inv-loop : tie.InvT-loop
-Inv-loop out₀ at place bytes n₀ line₀ out n line = (line ≤ 64) × (length out ≡ length out₀) × (putsOf (text at out₀) (dataLines 64 place bytes) ≡ putsOf (text n out) (dataLines (64 - line) (place + line * 16) (drop (line * 16) bytes)))
+Inv-loop out₀ at place bytes n₀ line₀ out n line = (line ≤ 64) × (length out ≡ length out₀) × (putsOf (text at out₀)
+    (dataLines 64 place bytes) ≡ putsOf (text n out) (dataLines (64 - line) (place + line * 16) (drop (line * 16)
+    bytes)))
 
 abbrev μ-loop : tie.MeasureT-loop
 μ-loop out₀ at place bytes n₀ line₀ out n line = 64 - line
@@ -39,10 +40,26 @@ add-line : tie.Need-add-line Inv-loop μ-loop
 add-line c = omega (arith, c .before .before .before .before .before .loop .inv .0)
 
 loop-less : tie.Need-loop-less Inv-loop μ-loop
-loop-less c = omega (arith, c .before .before .before .before .loop-test .taken, c .before .before .before .before .before .before .before .before .pre .1)
+loop-less c = omega (
+  arith,
+  c .before .before .before .before .loop-test .taken,
+  c .before .before .before .before
+      .before .before .before .before .pre .1,
+)
 
 loop-again : tie.Need-loop-again Inv-loop μ-loop
-loop-again c = (omega (arith, c .before .before .before .before .loop-test .taken, c .before .before .before .before .before .before .before .before .pre .1), search needs, lines-more _ _ _ _ _ _ (c .before .before .before .before .loop-test .taken) (c .before .before .before .before .before .before .before .before .pre .1) (c .before .before .before .before .before .loop .inv .2) (c .before .before .data-line .ensures))
+loop-again c = (
+  omega (
+    arith,
+    c .before .before .before .before .loop-test .taken,
+    c .before .before .before .before
+        .before .before .before .before .pre .1,
+  ),
+  search needs,
+  lines-more _ _ _ _ _ _ (c .before .before .before .before
+      .loop-test .taken) (c .before .before .before .before .before .before .before .before .pre .1) (c .before .before
+      .before .before .before .loop .inv .2) (c .before .before .data-line .ensures),
+)
 
 same-length : tie.Need-same-length Inv-loop μ-loop
 same-length c = c .before .loop .inv .1
@@ -53,4 +70,5 @@ returns c = lines-done _ _ _ _ _ (c .loop-test .left) (c .before .loop .inv .2)
 pub data-lines-spec : {M : Type 1} → statement M
 data-lines-spec =
     tie.close
-    (tie.spec Inv-loop μ-loop loop-holds mul-loop mul-from add-data-line cast-data-line data-line-requires add-line loop-less loop-again same-length returns)
+    (tie.spec Inv-loop μ-loop loop-holds mul-loop mul-from add-data-line cast-data-line data-line-requires add-line
+    loop-less loop-again same-length returns)

@@ -9,7 +9,8 @@ returns : tie.Need-returns
 returns c = full-none _ _ _ _ (c .if1 .taken)
 
 returns-2 : tie.Need-returns-2
-returns-2 c = full-shown _ _ _ _ _ (not-false _ (c .before .before .before .before .if1 .left)) (c .before .before .data-lines .ensures)
+returns-2 c = full-shown _ _ _ _ _ (not-false _ (c .before .before .before .before .if1 .left)) (c .before .before
+    .data-lines .ensures)
 
 pub full-data-spec : {M : Type 1} → statement M
 full-data-spec = tie.close (tie.spec returns (λ c κs. search needs) (λ c. search needs) returns-2)
