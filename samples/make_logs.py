@@ -246,8 +246,8 @@ for k in range(12):
     case(f"foreign-tags-{k}", (bytes(4) + b"".join(words)).ljust(1024, b"\xff")[:1024] + b"\xff" * 1024)
 
 # types by name: each that has one, and others of each class
-kinds = sorted(NAMES) + [0x000, 0x003, 0x0FE, 0x100, 0x1FF, 0x203, 0x2FF, 0x300, 0x374, 0x3FF, 0x400, 0x402, 0x4FE, 0x580,
-                         0x5FE, 0x602, 0x6FF, 0x700, 0x7FE]
+kinds = sorted(NAMES) + [0x000, 0x003, 0x0FE, 0x100, 0x1FF, 0x203, 0x2FF, 0x300, 0x374, 0x3FF, 0x400, 0x402, 0x4FE]
+kinds += [0x580, 0x5FE, 0x602, 0x6FF, 0x700, 0x7FE]
 pair("types", block(1024, [[entry(kind, kind % 1023, bytes([kind & 0xFF] * 8)) for kind in kinds]]))
 pair("removals", block(256, [[entry(kind, 9, removal=True) for kind in (0x001, 0x201, 0x374, 0x401, 0x7FF)]]))
 pair("ids", block(512, [[entry(0x374, id, b"\x00") for id in (0, 9, 10, 99, 100, 999, 1000, 1022, 1023)]]))
@@ -255,7 +255,8 @@ pair("lengths", block(8192, [[entry(0x374, 0, bytes(range(32, 32 + n))) for n in
                              + [entry(0x201, 0, bytes(n)) for n in (99, 100, 255, 256, 999, 1000, 1022)]]))
 pair("letters", block(512, [[entry(0x001, 0, bytes(range(256)))]]))
 # tails and forward checks shorter and longer than the eight bytes that are read
-pair("wide", block(256, [[entry(kind, NO_SLOT, bytes(range(n))) for kind in (0x600, 0x601, 0x5FF) for n in (0, 3, 8, 12)]]))
+pair("wide", block(256, [[entry(kind, NO_SLOT, bytes(range(n)))
+                          for kind in (0x600, 0x601, 0x5FF) for n in (0, 3, 8, 12)]]))
 
 # checks: sizes of less than four, a flipped bit 31, several commits, one after the other
 for size in (4, 5, 13, 100):
@@ -280,7 +281,8 @@ for kind in (0x600, 0x5FF, 0x500, 0x374):
 
 # whole blocks of 32,768 bytes: the most tags, the longest texts, and one commit up to the last byte
 room = 32768 - 4 - 8
-pair("full-of-tags", block(32768, [[entry(0x374, 0)] * (room // 4)]), block(32768, [[entry(0x401, 0)] * (room // 4)], 2))
+pair("full-of-tags", block(32768, [[entry(0x374, 0)] * (room // 4)]),
+     block(32768, [[entry(0x401, 0)] * (room // 4)], 2))
 pair("full-of-bytes", block(32768, [[entry(0x374, 1022, b"\x00")] * (room // 5)]),
      block(32768, [[entry(0x201, 1022, b"\x7f")] * (room // 5)], 2))
 pair("full-of-entries", block(32768, [[entry(0x201, 0, bytes(1022))] * (room // 1026) + [entry(0x300, 0, bytes(930))]]))

@@ -2,18 +2,18 @@
 -- the block is committed; at last which block answers. It is a function of the walk's own events, so it shows irregular,
 -- torn and foreign blocks too. Document 01 has no such text: columns and names are those of littlefs's own scripts
 -- (readmdir.py). Assumes nothing.
-use mathlib.Core.Bool.{Bool, not, cond, _&&_, _||_}
+use mathlib.Core.Bool.{Bool, cond, _&&_, _||_}
 use mathlib.Core.List.{List, [], _∷_, _++_}
 use Prim.Native.Nat.{ℕ, zero, suc, _+_, _-_, _/_, _%_}
 use lib.ListN.{length, take, drop}
 use lib.Dec.{leb, ltb, eqb}
 use Rattle.format.specs.Word.{be32, le32, toBe32, xor, allOnes}
-use Rattle.format.specs.Tag.{tagValid, tagType1, tagType3, tagId, tagSize, tagDelete, tagLength, tagFlipped}
+use Rattle.format.specs.Tag.{tagType1, tagType3, tagId, tagSize, tagDelete, tagLength, tagFlipped}
 use Rattle.format.specs.Kind.{typeName, typeFile, typeDirectory, typeSuperblock, typeDirStruct, typeInlineStruct}
 use Rattle.format.specs.Kind.{typeCtzStruct, typeUserAttr, typeSplice, typeCreate, typeDelete}
 use Rattle.format.specs.Kind.{typeForward, typeTail, typeHardTail, typeMove, noSlot, isCheck}
 use Rattle.format.specs.Crc.{crc}
-use Rattle.format.specs.Walk.{Event, ent, chk, inv, walk}
+use Rattle.format.specs.Walk.{Event, ent, chk, inv, Class, past, invalid, check, entry, classOf, walk}
 use Rattle.format.specs.Log.{log, logEnd}
 use Rattle.format.specs.Listing.{ascii, decimal, hexByte, hexBytes, hexType, numberLine, refusedLine, fetchInput}
 use Rattle.format.specs.declared.LfsPair.{LfsPair}
@@ -170,24 +170,25 @@ checkStop at t sum rest =
 unfoldable pub pastStop : ℕ → ℕ → List ℕ
 pastStop at t = tagColumns at t ++ (ascii "\n" ++ stopLine at (ascii "the entry passes the end of the block\n"))
 
--- a check that stands in the block with its checksum
-abbrev pub checkWhole : ℕ → ℕ → Bool
-checkWhole t left = isCheck t && leb (tagLength t) left && leb 8 left
-
 -- "The walk stops on an invalid tag, on an entry passing the block, or on any read past it", or on a check that doesn't
--- fit. t is the tag that stands there.
-unfoldable pub stopText : ℕ → ℕ → ℕ → List ℕ → List ℕ
-stopText at t sum rest =
-    cond (ltb (length rest) 4) (stopLine at (ascii "the block ends\n"))
-    (cond (not (tagValid t)) (invalidStop at rest)
-    (cond (checkWhole t (length rest)) (checkStop at t sum rest) (pastStop at t)))
+-- fit: by the walk's own class of the tag t that stands there. A whole entry stops no walk, and has no text of its own.
+unfoldable pub stopText : Class → ℕ → ℕ → ℕ → List ℕ → List ℕ
+stopText past at t sum rest = cond (ltb (length rest) 4) (stopLine at (ascii "the block ends\n")) (pastStop at t)
+stopText invalid at t sum rest = invalidStop at rest
+stopText check at t sum rest = checkStop at t sum rest
+stopText entry at t sum rest = pastStop at t
+
+-- the same, from the previous tag
+abbrev pub stopBehind : ℕ → ℕ → ℕ → List ℕ → List ℕ
+stopBehind at prev sum rest =
+    stopText (classOf (xor (be32 rest) prev) (length rest)) at (xor (be32 rest) prev) sum rest
 
 -- ---- a block
 -- The events of a walk from an offset on, each as its text, and behind them why there are no more. The previous tag, the
 -- checksum and the rest of the block go along as in the walk itself (`stepOf` of Walk).
 unfoldable pub eventTexts : Bool → ℕ → ℕ → ℕ → List ℕ → List Event → List ℕ
-eventTexts full at prev sum rest [] = stopText at (xor (be32 rest) prev) sum rest
-eventTexts full at prev sum rest (inv ∷ es) = stopText at (xor (be32 rest) prev) sum rest
+eventTexts full at prev sum rest [] = stopBehind at prev sum rest
+eventTexts full at prev sum rest (inv ∷ es) = stopBehind at prev sum rest
 eventTexts full at prev sum rest (ent t d ∷ es) =
     entryText full at t rest
     ++ eventTexts full (at + tagLength t) t (crc sum (take (tagLength t) rest)) (drop (tagLength t) rest) es

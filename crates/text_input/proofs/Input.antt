@@ -55,12 +55,12 @@ block-slots b m x w ex h =
     }
 
 -- ---- the two parts that the code cuts
-cut-front : (n : ℕ) (l : List ℕ) → take (n - 0) (drop 0 l) ≡ take n l
+pub cut-front : (n : ℕ) (l : List ℕ) → take (n - 0) (drop 0 l) ≡ take n l
 cut-front n l =
     let e : n - 0 ≡ n = omega arith in
     rw e
 
-cut-back : (n : ℕ) (l : List ℕ) → take (length l - n) (drop n l) ≡ drop n l
+pub cut-back : (n : ℕ) (l : List ℕ) → take (length l - n) (drop n l) ≡ drop n l
 cut-back n l = take-all (length l - n) (drop n l) (omega (arith, length-drop n l))
 
 -- ---- an input, with its program size and its block numbers: its half, and its two images as the definition and as the

@@ -8,7 +8,7 @@ use native.Mathlib.Omega.{arith}
 use lib.ListN.{length, take, drop, length-append, length-take, length-drop}
 use lib.Dec.{ltb, eqb}
 use Rattle.format.specs.Word.{be32, le32, toBe32, xor, allOnes}
-use Rattle.format.specs.Tag.{tagId, tagSize, tagDelete, tagValid, tagType1, tagType3, tagLength, tagFlipped}
+use Rattle.format.specs.Tag.{tagId, tagSize, tagDelete, tagType1, tagType3, tagLength, tagFlipped}
 use Rattle.format.specs.Kind.{isCheck}
 use Rattle.format.specs.Crc.{crc}
 use Rattle.format.specs.Walk.{Event, ent, chk, inv, Class, past, invalid, check, entry, classOf, checked, stepOf}
@@ -18,7 +18,7 @@ use Rattle.format.specs.Listing.{ascii, decimal, hexBytes, hexType, numberLine,
 use Rattle.format.specs.RawLog.{hexWord, margin, column, idColumn, sizeColumn, Named, nameIn, typeNames, classNames}
 use Rattle.format.specs.RawLog.{className, tagName, heading, typeColumns, tagColumns, cell, hexCells, letters}
 use Rattle.format.specs.RawLog.{cells, cutData, dataLine, dataLines, fullData, dataOf, entryText, checkText, stopLine}
-use Rattle.format.specs.RawLog.{invalidStop, checkStop, pastStop, checkWhole, stopText, eventTexts, committedLine}
+use Rattle.format.specs.RawLog.{invalidStop, checkStop, pastStop, stopText, eventTexts, committedLine}
 use Rattle.format.specs.RawLog.{blockLog, answersLine, answerLine, isShown, blockLogs, rawLogOf}
 use Rattle.format.specs.declared.LfsPair.{LfsPair}
 use Rattle.format.specs.declared.Fetched.{Fetched}
@@ -277,22 +277,28 @@ past-short at t =
           (stop-line-short at (ascii "the entry passes the end of the block\n") (omega arith))),
     )
 
-stop-short : (at t sum : ℕ) (rest : List ℕ) → length (stopText at t sum rest) ≤ 200
+stop-short : (k : Class) (at t sum : ℕ) (rest : List ℕ) → length (stopText k at t sum rest) ≤ 200
 unfolding stopText
-stop-short at t sum rest =
-    let P : List ℕ = cond (checkWhole t (length rest)) (checkStop at t sum rest) (pastStop at t) in
-    let I : List ℕ = cond (not (tagValid t)) (invalidStop at rest) P in
-    either (ltb (length rest) 4) (stopLine at (ascii "the block ends\n")) I 200
-    (omega (arith, stop-line-short at (ascii "the block ends\n") (omega arith)))
-    (either (not (tagValid t)) (invalidStop at rest) P 200 (invalid-short at rest)
-    (either (checkWhole t (length rest)) (checkStop at t sum rest) (pastStop at t) 200 (check-stop-short at t sum rest)
-    (past-short at t)))
+stop-short past at t sum rest = either (ltb (length rest) 4) (stopLine at (ascii "the block ends\n")) (pastStop at t)
+    200
+    (omega (arith, stop-line-short at (ascii "the block ends\n") (omega arith))) (past-short at t)
+stop-short invalid at t sum rest = invalid-short at rest
+stop-short check at t sum rest = check-stop-short at t sum rest
+stop-short entry at t sum rest = past-short at t
 
 events-short : (full : Bool) (es : List Event) (at prev sum : ℕ) (rest : List ℕ)
     → length (eventTexts full at prev sum rest es) ≤ length es * 5_400 + 200
 unfolding eventTexts
-events-short full [] at prev sum rest = omega (arith, stop-short at (xor (be32 rest) prev) sum rest)
-events-short full (inv ∷ es) at prev sum rest = omega (arith, stop-short at (xor (be32 rest) prev) sum rest)
+events-short full [] at prev sum rest = omega (
+  arith,
+  stop-short (classOf (xor (be32 rest) prev) (length rest)) at
+      (xor (be32 rest) prev) sum rest,
+)
+events-short full (inv ∷ es) at prev sum rest = omega (
+  arith,
+  stop-short (classOf (xor (be32 rest) prev) (length
+      rest)) at (xor (be32 rest) prev) sum rest,
+)
 events-short full (ent t d ∷ es) at prev sum rest =
     let s : ℕ = crc sum (take (tagLength t) rest) in
     let r : List ℕ = drop (tagLength t) rest in

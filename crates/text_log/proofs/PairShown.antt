@@ -6,7 +6,6 @@ use Prim.Native.Nat.{ℕ, _+_, _-_, _/_, _%_, _≤_}
 use native.Mathlib.Omega.{arith}
 use lib.Dec.{eqb, leb}
 use lib.ListN.{length, take, drop, length-take, length-drop}
-use lib.Seq.{take-all}
 use borrow.Author.Tests.{not-true, not-false, eq-eqb, ne-eqb, leb-true}
 use Rattle.format.specs.Log.{log, logEnd}
 use Rattle.format.specs.Listing.{ascii}
@@ -19,6 +18,7 @@ use Rattle.fetch_walk.specs.declared.Walked.{Walked}
 use Rattle.fetch_walk.proofs.Folds.{log-within}
 use Rattle.text.specs.Put.{Text, putsOf}
 use Rattle.text.proofs.Joined.{puts-none, join}
+use Rattle.text_input.proofs.Input.{cut-front, cut-back}
 use Rattle.text_log.specs.Part.{Reached}
 
 -- ---- where a log ends
@@ -47,14 +47,6 @@ unfolding startOf
 start-reached b c h e = record { most = h .most; reach = omega (arith, h .reach, ap (λ (x : Cursor). x .at) e) }
 
 -- ---- both blocks
-cut-front : (n : ℕ) (l : List ℕ) → take (n - 0) (drop 0 l) ≡ take n l
-cut-front n l =
-    let e : n - 0 ≡ n = omega arith in
-    rw e
-
-cut-back : (n : ℕ) (l : List ℕ) → take (length l - n) (drop n l) ≡ drop n l
-cut-back n l = take-all (length l - n) (drop n l) (omega (arith, length-drop n l))
-
 pub shown-long : (n : ℕ) → isShown n ≡ true → (256 ≤ n) × (n ≤ 65_536)
 unfolding isShown
 shown-long n h = go (eqb (n % 2) 0) (leb 256 n) (leb n 65_536) h (leb-true 256 n) (leb-true n 65_536)

@@ -12,7 +12,7 @@ use Rattle.format.specs.Word.{be32, xor, allOnes}
 use Rattle.format.specs.Tag.{tagLength}
 use Rattle.format.specs.Crc.{crc}
 use Rattle.format.specs.Walk.{ent, chk, bodyOf, walk}
-use Rattle.format.specs.RawLog.{dataOf, entryText, checkText, stopText, eventTexts}
+use Rattle.format.specs.RawLog.{dataOf, entryText, checkText, stopBehind, eventTexts}
 use Rattle.format.proofs.Words.{tagLength-ge}
 use Rattle.fetch_walk.specs.Next.{nextOf, startOf, tagAt}
 use Rattle.fetch_walk.specs.State.{from}
@@ -90,12 +90,12 @@ module _ (full : Bool) (b : List ℕ) (c : Cursor) where
         (er ∙ ap (λ (y : ℕ). putsOf s (checkText full (c .at) y x (drop (c .at) b))) t)
 
     pub turn-invalid : (r : Text) → nextOf b c ≡ Invalid
-        → r ≡ putsOf s (stopText (c .at) (tagAt b c) (c .sum) (drop (c .at) b)) → r ≡ a
+        → r ≡ putsOf s (stopBehind (c .at) (c .prev) (c .sum) (drop (c .at) b)) → r ≡ a
     unfolding textsFrom eventTexts
     turn-invalid r e er = er ∙ sym (so-far ∙ rw (from-next b c ∙ ap (follow b c) e))
 
     pub turn-past : (r : Text) → nextOf b c ≡ Past
-        → r ≡ putsOf s (stopText (c .at) (tagAt b c) (c .sum) (drop (c .at) b)) → r ≡ a
+        → r ≡ putsOf s (stopBehind (c .at) (c .prev) (c .sum) (drop (c .at) b)) → r ≡ a
     unfolding textsFrom eventTexts
     turn-past r e er = er ∙ sym (so-far ∙ rw (from-next b c ∙ ap (follow b c) e))
 

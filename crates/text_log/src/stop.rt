@@ -1,10 +1,9 @@
 // Why a walk stops, as text: what stands at the cursor that has nothing behind it.
 ghost use mathlib.Core.Path.{_≡_};
 ghost use lib.ListN.{length, drop};
-ghost use Rattle.format.specs.RawLog.{stopLine, invalidStop, checkStop, pastStop, checkWhole, stopText};
-ghost use Rattle.fetch_walk.specs.Next.{tagAt};
+ghost use Rattle.format.specs.RawLog.{stopLine, invalidStop, checkStop, pastStop, stopBehind};
 ghost use Rattle.text.specs.Put.{text, putsOf};
-ghost use Rattle.text_log.specs.Part.{Reached};
+ghost use Rattle.text_log.specs.Part.{Reached, checkWhole};
 use crate::columns::tag_columns;
 use fetch_walk::cursor::Cursor;
 
@@ -71,7 +70,7 @@ fn check_whole(tag: u32, left: usize) -> bool
 pub fn stop_text(out: &mut [u8], at: u32, b: &[u8], c: Cursor) -> u32
     requires { ⌜ Reached (now b) (c .at) 0 ⌝ }
     ensures { λ r. ⌜ text r (now (out .exit)) ≡ putsOf (text at (now (out .entry)))
-        (stopText (c .at) (tagAt (now (b .entry)) c) (c .sum) (drop (c .at) (now (b .entry)))) ⌝ }
+        (stopBehind (c .at) (c .prev) (c .sum) (drop (c .at) (now (b .entry)))) ⌝ }
 {
     let place = c.at;
     let left = b.len() - place;

@@ -30,8 +30,8 @@
 //! do then.
 //!
 //! The constants are those of `include/lanolin.h` without their `LANOLIN_`. Whole
-//! programs are `examples/deadline.rs` and `examples/restart.rs`, a controller's
-//! restart.
+//! programs are `examples/first.rs`, in ten lines, `examples/deadline.rs`, and
+//! `examples/restart.rs`, a controller's restart.
 //!
 //! The calls with a limit of stores, which are for trying what a power cut
 //! leaves, and most of the leaves are not here; `include/lanolin.h` has them.
@@ -136,7 +136,7 @@ pub struct Fetched {
 /// What is shown of a slot.
 #[derive(Clone, Copy, Debug, PartialEq, Eq)]
 pub struct Info {
-    /// [`TYPE_REG`] or [`TYPE_DIR`], as the name has it.
+    /// The name's: [`TYPE_REG`] or [`TYPE_DIR`] in what littlefs writes.
     pub type_: u32,
     /// The file's length; 0 where the struct is neither inline nor CTZ.
     pub size: u32,

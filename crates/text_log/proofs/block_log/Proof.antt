@@ -28,7 +28,8 @@ cast-committed-line c = omega (
       .before .before .before .before .before .before .before .before .before .before .walk-block .ensures) (omega (
         arith,
         c .before .before .before .before .before .before .before .before .before .before .before .before .before
-            .before .before .before .before .before .before .before .before .before .before .before .before .before .before
+            .before .before .before .before .before .before .before .before .before .before .before .before .before
+            .before
             .before .before .before .before .pre .reach,
       )),
 )

@@ -39,7 +39,8 @@ full-data-requires c κs = (
     c .before .before .before .before .before .before .before .before .before .before .before .before
         .before .before .before .before .before .before .before .before .before .before .before .pre .whole,
     tagLength-ge
-        (c .before .before .before .before .before .before .before .before .before .before .before .before .before .before
+        (c .before .before .before .before .before .before .before .before .before .before .before .before .before
+        .before
         .before .before .before .before .before .before .before .before .before .args .tag),
   ),
   data-short _ _ _ _ (c
