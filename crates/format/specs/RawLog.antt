@@ -103,11 +103,12 @@ unfoldable pub cell : List ℕ → List ℕ
 cell [] = ascii "   "
 cell (b ∷ l) = hexByte b ++ ascii " "
 
--- n bytes
+-- n places for bytes
 unfoldable pub hexCells : ℕ → List ℕ → List ℕ
 hexCells zero l = []
 hexCells (suc n) l = cell l ++ hexCells n (drop 1 l)
 
+-- a byte as the letter that it is, or a dot
 unfoldable pub letter : ℕ → ℕ
 letter b = cond (leb 0x20 b && leb b 0x7e) b 0x2e
 
@@ -167,6 +168,7 @@ checkStop at t sum rest =
     ++ (ascii " does not fit, computed "
     ++ (hexWord (crc sum (take 4 rest)) ++ (ascii "\n" ++ stopLine at (ascii "the checksum does not fit\n"))))))
 
+-- an entry that passes the block, or whose reading would
 unfoldable pub pastStop : ℕ → ℕ → List ℕ
 pastStop at t = tagColumns at t ++ (ascii "\n" ++ stopLine at (ascii "the entry passes the end of the block\n"))
 
@@ -201,7 +203,7 @@ unfoldable pub committedLine : ℕ → List ℕ
 committedLine end =
     cond (eqb end 4) (ascii "nothing is committed\n\n") (ascii "committed up to " ++ (hexWord end ++ ascii "\n\n"))
 
--- number and revision, the events, the end
+-- number and revision, which are the first four bytes; the events; the end
 unfoldable pub blockLog : Bool → ℕ → List ℕ → List ℕ
 blockLog full n b =
     ascii "block "
@@ -229,4 +231,5 @@ blockLogs full p input = blockLog full (p .n0) (take (length input / 2) input)
 
 -- the raw log of a pair of that program size, whose blocks have those numbers
 abbrev pub rawLogOf : Bool → ℕ → LfsPair → List ℕ → List ℕ
-rawLogOf full prog p input = cond (isShown (length input)) (blockLogs full p input) [] ++ answerLine (fetchInput prog p input)
+rawLogOf full prog p input = cond (isShown (length input)) (blockLogs full p input) []
+    ++ answerLine (fetchInput prog p input)
