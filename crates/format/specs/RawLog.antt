@@ -1,7 +1,7 @@
 -- The raw log of a pair as text: of each block every tag that its walk meets, where the walk stops and why, and how far
 -- the block is committed; at last which block answers. It is a function of the walk's own events, so it shows irregular,
--- torn and foreign blocks too. Document 01 has no such text: columns and names are those of littlefs's own scripts
--- (readmdir.py). Assumes nothing.
+-- torn and foreign blocks too. Document 01 has no such text: columns and names follow littlefs's own script readmdir.py.
+-- Assumes nothing.
 use mathlib.Core.Bool.{Bool, cond, _&&_, _||_}
 use mathlib.Core.List.{List, [], _∷_, _++_}
 use Prim.Native.Nat.{ℕ, zero, suc, _+_, _-_, _/_, _%_}
