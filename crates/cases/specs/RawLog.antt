@@ -1,5 +1,5 @@
--- The raw log of document 01's listing: its first block, tag by tag, and the erased one beside it; the same with all data;
--- a block whose checksum is another; what is refused. Assumes nothing.
+-- The raw log of document 01's listing: its first block, tag by tag, and the erased one beside it; the same with all
+-- data; a block whose checksum is another; what is refused. Assumes nothing.
 use mathlib.Core.Path.{_≡_, refl}
 use mathlib.Core.Bool.{true, false}
 use mathlib.Core.List.{[], _∷_, _++_}
@@ -13,9 +13,9 @@ use Rattle.format.specs.Record.{counted, countOf, tailOf, splitOf, forwardOf, s
 use Rattle.format.specs.View.{rank, view}
 use Rattle.format.specs.Fetch.{geometryFits, pairFits, tooHigh, erasedOf, mdirOf, fetchOf}
 use Rattle.format.specs.Listing.{ascii, hexDigit, decimalIn, hexBytes, numberLine, refusedLine, fetchInput, inputPair}
-use Rattle.format.specs.RawLog.{margin, column, idColumn, sizeColumn, nameIn, className, tagName, typeColumns, tagColumns}
-use Rattle.format.specs.RawLog.{cell, hexCells, letter, letters, cells, cutData, dataLine, dataLines, fullData, entryText}
-use Rattle.format.specs.RawLog.{checkText, stopLine, invalidStop, checkStop, pastStop, stopText, eventTexts}
+use Rattle.format.specs.RawLog.{margin, column, idColumn, sizeColumn, nameIn, className, tagName, typeColumns}
+use Rattle.format.specs.RawLog.{tagColumns, cell, hexCells, letter, letters, cells, cutData, dataLine, dataLines}
+use Rattle.format.specs.RawLog.{fullData, entryText, checkText, stopLine, invalidStop, checkStop, pastStop, stopText, eventTexts}
 use Rattle.format.specs.RawLog.{committedLine, blockLog, answersLine, isShown, blockLogs, rawLogOf}
 use Rattle.cases.specs.Listing.{blank, listing}
 
@@ -32,8 +32,8 @@ pub logged : rawLogOf false 16 inputPair (listing ++ blank 128)
     ++ (ascii "00000004: 00000000  000  name           0    0\n"
     ++ (ascii "stops at 00000008: no valid tag, the word there is ffffffff\nnothing is committed\n\n"
     ++ ascii "block 0 answers\n")))))))))
-unfolding fetchInput refusedLine numberLine hexBytes decimalIn hexDigit margin column idColumn sizeColumn nameIn className
-    tagName typeColumns tagColumns cell hexCells letter letters cells cutData dataLine dataLines fullData entryText
+unfolding fetchInput refusedLine numberLine hexBytes decimalIn hexDigit margin column idColumn sizeColumn nameIn
+    className tagName typeColumns tagColumns cell hexCells letter letters cells cutData dataLine dataLines fullData entryText
     checkText stopLine invalidStop checkStop pastStop stopText eventTexts committedLine blockLog answersLine isShown
     blockLogs fetchOf mdirOf erasedOf tooHigh pairFits geometryFits view rank seedOf forwardOf splitOf tailOf countOf
     counted stoppedStraight tagAfter span eventLength log committed walk walkFrom walkIn classOf readBehind bodyLength
@@ -53,8 +53,8 @@ pub in-full : blockLog true 7 listing
     ++ (ascii "0000001f: 500ffc0d  500  ccrc           .   13  checksum 4de43847 fits\n"
     ++ (ascii "      00000023: 47 38 e4 4d ff ff ff ff ff ff ff ff ff           G8.M.........\n"
     ++ ascii "stops at 00000030: no valid tag, the word there is ffffffff\ncommitted up to 00000030\n\n")))))))))
-unfolding fetchInput refusedLine numberLine hexBytes decimalIn hexDigit margin column idColumn sizeColumn nameIn className
-    tagName typeColumns tagColumns cell hexCells letter letters cells cutData dataLine dataLines fullData entryText
+unfolding fetchInput refusedLine numberLine hexBytes decimalIn hexDigit margin column idColumn sizeColumn nameIn
+    className tagName typeColumns tagColumns cell hexCells letter letters cells cutData dataLine dataLines fullData entryText
     checkText stopLine invalidStop checkStop pastStop stopText eventTexts committedLine blockLog answersLine isShown
     blockLogs tagAfter span eventLength log committed walk walkFrom walkIn classOf readBehind bodyLength tagFlipped
     tagLength be32 le32 toBe32 toLe32 xor crc crcByte crcBits crcBit
@@ -69,8 +69,8 @@ pub torn : blockLog false 0 (take 35 listing ++ (0x46 ∷ drop 36 listing))
     ++ (ascii "00000017: 37400004  374  userattr       0    4  90 5f 01 00              ._..\n"
     ++ (ascii "0000001f: 500ffc0d  500  ccrc           .   13  checksum 4de43846 does not fit, computed 4de43847\n"
     ++ ascii "stops at 0000001f: the checksum does not fit\nnothing is committed\n\n")))))
-unfolding fetchInput refusedLine numberLine hexBytes decimalIn hexDigit margin column idColumn sizeColumn nameIn className
-    tagName typeColumns tagColumns cell hexCells letter letters cells cutData dataLine dataLines fullData entryText
+unfolding fetchInput refusedLine numberLine hexBytes decimalIn hexDigit margin column idColumn sizeColumn nameIn
+    className tagName typeColumns tagColumns cell hexCells letter letters cells cutData dataLine dataLines fullData entryText
     checkText stopLine invalidStop checkStop pastStop stopText eventTexts committedLine blockLog answersLine isShown
     blockLogs tagAfter span eventLength log committed walk walkFrom walkIn classOf readBehind bodyLength tagFlipped
     tagLength be32 le32 toBe32 toLe32 xor crc crcByte crcBits crcBit

@@ -1,7 +1,7 @@
 -- The raw log of a pair as text: of each block every tag that its walk meets, where the walk stops and why, and how far
--- the block is committed; at last which block answers. It is a function of the walk's own events, so it shows irregular,
--- torn and foreign blocks too. Document 01 has no such text: columns and names follow littlefs's own script readmdir.py.
--- Assumes nothing.
+-- the block is committed; at last which block answers. It is a function of the walk's own events, so it shows
+-- irregular, torn and foreign blocks too. Document 01 has no such text: columns and names follow littlefs's own script
+-- readmdir.py. Assumes nothing.
 use mathlib.Core.Bool.{Bool, cond, _&&_, _||_}
 use mathlib.Core.List.{List, [], _∷_, _++_}
 use Prim.Native.Nat.{ℕ, zero, suc, _+_, _-_, _/_, _%_}
@@ -123,7 +123,8 @@ cells n l = hexCells n l ++ (ascii " " ++ letters l)
 unfoldable pub cutData : Bool → List ℕ → List ℕ
 cutData full d = cond (full || eqb (length d) 0) [] (ascii "  " ++ cells 8 (take 8 d))
 
--- Below the tag, where it is full: all bytes, sixteen to a line, each line with the offset of its first; at most n lines.
+-- Below the tag, where it is full: all bytes, sixteen to a line, each line with the offset of its first; at most n
+-- lines.
 unfoldable pub dataLine : ℕ → List ℕ → List ℕ
 dataLine at l = ascii "      " ++ (hexWord at ++ (ascii ": " ++ (cells 16 l ++ ascii "\n")))
 
@@ -186,8 +187,8 @@ stopBehind at prev sum rest =
     stopText (classOf (xor (be32 rest) prev) (length rest)) at (xor (be32 rest) prev) sum rest
 
 -- ---- a block
--- The events of a walk from an offset on, each as its text, and behind them why there are no more. The previous tag, the
--- checksum and the rest of the block go along as in the walk itself (`stepOf` of Walk).
+-- The events of a walk from an offset on, each as its text, and behind them why there are no more. The previous tag,
+-- the checksum and the rest of the block go along as in the walk itself (`stepOf` of Walk).
 unfoldable pub eventTexts : Bool → ℕ → ℕ → ℕ → List ℕ → List Event → List ℕ
 eventTexts full at prev sum rest [] = stopBehind at prev sum rest
 eventTexts full at prev sum rest (inv ∷ es) = stopBehind at prev sum rest
@@ -221,7 +222,8 @@ abbrev pub answerLine : Fetched → List ℕ
 answerLine (Refused r) = refusedLine r
 answerLine (Found m s) = answersLine (m .pair .n0)
 
--- "Block size 128 to 32,768": an input of a length that can't be two such blocks is refused, and nothing of it is shown.
+-- "Block size 128 to 32,768": an input of a length that can't be two such blocks is refused, and nothing of it is
+-- shown.
 unfoldable pub isShown : ℕ → Bool
 isShown len = eqb (len % 2) 0 && leb 256 len && leb len 65_536
 

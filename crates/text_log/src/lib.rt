@@ -1,6 +1,6 @@
-// The raw log of a metadata pair as text: of each block every tag that its walk meets, where the walk stops and why, and
-// how far the block is committed; at last which block answers. It is written to a lent buffer as far as there is room;
-// the answer is the length of the whole text. Any bytes may be shown: irregular, torn and foreign pairs too.
+// The raw log of a metadata pair as text: of each block every tag that its walk meets, where the walk stops and why,
+// and how far the block is committed; at last which block answers. It is written to a lent buffer as far as there is
+// room; the answer is the length of the whole text. Any bytes may be shown: irregular, torn and foreign pairs too.
 ghost use mathlib.Core.Path.{_≡_};
 ghost use mathlib.Core.Bool.{cond};
 ghost use mathlib.Core.List.{[]};
