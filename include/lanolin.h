@@ -24,10 +24,10 @@ extern "C" {
 
 /* The version, as littlefs has its own: the major number in the upper half, the minor in the lower. */
 #define LANOLIN_VERSION_MAJOR 0
-#define LANOLIN_VERSION_MINOR 1
+#define LANOLIN_VERSION_MINOR 2
 #define LANOLIN_VERSION (LANOLIN_VERSION_MAJOR << 16 | LANOLIN_VERSION_MINOR)
 
-/* Results. The first four refusals are littlefs's LFS_ERR_ numbers, the others are document 01's own. */
+/* Results. The first four refusals are littlefs's LFS_ERR_ numbers, the others are this project's own. */
 #define LANOLIN_OK 0
 #define LANOLIN_ERR_INVAL (-22)        /* a size or number is outside the limits, or they don't fit each other */
 #define LANOLIN_ERR_CORRUPT (-84)      /* no valid commit, a block number too high, or a read would pass the block */
@@ -35,8 +35,15 @@ extern "C" {
 #define LANOLIN_ERR_NOSPC (-28)        /* writing: what is to be written passes the block */
 #define LANOLIN_ERR_BADENTRY (-201)    /* commit: an entry is bad; `index` says which */
 #define LANOLIN_ERR_IRREGULAR (-202)   /* writing: the log that is there isn't regular; reading it is allowed */
-#define LANOLIN_ERR_UNCLEAN (-203)     /* commit: the room behind the end isn't clean, as after a power cut: compact */
+#define LANOLIN_ERR_MISALIGNED (-211)  /* commit: the log's end is no multiple of the program size: compact */
+#define LANOLIN_ERR_TOPBIT (-212)      /* commit: the end tag's top bit is set: compact */
+#define LANOLIN_ERR_NOTERASED (-213)   /* commit: a byte behind the end isn't erased; `index` is its offset: compact */
 #define LANOLIN_ERR_COINCIDENCE (-204) /* writing: cut short, this very commit could be taken for a whole one */
+
+/* Whether a refused commit is one that a compaction makes room for: compact, and commit once more. */
+#define LANOLIN_NEEDS_COMPACTION(result) \
+    ((result) == LANOLIN_ERR_NOSPC || (result) == LANOLIN_ERR_MISALIGNED || (result) == LANOLIN_ERR_TOPBIT || \
+     (result) == LANOLIN_ERR_NOTERASED)
 
 /* Types of entries, littlefs's LFS_TYPE_ names: what lanolin_tag_type3 answers, and what lanolin_mktag and an entry of
  * a commit take. One marked (class) stands for every type with the same upper three bits: lanolin_tag_type1. */
@@ -121,9 +128,10 @@ typedef struct { int32_t result; lanolin_mdir dir; uint32_t seed; } lanolin_fetc
 typedef struct { int32_t result; uint32_t tag; } lanolin_got;
 /* type: the name's, LANOLIN_TYPE_REG or LANOLIN_TYPE_DIR as littlefs writes it; all zero but the result on a refusal */
 typedef struct { int32_t result; uint8_t type; uint32_t size; uint8_t name[256]; } lanolin_info;
-/* dir and seed as lanolin_fetched has them; index: of LANOLIN_ERR_BADENTRY the entry's, from 0, else 0 */
+/* dir and seed as lanolin_fetched has them; index: of LANOLIN_ERR_BADENTRY the entry's, from 0, of
+ * LANOLIN_ERR_NOTERASED the offset in the block of the first such byte, else 0 */
 typedef struct { int32_t result; uint32_t index; lanolin_mdir dir; uint32_t seed; } lanolin_committed;
-/* stores: those made, 0 on a refusal */
+/* index as lanolin_committed has it; stores: those made, 0 on a refusal */
 typedef struct { int32_t result; uint32_t index; uint32_t stores; } lanolin_stored;
 
 /* ---- reading a pair: b0 and b1 are the images of the blocks n0 and n1, each block_size bytes. The

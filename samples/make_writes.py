@@ -9,7 +9,6 @@ with OP commit or compact, LIMIT a number of stores or -, images and data as run
 ENTRIES as type:id:off:len*times, all joined by commas, - for none. Run by hand when the set changes.
 """
 import os
-import zlib
 
 from writer import (ATTR, CREATE, DELETE, FILE, HARD, INLINE, MOVE, SOFT, appended, block, check_size, checksum,
                     compacted, runs, tag)
@@ -30,11 +29,19 @@ def entry_text(entries):
 CASES, EXPECTED = [], []
 
 
+def fnv1a(image):
+    """FNV-1a of an image. Not a CRC-32: it stands in the image behind what it sums, so that all whole blocks have one."""
+    value = 0x811C9DC5
+    for byte in image:
+        value = (value ^ byte) * 0x01000193 % 2 ** 32
+    return value
+
+
 def case(name, op, size, prog, images, entries, data, answer, after, numbers=(0, 1), count=0, seed=7, limit=None):
     """`answer` is what is printed behind the name; `after` the two images."""
     CASES.append(" ".join(map(str, (name, op, size, prog, *numbers, count, seed, "-" if limit is None else limit,
                                     runs(images[0]), runs(images[1]), entry_text(entries), runs(data)))))
-    EXPECTED.append(f"{name}: {answer} images {zlib.crc32(after[0]):08x} {zlib.crc32(after[1]):08x}")
+    EXPECTED.append(f"{name}: {answer} images {fnv1a(after[0]):08x} {fnv1a(after[1]):08x}")
 
 
 def refused(name, op, size, prog, images, entries, data, number, index=0, **more):
@@ -132,11 +139,42 @@ refused("commit-second-bad", "commit", 128, 16, (image, erased), [(CREATE, 1, 0,
 refused("commit-empty-data-past-the-buffer", "commit", 128, 16, (image, erased), [(CREATE, 1, 5, 0)], SECONDS, -201, 0)
 refused("commit-bad-before-no-space", "commit", 128, 16, (image, erased), [(INLINE, 0, 0, 100), (FILE, 7, 0, 1)],
         b"p" * 100, -201, 1)
-unclean = image[:127] + b"\x00"
-refused("commit-unclean", "commit", 128, 16, (unclean, erased), DEADLINE, SECONDS, -203)
-refused("commit-no-space-before-unclean", "commit", 128, 16, (unclean, erased), [(INLINE, 0, 0, 69)], b"p" * 69, -28)
-# the old end is 48, no multiple of 32
-refused("commit-end-unaligned", "commit", 128, 32, (image, erased), DEADLINE, SECONDS, -203)
+# why there is no room: the old end is 48, no multiple of 32; behind a check of type 0x501 the end tag's top bit is set;
+# of the bytes from 48 on the first that isn't erased is named by its offset in the block
+flipped, _, top = block(128, 16, SLOT, check=0x501)
+assert top >> 31 == 1
+dirty = image[:127] + b"\x00"
+refused("commit-misaligned", "commit", 128, 32, (image, erased), DEADLINE, SECONDS, -211)
+refused("commit-top-bit", "commit", 128, 16, (flipped, erased), DEADLINE, SECONDS, -212)
+refused("commit-last-byte-not-erased", "commit", 128, 16, (dirty, erased), DEADLINE, SECONDS, -213, 127)
+refused("commit-first-byte-not-erased", "commit", 128, 16, (image[:48] + b"\xfe" + image[49:], erased), DEADLINE, SECONDS,
+        -213, 48)
+refused("commit-three-bytes-not-erased", "commit", 128, 16,
+        (image[:70] + b"\x7f" + image[71:90] + b"\x00" + dirty[91:], erased), DEADLINE, SECONDS, -213, 70)
+# the first commit of a log that was cut short behind 5 of its 16 bytes, and the one that it is tried again with
+torn = appended(image, 16, end, last, DEADLINE, SECONDS, 5)[0]
+refused("commit-torn", "commit", 128, 16, (torn, erased), DEADLINE, SECONDS, -213, 48)
+refused("commit-torn-limited", "commit", 128, 16, (torn, erased), DEADLINE, SECONDS, -213, 48, limit=3)
+# the padding of the last check is no room: bytes 39 to 47 may be anything
+padded = image[:39] + b"\x00" * 9 + image[48:]
+case("commit-behind-padding", "commit", 128, 16, (padded, erased), DEADLINE, SECONDS,
+     "end 64 tag 500ffc04 count 1 rev 1", (appended(padded, 16, end, last, DEADLINE, SECONDS, None)[0], erased))
+# two reasons at once, and all three: the first of "misaligned end, top bit, byte" is given
+refused("commit-misaligned-before-top-bit", "commit", 128, 32, (flipped, erased), DEADLINE, SECONDS, -211)
+refused("commit-misaligned-before-byte", "commit", 128, 32, (dirty, erased), DEADLINE, SECONDS, -211)
+refused("commit-top-bit-before-byte", "commit", 128, 16, (flipped[:127] + b"\x00", erased), DEADLINE, SECONDS, -212)
+refused("commit-all-three-reasons", "commit", 128, 32, (flipped[:127] + b"\x00", erased), DEADLINE, SECONDS, -211)
+# before them the space, behind them the coincidence
+large = [(INLINE, 0, 0, 69)]
+refused("commit-no-space-before-misaligned", "commit", 128, 32, (image, erased), large, b"p" * 69, -28)
+refused("commit-no-space-before-top-bit", "commit", 128, 16, (flipped, erased), large, b"p" * 69, -28)
+refused("commit-no-space-before-byte", "commit", 128, 16, (dirty, erased), large, b"p" * 69, -28)
+refused("commit-misaligned-before-coincidence", "commit", 128, 32, (image, erased), DEADLINE,
+        coincidence(32, end, b"", last, []), -211)
+refused("commit-top-bit-before-coincidence", "commit", 128, 16, (flipped, erased), DEADLINE,
+        coincidence(16, end, b"", top, []), -212)
+refused("commit-byte-before-coincidence", "commit", 128, 16, (dirty, erased), DEADLINE,
+        coincidence(16, end, b"", last, []), -213, 127)
 refused("commit-coincidence", "commit", 128, 16, (image, erased), DEADLINE, coincidence(16, end, b"", last, []), -204)
 refused("commit-coincidence-limited", "commit", 128, 16, (image, erased), DEADLINE, coincidence(16, end, b"", last, []),
         -204, limit=3)
@@ -165,10 +203,11 @@ refused("compact-count-1024", "compact", 128, 16, (crowded, erased), [], b"", -2
 deadline = coincidence(16, 4, (2).to_bytes(4, "little"), 0xFFFFFFFF, SLOT[:3])
 fatal = block(128, 16, SLOT[:3] + [(tag(ATTR, 0, 4), deadline)])[0]
 refused("compact-coincidence", "compact", 128, 16, (fatal, erased), [], b"", -204)
-# an old end that is no multiple of the program size, and room that is not clean, are no matter here
+# none of the reasons for which there is no room is any matter here
 new, _, stop, this = compacted(128, 32, 2, SLOT, None, erased)
-case("compact-unaligned-unclean", "compact", 128, 32, (unclean, erased), [], b"",
-     f"end {stop} tag {this:08x} count 1 rev 2", (unclean, new))
+for name, first in (("byte", dirty), ("top-bit", flipped), ("all-three-reasons", flipped[:127] + b"\x00")):
+    case(f"compact-misaligned-{name}", "compact", 128, 32, (first, erased), [], b"",
+         f"end {stop} tag {this:08x} count 1 rev 2", (first, new))
 
 os.makedirs(HERE, exist_ok=True)
 for name, lines in (("cases", CASES), ("expected", EXPECTED)):

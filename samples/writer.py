@@ -26,21 +26,22 @@ def check_size(prog, at):
     return size
 
 
-def commit_bytes(prog, at, start, previous, entries):
-    """The stored bytes of a commit whose first byte stands at `at`; `start` is checksummed before it (the revision)."""
+def commit_bytes(prog, at, start, previous, entries, check=0x500):
+    """The stored bytes of a commit whose first byte stands at `at`; `start` is checksummed before it (the revision).
+    `check` is the type of its check tag: 0x501 sets the top bit of the end tag."""
     data = b""
     for this, body in entries:
         data += (this ^ previous).to_bytes(4, "big") + body
         previous = this
-    this = tag(0x500, 1023, check_size(prog, at + len(data)))
+    this = tag(check, 1023, check_size(prog, at + len(data)))
     data += (this ^ previous).to_bytes(4, "big")
-    return data + checksum(start + data).to_bytes(4, "little"), this
+    return data + checksum(start + data).to_bytes(4, "little"), this ^ (check & 1) << 31
 
 
-def block(size, prog, entries, revision=1):
+def block(size, prog, entries, revision=1, check=0x500):
     """A block with one commit, and its end tag."""
     start = revision.to_bytes(4, "little")
-    data, last = commit_bytes(prog, 4, start, 0xFFFFFFFF, entries)
+    data, last = commit_bytes(prog, 4, start, 0xFFFFFFFF, entries, check)
     return (start + data).ljust(size, b"\xff"), end_of(prog, 4 + len(data)), last
 
 

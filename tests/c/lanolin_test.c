@@ -305,12 +305,42 @@ static void test_names_of_refusals(void) {
     EXPECT(committed(&deadline, 1, COINCIDES, 4) == LANOLIN_ERR_COINCIDENCE);
     memcpy(c0, b0, sizeof c0);
     EXPECT(lanolin_commit(G, c0, 128, b1, 128, 0, 1, 0, 0, &large, 1, b1, 69).result == LANOLIN_ERR_NOSPC);
-    c0[127] = 0;
-    EXPECT(lanolin_commit(G, c0, 128, b1, 128, 0, 1, 0, 0, NULL, 0, NULL, 0).result == LANOLIN_ERR_UNCLEAN);
     lay_one(block, lanolin_mktag(LANOLIN_TYPE_REG, 0, 4), LISTED + 12, 4); /* a name without its create */
     memset(erased, 0xff, sizeof erased);
     EXPECT(lanolin_compact((lanolin_geometry){512, 16}, block, 512, erased, 512, 0, 1, 0, 0).result ==
            LANOLIN_ERR_IRREGULAR);
+}
+
+/* A commit of nothing, and its twin with a limit, which refuse alike. */
+static lanolin_committed bare(uint32_t prog_size, uint8_t *block) {
+    const lanolin_geometry g = {128, prog_size};
+    lanolin_committed c = lanolin_commit(g, block, 128, b1, 128, 0, 1, 0, 0, NULL, 0, NULL, 0);
+    lanolin_stored s = lanolin_commit_stores(g, block, 128, b1, 128, 0, 1, 0, 0, NULL, 0, NULL, 0, 5);
+    EXPECT(s.result == c.result && s.index == c.index && s.stores == 0);
+    return c;
+}
+
+/* Why there is no room, each reason alone and then together: the listing's end, 48, is no multiple of 32; behind a check
+ * of type 0x501 the end tag's top bit is set; of the bytes behind the end the first that isn't erased is named. */
+static void test_no_room(void) {
+    static const uint8_t CHECK[8] = {0x67, 0x5f, 0xfc, 0x09, 0x37, 0x9b, 0xc2, 0x51}; /* as in samples/writes/cases */
+    uint8_t c0[128];
+    lanolin_committed c;
+    memcpy(c0, b0, sizeof c0);
+    EXPECT(bare(32, c0).result == LANOLIN_ERR_MISALIGNED && bare(32, c0).index == 0);
+    c0[127] = 0;
+    c0[70] = 0xfe;
+    c = bare(16, c0);
+    EXPECT(c.result == LANOLIN_ERR_NOTERASED && c.index == 70 && c.dir.off == 0 && c.seed == 0);
+    EXPECT(bare(32, c0).result == LANOLIN_ERR_MISALIGNED && bare(32, c0).index == 0);
+    memcpy(c0 + 31, CHECK, sizeof CHECK);
+    EXPECT(bare(16, c0).result == LANOLIN_ERR_TOPBIT && bare(16, c0).index == 0);
+    EXPECT(bare(32, c0).result == LANOLIN_ERR_MISALIGNED);
+    c0[127] = c0[70] = 0xff;
+    EXPECT(bare(16, c0).result == LANOLIN_ERR_TOPBIT && bare(32, c0).result == LANOLIN_ERR_MISALIGNED);
+    int32_t sum = 0;
+    for (int32_t number = -300; number <= 0; number++) sum += LANOLIN_NEEDS_COMPACTION(number) ? number : 0;
+    EXPECT(sum == -28 - 211 - 212 - 213);
 }
 
 /* Every type that a commit takes; behind the delete of slot 0 the other ids are one less. */
@@ -435,6 +465,7 @@ int main(void) {
     test_commit();
     test_compact();
     test_names_of_refusals();
+    test_no_room();
     test_names_of_types();
     test_names_of_what_is_read();
     test_names_of_limits();

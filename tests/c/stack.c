@@ -104,8 +104,8 @@ static __attribute__((noinline)) void committing(void) {
     DEPTH(lanolin_commit, G, PAIR, 0, 0, ENTRIES, good + 1, DATA, sizeof DATA);
     DEPTH(lanolin_commit, G, PAIR, 0, 0, ENTRIES, good, DATA, sizeof DATA);
     DEPTH(lanolin_commit_stores, G, PAIR, 0, 0, ENTRIES, good, DATA, sizeof DATA, 50);
-    DEPTH(lanolin_commit, G, PAIR, 0, 0, ENTRIES, good, DATA, sizeof DATA); /* torn: -203 */
-    MUST(lanolin_commit(G, PAIR, 0, 0, ENTRIES, good, DATA, sizeof DATA).result == -203);
+    DEPTH(lanolin_commit, G, PAIR, 0, 0, ENTRIES, good, DATA, sizeof DATA); /* torn: -213 */
+    MUST(lanolin_commit(G, PAIR, 0, 0, ENTRIES, good, DATA, sizeof DATA).result == -213);
     DEPTH(lanolin_commit, G, PAIR, 1, 0, ENTRIES, good, DATA, sizeof DATA);
 }
 

@@ -17,11 +17,12 @@ use Rattle.format.specs.Regular.{ruleOf, ruleHolds, countAfter, regularFrom, Re
 use Rattle.format.specs.Commit.{commitBytes}
 use Rattle.format.specs.Stores.{erased, allErased, fill, entriesLength, appending, coincides}
 use Rattle.format.specs.Entries.{entryBody, judge}
-use Rattle.format.specs.Writer.{roundedEnd, checkSize, commitFits, roomClean, placed, appended, verdictOf, Images}
+use Rattle.format.specs.Room.{erasedRun, firstUnerased, roomOf}
+use Rattle.format.specs.Writer.{roundedEnd, checkSize, commitFits, placed, appended, verdictOf, Images}
 use Rattle.format.specs.Writer.{images, unlimited, commitImages, commitOf, commitStoresOf}
 use Rattle.format.specs.declared.Geometry.{Geometry}
 use Rattle.format.specs.declared.Entry.{Entry}
-use Rattle.format.specs.declared.Refusal.the-variants.{Invalid, BadEntry, NoSpace, Unclean}
+use Rattle.format.specs.declared.Refusal.the-variants.{Invalid, BadEntry, NoSpace, Misaligned, TopBit, NotErased}
 use Rattle.format.specs.declared.Committed.{Committed}
 use Rattle.format.specs.declared.Committed.the-variants as committed
 use Rattle.format.specs.declared.Stored.the-variants as stored
@@ -40,6 +41,10 @@ first = laid ++ erased 89
 
 abbrev second : List ℕ
 second = erased 128
+
+-- the same with a check of type 0x501, and the checksum of that
+abbrev flipped : List ℕ
+flipped = take 31 laid ++ (0x67 ∷ 0x5f ∷ 0xfc ∷ 0x09 ∷ 0x37 ∷ 0x9b ∷ 0xc2 ∷ 0x51 ∷ []) ++ erased 89
 
 -- a deadline of 3,600 in place of 90,000
 abbrev deadline : Entry
@@ -70,8 +75,9 @@ image es dat n = commitImages geometry first second 0 1 0 0 es dat n
 abbrev answer : List ℕ → List Entry → List ℕ → Committed
 answer b es dat = commitOf geometry b second 0 1 0 0 es dat
 
--- five stores; all of them; the answers; "an entry is bad", the space, both ("-201, -28": the entry), a set byte far
--- behind the end, equal block numbers
+-- five stores; all of them; the answers; "an entry is bad", the space, both ("-201, -28": the entry); the end, 48, no
+-- multiple of the program size 32, the end tag's top bit, a byte far behind the end that isn't erased; equal block
+-- numbers
 listing : (image (deadline ∷ []) seconds 5 ≡ images (laid ++ erased 9 ++ take 5 more ++ erased 75) second)
     × (commitStoresOf geometry first second 0 1 0 0 (deadline ∷ []) seconds 5 ≡ stored.Made 5)
     × (image (deadline ∷ []) seconds unlimited ≡ images (laid ++ erased 9 ++ more ++ erased 64) second)
@@ -93,11 +99,14 @@ listing : (image (deadline ∷ []) seconds 5 ≡ images (laid ++ erased 9 ++ tak
     × (commitStoresOf geometry first second 0 1 0 0 (struct 68 ∷ []) (erased 69) 100 ≡ stored.Made 80)
     × (answer first (struct 69 ∷ []) (erased 69) ≡ committed.Refused NoSpace)
     × (answer first (struct 69 ∷ past ∷ []) (erased 69) ≡ committed.Refused (BadEntry 1))
-    × (answer (laid ++ erased 88 ++ (0xfe ∷ [])) (deadline ∷ []) seconds ≡ committed.Refused Unclean)
+    × (commitOf (record { «block_size» = 128; «prog_size» = 32 }) first second 0 1 0 0 (deadline ∷ []) seconds
+    ≡ committed.Refused Misaligned)
+    × (answer flipped (deadline ∷ []) seconds ≡ committed.Refused TopBit)
+    × (answer (laid ++ erased 88 ++ (0xfe ∷ [])) (deadline ∷ []) seconds ≡ committed.Refused (NotErased 127))
     × (commitOf geometry first second 7 7 0 0 [] [] ≡ committed.Refused Invalid)
 unfolding commitImages commitOf commitStoresOf verdictOf commitFits pairFits geometryFits fetchOf tooHigh view rank log
     committed walk walkFrom walkIn classOf readBehind bodyLength tagLength tagFlipped be32 le32 toBe32 toLe32 xor crc
     crcByte crcBits crcBit mdirOf erasedOf stoppedStraight span eventLength tagAfter countOf counted splitOf tailOf
     forwardOf seedOf appended Regular regularFrom ruleOf ruleHolds countAfter judge entryBody placed roundedEnd
-    checkSize roomClean allErased coincides fill entriesLength tagOf appending commitBytes
-listing = (refl, refl, refl, refl, refl, refl, refl, refl, refl, refl, refl, refl)
+    checkSize roomOf erasedRun firstUnerased allErased coincides fill entriesLength tagOf appending commitBytes
+listing = (refl, refl, refl, refl, refl, refl, refl, refl, refl, refl, refl, refl, refl, refl)

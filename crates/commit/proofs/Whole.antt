@@ -13,19 +13,22 @@ use Rattle.format.specs.Word.{allOnes, toBe32, xor}
 use Rattle.format.specs.Crc.{crc}
 use Rattle.format.specs.Log.{log, logEnd, logEndTag}
 use Rattle.format.specs.Record.{countOf}
-use Rattle.format.specs.Fetch.{geometryFits, pairFits, fetchOf}
+use Rattle.format.specs.Fetch.{geometryFits, imagesFit, pairFits, fetchOf}
 use Rattle.format.specs.Regular.{Regular}
 use Rattle.format.specs.Commit.{Item, checkTag, commitBytes}
 use Rattle.format.specs.Stores.{entriesLength, appending, coincides}
 use Rattle.format.specs.Entries.{itemsOf, Judged, judge, bad, good}
-use Rattle.format.specs.Writer.{roundedEnd, checkSize, checkAt, allStores, mostData, mostEntries, commitFits, roomClean}
-use Rattle.format.specs.Writer.{Verdict, refused, accepted, blockAt, placed, judgedBy, appended, isSecond, fetchedThen}
-use Rattle.format.specs.Writer.{verdictOf, imagesAfter, storedTo, answerOf, storesMade}
+use Rattle.format.specs.Room.{roomOf}
+use Rattle.format.specs.Writer.{roundedEnd, checkSize, checkAt, allStores, mostData, mostEntries, commitFits}
+use Rattle.format.specs.Writer.{Verdict, refused, accepted, blockAt, roomThen, placed, judgedBy, appended, isSecond}
+use Rattle.format.specs.Writer.{fetchedThen, verdictOf, imagesAfter, storedTo, answerOf, storesMade}
 use Rattle.format.specs.declared.Geometry.{Geometry}
 use Rattle.format.specs.declared.LfsMdir.{LfsMdir}
 use Rattle.format.specs.declared.Entry.{Entry}
 use Rattle.format.specs.declared.Refusal.{Refusal}
-use Rattle.format.specs.declared.Refusal.the-variants.{Invalid, BadEntry, Irregular, NoSpace, Unclean, Coincidence}
+use Rattle.format.specs.declared.Refusal.the-variants.{Invalid, BadEntry, Irregular, NoSpace, Coincidence}
+use Rattle.format.specs.declared.Room.{Room}
+use Rattle.format.specs.declared.Room.the-variants as room
 use Rattle.format.specs.declared.Fetched.{Fetched}
 use Rattle.format.specs.declared.Fetched.the-variants as fetched
 use Rattle.format.specs.declared.Stored.the-variants as stored
@@ -36,11 +39,11 @@ use Rattle.theory.specs.Rules.FetchCount.{regular-slots}
 use Rattle.theory.specs.Rules.MadeItem.{AllMade}
 use Rattle.theory.specs.Fetch.FoundRecord.{found-answers}
 use Rattle.theory.specs.Rules.JudgedEntries.{judged-good}
-use Rattle.theory.specs.Commit.AcceptedVerdict.{fits-prog, fits-geometry, rounded}
+use Rattle.theory.specs.Commit.AcceptedVerdict.{fits-prog, fits-images, fits-geometry, rounded}
 use Rattle.commit_lay.specs.Laid.{Laid, laid, putsOf}
 use Rattle.commit_lay.proofs.Pasted.{runAt, puts-paste}
 use Rattle.commit_steps.specs.State.{Trio, trio, state, refusedState, judgingFrom, startedOf, fetchedBy, begunOf}
-use Rattle.commit_steps.specs.State.{laidTo, into, placedOf, decidedOf, answeredOf, madeOf}
+use Rattle.commit_steps.specs.State.{laidTo, into, roomThenLaid, placedOf, decidedOf, answeredOf, madeOf}
 use Rattle.commit_steps.specs.declared.State.{State}
 use Rattle.commit_steps.specs.declared.Judging.{Judging}
 use Rattle.commit_steps.specs.declared.Laying.{Laying}
@@ -145,12 +148,12 @@ module _ (dat : List ℕ) (entries : List Entry) (w : Bool) (b0 b1 : List ℕ) (
     sum = allOnes;
   }
 
-  abbrev tests : Bool → Bool → Bool → Phase
-  tests x y z = cond x (Refused NoSpace) (cond (not y) (Refused Unclean) (cond z (Refused Coincidence) (Lay laying)))
+  abbrev tests : Bool → Room → Bool → Phase
+  tests x y z = cond x (Refused NoSpace) (roomThenLaid y (cond z (Refused Coincidence) (Lay laying)))
 
-  abbrev verdict : Bool → Bool → Bool → Verdict
+  abbrev verdict : Bool → Room → Bool → Verdict
   verdict x y z = cond x (refused NoSpace)
-      (cond (not y) (refused Unclean)
+      (roomThen y
       (cond z (refused Coincidence) (accepted w I (checkSize prog (checkAt (log B) I)))))
 
   abbrev laidBy : Phase → Trio
@@ -168,17 +171,17 @@ module _ (dat : List ℕ) (entries : List Entry) (w : Bool) (b0 b1 : List ℕ) (
 
   placed-phase : (len c : ℕ) → placedOf (after J0 I len c) prog B n
       ≡ tests (ltb (length B) (roundedEnd prog (checkAt (log B) I)))
-      (roomClean prog B (logEnd (log B)) (logEndTag (log B))) (coincides allOnes (logEndTag (log B)) I ct)
+      (roomOf prog B (logEnd (log B)) (logEndTag (log B))) (coincides allOnes (logEndTag (log B)) I ct)
   unfolding placedOf
   placed-phase len c = rw (zero-add (entriesLength I), meets-last I allOnes (logEndTag (log B)) ct)
 
   module _ (some : 4 ≤ prog) (h : Tagged entries) (m : AllMade I) where
-    ran-tests : (x y z : Bool) → ltb (length B) (roundedEnd prog (checkAt (log B) I)) ≡ x
+    ran-tests : (x : Bool) (y : Room) (z : Bool) → ltb (length B) (roundedEnd prog (checkAt (log B) I)) ≡ x
         → Ran b0 b1 n (verdict x y z) (laidBy (tests x y z))
     ran-tests true y z e = ran-refused b0 b1 n w NoSpace _ (laid-refused w NoSpace b0 b1 entries dat)
-    ran-tests false false z e = ran-refused b0 b1 n w Unclean _ (laid-refused w Unclean b0 b1 entries dat)
-    ran-tests false true true e = ran-refused b0 b1 n w Coincidence _ (laid-refused w Coincidence b0 b1 entries dat)
-    ran-tests false true false e =
+    ran-tests false (room.Refused r) z e = ran-refused b0 b1 n w r _ (laid-refused w r b0 b1 entries dat)
+    ran-tests false room.Clean true e = ran-refused b0 b1 n w Coincidence _ (laid-refused w Coincidence b0 b1 entries dat)
+    ran-tests false room.Clean false e =
         let fit : roundedEnd prog (checkAt (log B) I) ≤ length B =
         ltb-false (length B) (roundedEnd prog (checkAt (log B) I)) e in
         ran-accepted b0 b1 n w I (checkSize prog (checkAt (log B) I)) (logEnd (log B) + min n (allStores I)) laying
@@ -190,7 +193,7 @@ module _ (dat : List ℕ) (entries : List Entry) (w : Bool) (b0 b1 : List ℕ) (
     ran-placed len c =
         subst (λ (p : Phase). Ran b0 b1 n (placed prog w B (log B) I) (laidBy p)) (sym (placed-phase len c))
         (ran-tests (ltb (length B) (roundedEnd prog (checkAt (log B) I)))
-        (roomClean prog B (logEnd (log B)) (logEndTag (log B))) (coincides allOnes (logEndTag (log B)) I ct) refl)
+        (roomOf prog B (logEnd (log B)) (logEndTag (log B))) (coincides allOnes (logEndTag (log B)) I ct) refl)
 
 -- ---- all of it
 module _ (g : Geometry) (b0 b1 : List ℕ) (n0 n1 count seed : ℕ) (entries : List Entry) (dat : List ℕ) (n : ℕ) where
@@ -206,6 +209,9 @@ module _ (g : Geometry) (b0 b1 : List ℕ) (n0 n1 count seed : ℕ) (entries : L
     few = leb-true (length entries) mostEntries
         (both-true (pairFits g (length b0) (length b1) n0 n1 && leb (length dat) mostData)
         (leb (length entries) mostEntries) fits .1)
+
+    images : imagesFit g (length b0) (length b1) ≡ true
+    images = fits-images g (length b0) (length b1) n0 n1 (length entries) (length dat) fits
 
     geometry : geometryFits g ≡ true
     geometry = fits-geometry g (length b0) (length b1) n0 n1 (length entries) (length dat) fits
@@ -224,7 +230,7 @@ module _ (g : Geometry) (b0 b1 : List ℕ) (n0 n1 count seed : ℕ) (entries : L
           ≡ trio (state w (placedOf (after start (itemsOf dat entries) (length entries) c) (g .«prog_size»)
           (blockAt w b0 b1) n)) b0 b1
       unfolding decidedOf
-      decided-good c = rw geometry
+      decided-good c = rw images
 
       ran-judged : (j : Judged) → judge dat 0 (countOf 0 (log (blockAt w b0 b1))) entries ≡ j
           → Ran b0 b1 n (judgedBy j (placed (g .«prog_size») w (blockAt w b0 b1) (log (blockAt w b0 b1))

@@ -1,33 +1,59 @@
--- The loop over the room, and the three checksums. Assumes nothing.
+-- The loop over the room, what the room's tests answer, and the three checksums. Assumes nothing.
 use mathlib.Core.Path.{_≡_}
-use mathlib.Core.Bool.{true, false, _||_}
+use mathlib.Core.Bool.{Bool, true, false, not, _||_}
 use mathlib.Core.List.{List, [], _∷_}
-use Prim.Native.Nat.{ℕ, _+_, _≤_, _<_}
+use Prim.Native.Nat.{ℕ, _+_, _%_, _≤_, _<_}
 use native.Mathlib.Numerals.{add-one}
+use native.Mathlib.Omega.{arith}
 use lib.Dec.{eqb}
 use lib.ListN.{length, getD, drop, drop-of-length-le}
 use lib.Seq.{drop-cons}
-use borrow.Author.Tests.{eq-eqb, ne-eqb}
+use borrow.Author.Tests.{eq-eqb, ne-eqb, lt-ltb, le-ltb}
 use Rattle.format.specs.Word.{toBe32, allOnes}
+use Rattle.format.specs.Tag.{tagValid}
 use Rattle.format.specs.Crc.{crc}
-use Rattle.format.specs.Stores.{allErased, fill}
+use Rattle.format.specs.Stores.{fill}
+use Rattle.format.specs.Room.{erasedRun, firstUnerased, roomOf}
+use Rattle.format.specs.declared.Refusal.the-variants.{Misaligned, TopBit, NotErased}
+use Rattle.format.specs.declared.Room.the-variants.{Clean, Refused}
+use Rattle.format.proofs.Rooms.{inside-block}
 use Rattle.commit_room.specs.Tests.{meets}
 
 module _ (b : List ℕ) (i : ℕ) where
-  pub erased-end : length b ≤ i → allErased (drop i b) ≡ true
-  unfolding allErased
-  erased-end h = rw (drop-of-length-le b {i = i} h)
+  pub unerased-end : length b ≤ i → i ≡ firstUnerased b i
+  unfolding firstUnerased erasedRun
+  unerased-end h = rw (drop-of-length-le b {i = i} h) (omega arith)
 
   module _ (h : i < length b) where
-    pub erased-on : getD b i 0 ≡ 0xff → allErased (drop i b) ≡ allErased (drop (i + 1) b)
-    unfolding allErased
-    erased-on e = rw (add-one i, drop-cons b i 0 h, eq-eqb (getD b i 0) 0xff e)
+    pub unerased-on : getD b i 0 ≡ 0xff → firstUnerased b i ≡ firstUnerased b (i + 1)
+    unfolding firstUnerased erasedRun
+    unerased-on e = rw (add-one i, drop-cons b i 0 h, eq-eqb (getD b i 0) 0xff e) (omega arith)
 
-    pub erased-off : (getD b i 0 ≡ 0xff → ⊥) → allErased (drop i b) ≡ false
-    unfolding allErased
-    erased-off e = rw (drop-cons b i 0 h, ne-eqb (getD b i 0) 0xff e)
+    pub unerased-here : (getD b i 0 ≡ 0xff → ⊥) → i ≡ firstUnerased b i
+    unfolding firstUnerased erasedRun
+    unerased-here e = rw (drop-cons b i 0 h, ne-eqb (getD b i 0) 0xff e) (omega arith)
 
--- l is what `be_bytes` answers, x, y and z what `lfs_crc` does
+-- ---- `room`: v is what `lfs_tag_isvalid` answers, d what `first_unerased` does
+module _ (prog : ℕ) (b : List ℕ) (end etag : ℕ) where
+  pub room-misaligned : (end % prog ≡ 0 → ⊥) → Refused Misaligned ≡ roomOf prog b end etag
+  unfolding roomOf
+  room-misaligned h = rw (ne-eqb (end % prog) 0 h)
+
+  module _ (h : end % prog ≡ 0) (v : Bool) (ev : v ≡ tagValid etag) where
+    pub room-top-bit : not v ≡ true → Refused TopBit ≡ roomOf prog b end etag
+    unfolding roomOf
+    room-top-bit k = rw (eq-eqb (end % prog) 0 h, ← ev, k)
+
+    module _ (k : not v ≡ false) (d : ℕ) (ed : d ≡ firstUnerased b end) where
+      pub room-unerased : d < length b → Refused (NotErased d) ≡ roomOf prog b end etag
+      unfolding roomOf
+      room-unerased l = rw (eq-eqb (end % prog) 0 h, ← ev, k, ← inside-block b end, ← ed, lt-ltb d (length b) l)
+
+      pub room-clean : length b ≤ d → Clean ≡ roomOf prog b end etag
+      unfolding roomOf
+      room-clean l = rw (eq-eqb (end % prog) 0 h, ← ev, k, ← inside-block b end, ← ed, le-ltb d (length b) l)
+
+-- ---- `coincides`: l is what `be_bytes` answers, x, y and z what `lfs_crc` does
 pub three : (sum word x y z : ℕ) (l : List ℕ) → l ≡ toBe32 word → x ≡ crc sum (getD l 0 0 ∷ 0xff ∷ 0xff ∷ 0xff ∷ [])
     → y ≡ crc sum (getD l 0 0 ∷ getD l 1 0 ∷ 0xff ∷ 0xff ∷ [])
     → z ≡ crc sum (getD l 0 0 ∷ getD l 1 0 ∷ getD l 2 0 ∷ 0xff ∷ [])

@@ -1,12 +1,14 @@
-// The room that a commit is written to: where it ends, whether the room is clean, and whether the check tag's checksums
-// coincide.
+// The room that a commit is written to: where it ends, what stands against an append, and whether the check tag's
+// checksums coincide.
 ghost use mathlib.Core.Path.{_≡_};
 ghost use Prim.Native.Nat.{_≤_, _<_};
-ghost use lib.ListN.{drop};
+ghost use lib.ListN.{length};
 ghost use Rattle.format.specs.Commit.{checkTag};
-ghost use Rattle.format.specs.Stores.{allErased};
-ghost use Rattle.format.specs.Writer.{roundedEnd, checkSize, roomClean};
+ghost use Rattle.format.specs.Room.{firstUnerased, roomOf};
+ghost use Rattle.format.specs.Writer.{roundedEnd, checkSize};
 ghost use Rattle.commit_room.specs.Tests.{Prog, meets};
+use format::Refusal;
+use format::Room;
 
 // Tag and checksum of a check.
 const CHECK_LENGTH: usize = 8;
@@ -34,28 +36,39 @@ pub fn check_tag(prog: u32, at: usize) -> u32
     LFS_CHECK_TAG + (size as u32)
 }
 
-// "bytes 0xff from the old end to the block's end"
-fn all_erased(b: &[u8], end: usize) -> bool
-    ensures { λ r. ⌜ r ≡ allErased (drop end (now (b .entry))) ⌝ }
+// The offset of the first byte from the old end on that isn't erased; the block's end, where all are.
+fn first_unerased(b: &[u8], end: usize) -> usize
+    ensures { λ r. ⌜ r ≡ firstUnerased (now (b .entry)) end ⌝ }
 {
     let mut i = end;
     while i < b.len() {
         if b[i] != 0xff {
-            return false;
+            return i;
         }
         i += 1;
     }
-    true
+    i
 }
 
-// "Append needs bytes 0xff from the old end to the block's end, an old end that is a multiple of the program size, and
-// an end tag with bit 31 clear."
-pub fn clean(prog: u32, b: &[u8], end: usize, etag: u32) -> bool
+// "Tell a misaligned end, an end tag with its top bit set, and a first byte that isn't erased apart, the last with its
+// offset in the block. Test them in that order".
+pub fn room(prog: u32, b: &[u8], end: usize, etag: u32) -> Room
     requires { ⌜ 4 ≤ prog ⌝ }
-    ensures { λ r. ⌜ r ≡ roomClean prog (now (b .entry)) end etag ⌝ }
+    requires { ⌜ length (now b) ≤ 32_768 ⌝ }
+    ensures { λ r. ⌜ r ≡ roomOf prog (now (b .entry)) end etag ⌝ }
 {
     let unit = prog as usize;
-    all_erased(b, end) & (end % unit == 0) & tag::lfs_tag_isvalid(etag)
+    if end % unit != 0 {
+        return Room::Refused(Refusal::Misaligned);
+    }
+    if !tag::lfs_tag_isvalid(etag) {
+        return Room::Refused(Refusal::TopBit);
+    }
+    let dirty = first_unerased(b, end);
+    if dirty < b.len() {
+        return Room::Refused(Refusal::NotErased(dirty as u32));
+    }
+    Room::Clean
 }
 
 // "put 1, 2 or 3 bytes of the check tag and fill its four with 0xff; if any of the three checksums is 0xffffffff,

@@ -8,12 +8,15 @@ use lib.ListN.{length}
 use borrow.Author.Tests.{lt-ltb, le-ltb}
 use Rattle.format.specs.Word.{toBe32, xor}
 use Rattle.format.specs.Crc.{crc}
-use Rattle.format.specs.Fetch.{geometryFits}
+use Rattle.format.specs.Fetch.{imagesFit}
 use Rattle.format.specs.Commit.{checkTag}
-use Rattle.format.specs.Writer.{roundedEnd, checkSize, roomClean}
+use Rattle.format.specs.Room.{roomOf}
+use Rattle.format.specs.Writer.{roundedEnd, checkSize}
 use Rattle.format.specs.declared.Geometry.{Geometry}
 use Rattle.format.specs.declared.Refusal.{Refusal}
-use Rattle.format.specs.declared.Refusal.the-variants.{Invalid, NoSpace, Unclean, Coincidence}
+use Rattle.format.specs.declared.Refusal.the-variants.{Invalid, NoSpace, Coincidence}
+use Rattle.format.specs.declared.Room.{Room}
+use Rattle.format.specs.declared.Room.the-variants as room
 use Rattle.commit_room.specs.Tests.{meets}
 use Rattle.commit_steps.specs.State.{state, refusedState, placedOf, decidedBy, decidedOf}
 use Rattle.commit_steps.specs.declared.Judging.{Judging}
@@ -22,18 +25,18 @@ use Rattle.commit_steps.specs.declared.Phase.{Phase}
 use Rattle.commit_steps.specs.declared.Phase.the-variants.{Refused, Judge, Lay}
 use Rattle.commit_steps.specs.declared.State.{State}
 
--- ---- `place`: e, x, t and y are what `rounded_end`, `clean`, `check_tag` and `coincides` answer
+-- ---- `place`: e, x, t and y are what `rounded_end`, `room`, `check_tag` and `coincides` answer
 module _ (j : Judging) (prog : ℕ) (b : List ℕ) (stores e : ℕ) (ee : e ≡ roundedEnd prog (j .off + j .size)) where
   pub placed-full : length b < e → Refused NoSpace ≡ placedOf j prog b stores
   unfolding placedOf
   placed-full h = rw (← ee, lt-ltb (length b) e h)
 
-  module _ (h : e ≤ length b) (x : Bool) (ex : x ≡ roomClean prog b (j .off) (j .etag)) where
-    pub placed-unclean : not x ≡ true → Refused Unclean ≡ placedOf j prog b stores
+  module _ (h : e ≤ length b) (x : Room) (ex : x ≡ roomOf prog b (j .off) (j .etag)) where
+    pub placed-no-room : (r : Refusal) → x ≡ room.Refused r → Refused r ≡ placedOf j prog b stores
     unfolding placedOf
-    placed-unclean k = rw (← ee, le-ltb (length b) e h, ← ex, k)
+    placed-no-room r k = rw (← ee, le-ltb (length b) e h, ← ex, k)
 
-    module _ (k : not x ≡ false) (t : ℕ) (et : t ≡ checkTag (checkSize prog (j .off + j .size))) (y : Bool)
+    module _ (k : x ≡ room.Clean) (t : ℕ) (et : t ≡ checkTag (checkSize prog (j .off + j .size))) (y : Bool)
         (ey : y ≡ meets (j .sum) (bitXor t (j .prev))) where
       word-is : bitXor t (j .prev) ≡ xor (checkTag (checkSize prog (j .off + j .size))) (j .prev)
       unfolding xor
@@ -71,8 +74,8 @@ module _ (st : State) (g : Geometry) (b0 b1 : List ℕ) (stores : ℕ) where
   pub decide-laid : (l : Laying) → st .phase ≡ Lay l → st ≡ decidedOf st g b0 b1 stores
   decide-laid l e = ap (λ (q : Phase). state (st .second) q) e ∙ decided (Lay l) (st .second) e refl
 
-  -- x is what `geometry_fits` answers
-  module _ (j : Judging) (e : st .phase ≡ Judge j) (x : Bool) (is : x ≡ geometryFits g) where
+  -- x is what `images_fit` answers
+  module _ (j : Judging) (e : st .phase ≡ Judge j) (x : Bool) (is : x ≡ imagesFit g (length b0) (length b1)) where
     pub decide-broken : (s : State) → not x ≡ true → s ≡ refusedState Invalid → s ≡ decidedOf st g b0 b1 stores
     decide-broken s h f = f ∙ rw (← is, h) at (decided (Judge j) (st .second) e refl)
 

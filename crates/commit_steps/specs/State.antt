@@ -8,14 +8,17 @@ use Rattle.format.specs.Word.{toBe32, toLe32, xor, allOnes, plus32}
 use Rattle.format.specs.Tag.{tagLength, mkTag}
 use Rattle.format.specs.Crc.{crc}
 use Rattle.format.specs.Log.{log}
-use Rattle.format.specs.Fetch.{geometryFits, fetchOf}
+use Rattle.format.specs.Fetch.{imagesFit, fetchOf}
 use Rattle.format.specs.Regular.{Regular}
 use Rattle.format.specs.Commit.{checkTag}
-use Rattle.format.specs.Writer.{roundedEnd, checkSize, commitFits, roomClean, blockAt, isSecond, committedAs}
+use Rattle.format.specs.Room.{roomOf}
+use Rattle.format.specs.Writer.{roundedEnd, checkSize, commitFits, blockAt, isSecond, committedAs}
 use Rattle.format.specs.declared.Geometry.{Geometry}
 use Rattle.format.specs.declared.LfsMdir.{LfsMdir}
 use Rattle.format.specs.declared.Refusal.{Refusal}
-use Rattle.format.specs.declared.Refusal.the-variants.{Invalid, BadEntry, Irregular, NoSpace, Unclean, Coincidence}
+use Rattle.format.specs.declared.Refusal.the-variants.{Invalid, BadEntry, Irregular, NoSpace, Coincidence}
+use Rattle.format.specs.declared.Room.{Room}
+use Rattle.format.specs.declared.Room.the-variants as room
 use Rattle.format.specs.declared.Fetched.{Fetched}
 use Rattle.format.specs.declared.Fetched.the-variants as fetched
 use Rattle.format.specs.declared.Committed.{Committed}
@@ -135,10 +138,15 @@ layingFrom j word stores =
       sum = crc (j .sum) (toBe32 word);
     }
 
+-- the room refuses, or the tests go on
+abbrev pub roomThenLaid : Room → Phase → Phase
+roomThenLaid (room.Refused r) p = Refused r
+roomThenLaid room.Clean p = p
+
 unfoldable pub placedOf : Judging → ℕ → List ℕ → ℕ → Phase
 placedOf j prog b stores =
     cond (ltb (length b) (roundedEnd prog (j .off + j .size))) (Refused NoSpace)
-    (cond (not (roomClean prog b (j .off) (j .etag))) (Refused Unclean)
+    (roomThenLaid (roomOf prog b (j .off) (j .etag))
     (cond (meets (j .sum) (xor (checkTag (checkSize prog (j .off + j .size))) (j .prev))) (Refused Coincidence)
     (Lay (layingFrom j (xor (checkTag (checkSize prog (j .off + j .size))) (j .prev)) stores))))
 
@@ -146,7 +154,7 @@ abbrev pub decidedBy : Phase → Bool → Geometry → List ℕ → List ℕ →
 decidedBy (Refused r) second g b0 b1 stores = state second (Refused r)
 decidedBy (Lay l) second g b0 b1 stores = state second (Lay l)
 decidedBy (Judge j) second g b0 b1 stores =
-    cond (not (geometryFits g)) (refusedState Invalid)
+    cond (not (imagesFit g (length b0) (length b1))) (refusedState Invalid)
     (state second (placedOf j (g .«prog_size») (blockAt second b0 b1) stores))
 
 unfoldable pub decidedOf : State → Geometry → List ℕ → List ℕ → ℕ → State

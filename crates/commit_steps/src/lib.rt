@@ -17,6 +17,7 @@ use format::Fetched;
 use format::Geometry;
 use format::LfsMdir;
 use format::Refusal;
+use format::Room;
 use format::Stored;
 use format::types::CRC_START;
 use format::types::UNLIMITED;
@@ -210,7 +211,7 @@ pub fn decide(st: State, g: Geometry, b0: &[u8], b1: &[u8], stores: u32) -> Stat
         Phase::Refused(_) => st,
         Phase::Lay(_) => st,
         Phase::Judge(j) => {
-            if !sizes::geometry_fits(g) {
+            if !sizes::images_fit(g, b0.len(), b1.len()) {
                 return refused(Refusal::Invalid);
             }
             if second {
@@ -227,10 +228,11 @@ pub fn decide(st: State, g: Geometry, b0: &[u8], b1: &[u8], stores: u32) -> Stat
     }
 }
 
-// "-28, -203, -204": the rounded end, the room, the coincidence. `stores` is the limit.
+// "-28, -203, -204": the rounded end, the room with its reasons, the coincidence. `stores` is the limit.
 fn place(j: Judging, prog: u32, b: &[u8], stores: u32) -> Phase
     requires { ⌜ 4 ≤ prog ⌝ }
     requires { ⌜ prog ≤ 512 ⌝ }
+    requires { ⌜ length (now b) ≤ 32_768 ⌝ }
     ensures { λ r. ⌜ r ≡ placedOf j prog (now (b .entry)) stores ⌝ }
 {
     let off = j.off as usize;
@@ -238,23 +240,25 @@ fn place(j: Judging, prog: u32, b: &[u8], stores: u32) -> Phase
     if b.len() < commit_room::rounded_end(prog, at) {
         return Phase::Refused(Refusal::NoSpace);
     }
-    if !commit_room::clean(prog, b, off, j.etag) {
-        return Phase::Refused(Refusal::Unclean);
+    match commit_room::room(prog, b, off, j.etag) {
+        Room::Refused(r) => Phase::Refused(r),
+        Room::Clean => {
+            let word = commit_room::check_tag(prog, at) ^ j.prev;
+            if commit_room::coincides(j.sum, word) {
+                return Phase::Refused(Refusal::Coincidence);
+            }
+            let run = Run {
+                at: off,
+                left: stores,
+            };
+            Phase::Lay(Laying {
+                run,
+                prev: j.etag,
+                word,
+                sum: commit_lay::sum_be32(j.sum, word),
+            })
+        }
     }
-    let word = commit_room::check_tag(prog, at) ^ j.prev;
-    if commit_room::coincides(j.sum, word) {
-        return Phase::Refused(Refusal::Coincidence);
-    }
-    let run = Run {
-        at: off,
-        left: stores,
-    };
-    Phase::Lay(Laying {
-        run,
-        prev: j.etag,
-        word,
-        sum: commit_lay::sum_be32(j.sum, word),
-    })
 }
 
 // Behind the entries: "then a check tag 0x500, id 1,023, and the checksum little-endian".

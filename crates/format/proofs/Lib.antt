@@ -15,5 +15,6 @@ pub mod Parts
 pub mod Walk
 pub mod Classes
 pub mod Back
--- The order of a commit's refusals.
+-- The room behind a log, and the order of a commit's refusals.
+pub mod Rooms
 pub mod Refusals

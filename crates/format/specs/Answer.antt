@@ -22,7 +22,8 @@ use Rattle.format.specs.declared.Stored.the-variants as stored
 -- ---- the table "-22 | a size or number above is broken"; "-84 | fetch: block number not below a non-zero block count,
 -- or neither block has a valid commit; lookup: the matched bytes pass the block"; "-2 | fetch: count above 1,023;
 -- lookup: no entry"; "-201 | an entry is bad"; "-202 | the committed log isn't regular"; "-28 | the rounded end passes
--- the block"; "-203 | append only: the room behind the end isn't clean"; "-204 | the checksum coincidence"
+-- the block"; "-204 | the checksum coincidence"; and document 02, L1: "-203 becomes -211 misaligned end, -212 top bit,
+-- -213 byte with offset"
 abbrev pub refusalNumber : Refusal → ℤ
 refusalNumber refusal.Invalid = negℤ (pos 22)
 refusalNumber refusal.Corrupt = negℤ (pos 84)
@@ -31,7 +32,9 @@ refusalNumber (refusal.TooMany m s) = negℤ (pos 2)
 refusalNumber (refusal.BadEntry i) = negℤ (pos 201)
 refusalNumber refusal.Irregular = negℤ (pos 202)
 refusalNumber refusal.NoSpace = negℤ (pos 28)
-refusalNumber refusal.Unclean = negℤ (pos 203)
+refusalNumber refusal.Misaligned = negℤ (pos 211)
+refusalNumber refusal.TopBit = negℤ (pos 212)
+refusalNumber (refusal.NotErased at) = negℤ (pos 213)
 refusalNumber refusal.Coincidence = negℤ (pos 204)
 
 -- what comes back: "record all zero", but for a count above 1,023 "record and seed as read"
@@ -56,7 +59,9 @@ refusalMdir (refusal.TooMany m s) = m
 refusalMdir (refusal.BadEntry i) = zeroMdir
 refusalMdir refusal.Irregular = zeroMdir
 refusalMdir refusal.NoSpace = zeroMdir
-refusalMdir refusal.Unclean = zeroMdir
+refusalMdir refusal.Misaligned = zeroMdir
+refusalMdir refusal.TopBit = zeroMdir
+refusalMdir (refusal.NotErased at) = zeroMdir
 refusalMdir refusal.Coincidence = zeroMdir
 
 -- "seed as given"
@@ -68,10 +73,12 @@ refusalSeed seed (refusal.TooMany m s) = s
 refusalSeed seed (refusal.BadEntry i) = seed
 refusalSeed seed refusal.Irregular = seed
 refusalSeed seed refusal.NoSpace = seed
-refusalSeed seed refusal.Unclean = seed
+refusalSeed seed refusal.Misaligned = seed
+refusalSeed seed refusal.TopBit = seed
+refusalSeed seed (refusal.NotErased at) = seed
 refusalSeed seed refusal.Coincidence = seed
 
--- "index from 0 of the first bad one"
+-- "index from 0 of the first bad one", and of the byte that isn't erased "its offset in the block"
 abbrev pub refusalIndex : Refusal → ℕ
 refusalIndex refusal.Invalid = 0
 refusalIndex refusal.Corrupt = 0
@@ -80,7 +87,9 @@ refusalIndex (refusal.TooMany m s) = 0
 refusalIndex (refusal.BadEntry i) = i
 refusalIndex refusal.Irregular = 0
 refusalIndex refusal.NoSpace = 0
-refusalIndex refusal.Unclean = 0
+refusalIndex refusal.Misaligned = 0
+refusalIndex refusal.TopBit = 0
+refusalIndex (refusal.NotErased at) = at
 refusalIndex refusal.Coincidence = 0
 
 -- ---- the answers: 0, or the refusal's number; the values of a refusal are 0 where nothing comes back

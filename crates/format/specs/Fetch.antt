@@ -23,10 +23,13 @@ geometryFits g =
     leb 4 (g .«prog_size») && leb (g .«prog_size») 512 && leb 128 (g .«block_size») && leb (g .«block_size») 32_768
     && eqb (g .«block_size» % g .«prog_size») 0
 
--- "Two images, each exactly one block long. Two block numbers, not equal."
+-- "Two images, each exactly one block long."
+abbrev pub imagesFit : Geometry → ℕ → ℕ → Bool
+imagesFit g length0 length1 = geometryFits g && eqb length0 (g .«block_size») && eqb length1 (g .«block_size»)
+
+-- "Two block numbers, not equal."
 unfoldable pub pairFits : Geometry → ℕ → ℕ → ℕ → ℕ → Bool
-pairFits g length0 length1 n0 n1 =
-    geometryFits g && eqb length0 (g .«block_size») && eqb length1 (g .«block_size») && not (eqb n0 n1)
+pairFits g length0 length1 n0 n1 = imagesFit g length0 length1 && not (eqb n0 n1)
 
 -- "block number not below a non-zero block count"
 unfoldable pub tooHigh : ℕ → ℕ → Bool

@@ -23,11 +23,12 @@ pub mod Fetch
 pub mod Back
 pub mod Look
 pub mod Lookup
--- The writer: its rules and which logs are regular, a commit's bytes, what its stores leave.
+-- The writer: its rules and which logs are regular, a commit's bytes, what its stores leave, the room they need.
 pub mod Regular
 pub mod Directory
 pub mod Commit
 pub mod Stores
+pub mod Room
 pub mod Entries
 pub mod Writer
 pub mod Compaction

@@ -2,11 +2,10 @@
 -- and leave. Assumes nothing.
 use mathlib.Core.Bool.{Bool, true, false, not, cond, _&&_}
 use mathlib.Core.List.{List}
-use Prim.Native.Nat.{ℕ, _+_, _-_, _%_, min}
-use lib.ListN.{length, drop}
+use Prim.Native.Nat.{ℕ, _+_, _-_, min}
+use lib.ListN.{length}
 use lib.Dec.{leb, ltb, eqb}
 use Rattle.format.specs.Word.{allOnes}
-use Rattle.format.specs.Tag.{tagValid}
 use Rattle.format.specs.Walk.{Event}
 use Rattle.format.specs.Log.{log, logEnd, logEndTag}
 use Rattle.format.specs.Record.{countOf}
@@ -14,14 +13,16 @@ use Rattle.format.specs.Arith.{downTo}
 use Rattle.format.specs.Fetch.{pairFits, fetchOf}
 use Rattle.format.specs.Regular.{Regular}
 use Rattle.format.specs.Commit.{Item, checkTag}
-use Rattle.format.specs.Stores.{allErased, entriesLength, appending, coincides}
+use Rattle.format.specs.Stores.{entriesLength, appending, coincides}
+use Rattle.format.specs.Room.{roomOf}
 use Rattle.format.specs.Entries.{itemsOf, Judged, judge, bad, good}
 use Rattle.format.specs.declared.Geometry.{Geometry}
 use Rattle.format.specs.declared.LfsMdir.{LfsMdir}
 use Rattle.format.specs.declared.Entry.{Entry}
 use Rattle.format.specs.declared.Refusal.{Refusal}
-use Rattle.format.specs.declared.Refusal.the-variants.{Invalid, BadEntry, Irregular, NoSpace, Unclean}
-use Rattle.format.specs.declared.Refusal.the-variants.{Coincidence}
+use Rattle.format.specs.declared.Refusal.the-variants.{Invalid, BadEntry, Irregular, NoSpace, Coincidence}
+use Rattle.format.specs.declared.Room.{Room}
+use Rattle.format.specs.declared.Room.the-variants as room
 use Rattle.format.specs.declared.Fetched.{Fetched}
 use Rattle.format.specs.declared.Fetched.the-variants as fetched
 use Rattle.format.specs.declared.Committed.{Committed}
@@ -64,11 +65,6 @@ unfoldable pub commitFits : Geometry → ℕ → ℕ → ℕ → ℕ → ℕ →
 commitFits g length0 length1 n0 n1 entries bytes = pairFits g length0 length1 n0 n1 && leb bytes mostData
     && leb entries mostEntries
 
--- "Append needs bytes 0xff from the old end to the block's end, an old end that is a multiple of the program size, and
--- an end tag with bit 31 clear."
-unfoldable pub roomClean : ℕ → List ℕ → ℕ → ℕ → Bool
-roomClean prog b end etag = allErased (drop end b) && eqb (end % prog) 0 && tagValid etag
-
 -- A call is refused, or accepted: whether the second block answers, and so is appended to, the entries, and their
 -- check's size.
 pub data Verdict : Type 0 where
@@ -80,11 +76,17 @@ abbrev pub blockAt : Bool → List ℕ → List ℕ → List ℕ
 blockAt false b0 b1 = b0
 blockAt true b0 b1 = b1
 
--- The tests of good entries, in document 01's order: "-28, -203, -204". b is the block that answers, es its log.
+-- The room refuses, or the tests go on.
+abbrev pub roomThen : Room → Verdict → Verdict
+roomThen (room.Refused r) v = refused r
+roomThen room.Clean v = v
+
+-- The tests of good entries, in document 01's order: "-28, -203, -204", and for -203 the room's reasons. b is the block
+-- that answers, es its log.
 unfoldable pub placed : ℕ → Bool → List ℕ → List Event → List Item → Verdict
 placed prog second b es is =
     cond (ltb (length b) (roundedEnd prog (checkAt es is))) (refused NoSpace)
-    (cond (not (roomClean prog b (logEnd es) (logEndTag es))) (refused Unclean)
+    (roomThen (roomOf prog b (logEnd es) (logEndTag es))
     (cond (coincides allOnes (logEndTag es) is (checkTag (checkSize prog (checkAt es is)))) (refused Coincidence)
     (accepted second is (checkSize prog (checkAt es is)))))
 
@@ -108,7 +110,7 @@ abbrev pub fetchedThen : Fetched → (LfsMdir → Verdict) → Verdict
 fetchedThen (fetched.Refused r) on = refused r
 fetchedThen (fetched.Found m s) on = on m
 
--- "Commit: -22, fetch's own refusals, -202, -201, -28, -203, -204."
+-- "Commit: -22, fetch's own refusals, -202, -201, -28, -203, -204", with L1's three in -203's place.
 unfoldable pub verdictOf : Geometry → List ℕ → List ℕ → ℕ → ℕ → ℕ → ℕ → List Entry → List ℕ → Verdict
 verdictOf g b0 b1 n0 n1 count seed entries dat =
     cond (not (commitFits g (length b0) (length b1) n0 n1 (length entries) (length dat))) (refused Invalid)

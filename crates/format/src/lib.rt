@@ -57,7 +57,8 @@ pub struct Entry {
     pub len: u32,
 }
 
-// Document 01's table of refusals: one case for each line of it, with what comes back.
+// Document 01's table of refusals: one case for each line of it, with what comes back; in the place of its -203 stand
+// the three reasons of document 02, L1.
 pub enum Refusal {
     // -22: a size or number is broken
     Invalid,
@@ -73,10 +74,20 @@ pub enum Refusal {
     Irregular,
     // -28: the rounded end passes the block
     NoSpace,
-    // -203: the room behind the end isn't clean
-    Unclean,
+    // -211: the old end is no multiple of the program size
+    Misaligned,
+    // -212: the end tag's top bit is set
+    TopBit,
+    // -213: the block offset of the first byte behind the end that isn't erased
+    NotErased(u32),
     // -204: the checksum coincidence
     Coincidence,
+}
+
+// The room behind a log's end: a commit can be appended there, or why none can.
+pub enum Room {
+    Clean,
+    Refused(Refusal),
 }
 
 // A word: read from four bytes, or brought to a multiple.

@@ -9,30 +9,34 @@ use denote.Enum.Declared.{tagOf}
 use Rattle.format.specs.Answer.{refusalMdir, refusalSeed, refusalIndex, zeroMdir}
 use Rattle.format.specs.declared.Refusal.{Refusal}
 use Rattle.format.specs.declared.Refusal.the-variants.{Invalid, Corrupt, NoEntry, TooMany, BadEntry, Irregular, NoSpace}
-use Rattle.format.specs.declared.Refusal.the-variants.{Unclean, Coincidence}
+use Rattle.format.specs.declared.Refusal.the-variants.{Misaligned, TopBit, NotErased, Coincidence}
 use Rattle.format.proofs.Refusal.{the-type}
 
 -- all but TooMany: no record, and the seed as it was given
-pub unread : (seed : ℕ) (r : Refusal) → OneOf (0 ∷ 1 ∷ 2 ∷ 4 ∷ 5 ∷ 6 ∷ 7 ∷ 8 ∷ []) (tagOf the-type r)
+pub unread : (seed : ℕ) (r : Refusal) → OneOf (0 ∷ 1 ∷ 2 ∷ 4 ∷ 5 ∷ 6 ∷ 7 ∷ 8 ∷ 9 ∷ 10 ∷ []) (tagOf the-type r)
     → (zeroMdir ≡ refusalMdir r) × (seed ≡ refusalSeed seed r)
 unread seed Invalid h = (refl, refl)
 unread seed Corrupt h = (refl, refl)
 unread seed NoEntry h = (refl, refl)
-unread seed (TooMany m s) h = absurd (miss (0 ∷ 1 ∷ 2 ∷ 4 ∷ 5 ∷ 6 ∷ 7 ∷ 8 ∷ []) 3 tt h)
+unread seed (TooMany m s) h = absurd (miss (0 ∷ 1 ∷ 2 ∷ 4 ∷ 5 ∷ 6 ∷ 7 ∷ 8 ∷ 9 ∷ 10 ∷ []) 3 tt h)
 unread seed (BadEntry i) h = (refl, refl)
 unread seed Irregular h = (refl, refl)
 unread seed NoSpace h = (refl, refl)
-unread seed Unclean h = (refl, refl)
+unread seed Misaligned h = (refl, refl)
+unread seed TopBit h = (refl, refl)
+unread seed (NotErased at) h = (refl, refl)
 unread seed Coincidence h = (refl, refl)
 
--- all but BadEntry: no index
-pub unindexed : (r : Refusal) → OneOf (0 ∷ 1 ∷ 2 ∷ 3 ∷ 5 ∷ 6 ∷ 7 ∷ 8 ∷ []) (tagOf the-type r) → 0 ≡ refusalIndex r
+-- all but BadEntry and NotErased: no index
+pub unindexed : (r : Refusal) → OneOf (0 ∷ 1 ∷ 2 ∷ 3 ∷ 5 ∷ 6 ∷ 7 ∷ 8 ∷ 10 ∷ []) (tagOf the-type r) → 0 ≡ refusalIndex r
 unindexed Invalid h = refl
 unindexed Corrupt h = refl
 unindexed NoEntry h = refl
 unindexed (TooMany m s) h = refl
-unindexed (BadEntry i) h = absurd (miss (0 ∷ 1 ∷ 2 ∷ 3 ∷ 5 ∷ 6 ∷ 7 ∷ 8 ∷ []) 4 tt h)
+unindexed (BadEntry i) h = absurd (miss (0 ∷ 1 ∷ 2 ∷ 3 ∷ 5 ∷ 6 ∷ 7 ∷ 8 ∷ 10 ∷ []) 4 tt h)
 unindexed Irregular h = refl
 unindexed NoSpace h = refl
-unindexed Unclean h = refl
+unindexed Misaligned h = refl
+unindexed TopBit h = refl
+unindexed (NotErased at) h = absurd (miss (0 ∷ 1 ∷ 2 ∷ 3 ∷ 5 ∷ 6 ∷ 7 ∷ 8 ∷ 10 ∷ []) 9 tt h)
 unindexed Coincidence h = refl

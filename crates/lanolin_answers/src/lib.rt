@@ -38,7 +38,8 @@ pub struct InfoOut {
     pub name: [u8; 256],
 }
 
-// What lanolin_commit and lanolin_compact answer. `index` is that of -201's entry, else 0.
+// What lanolin_commit and lanolin_compact answer. `index` is that of -201's entry, the block offset of -213's byte,
+// else 0.
 #[repr(C)]
 pub struct CommittedOut {
     pub result: i32,
@@ -73,7 +74,9 @@ pub fn number(r: Refusal) -> i32
         Refusal::BadEntry(_) => -201,
         Refusal::Irregular => -202,
         Refusal::NoSpace => -28,
-        Refusal::Unclean => -203,
+        Refusal::Misaligned => -211,
+        Refusal::TopBit => -212,
+        Refusal::NotErased(_) => -213,
         Refusal::Coincidence => -204,
     }
 }
@@ -183,12 +186,13 @@ pub fn info_out(i: Informed) -> InfoOut
     }
 }
 
-// The index of -201's entry, and 0 with every other refusal.
+// The index of -201's entry, the offset of -213's byte, and 0 with every other refusal.
 fn refused_index(r: Refusal) -> u32
     ensures { λ i. ⌜ i ≡ refusalIndex r ⌝ }
 {
     match r {
         Refusal::BadEntry(i) => i,
+        Refusal::NotErased(at) => at,
         _ => 0,
     }
 }

@@ -18,16 +18,18 @@ use Rattle.format.specs.Regular.{Regular}
 use Rattle.format.specs.Commit.{Item, checkTag}
 use Rattle.format.specs.Stores.{coincides}
 use Rattle.format.specs.Entries.{itemsOf, good, judge}
-use Rattle.format.specs.Writer.{roundedEnd, checkSize, checkAt, commitFits, roomClean, blockAt, isSecond, accepted}
+use Rattle.format.specs.Room.{roomClean, roomOf}
+use Rattle.format.specs.Writer.{roundedEnd, checkSize, checkAt, commitFits, blockAt, isSecond, accepted}
 use Rattle.format.specs.Writer.{placed, appended, verdictOf}
 use Rattle.format.specs.Compaction.{compactionItems, compactAccepted, compactCheckAt, placedAnew, compactable}
 use Rattle.format.specs.Compaction.{compactVerdict}
 use Rattle.format.specs.declared.Geometry.{Geometry}
 use Rattle.format.specs.declared.LfsMdir.{LfsMdir}
 use Rattle.format.specs.declared.Entry.{Entry}
-use Rattle.format.specs.declared.Refusal.the-variants.{Invalid, Irregular, NoSpace, Unclean, Coincidence}
+use Rattle.format.specs.declared.Refusal.the-variants.{Invalid, Irregular, NoSpace, Coincidence}
 use Rattle.format.specs.declared.Fetched.the-variants as fetched
-use Rattle.theory.specs.Commit.AcceptedVerdict.{past, found-then, good-then}
+use Rattle.format.proofs.Rooms.{clean-holds, holds-clean}
+use Rattle.theory.specs.Commit.AcceptedVerdict.{past, past-room, found-then, good-then}
 use Rattle.theory.specs.Compact.AcceptedVerdict as anew
 
 -- ---- a commit
@@ -49,7 +51,7 @@ module _ (g : Geometry) (b0 b1 : List ℕ) (n0 n1 count seed : ℕ) (entries : L
     pub judged : judge dat 0 (countOf 0 (log b)) entries ≡ good slots
     -- not -28: "the rounded end" does not pass the block
     pub room : ltb (length b) (roundedEnd (g .«prog_size») (checkAt (log b) is)) ≡ false
-    -- not -203: "the room behind the end" is clean
+    -- none of -211, -212, -213: "the room behind the end" is clean (Room takes it apart)
     pub clean : roomClean (g .«prog_size») b (logEnd (log b)) (logEndTag (log b)) ≡ true
     -- not -204: no "checksum coincidence"
     pub lucky : coincides allOnes (logEndTag (log b)) is (checkTag size) ≡ false
@@ -84,7 +86,7 @@ module _ (g : Geometry) (b0 b1 : List ℕ) (n0 n1 count seed : ℕ) (entries : L
       let q = past (not (Regular (log b))) Irregular _ second is size (f .then) in
       let j = good-then (judge dat 0 (countOf 0 (log b)) entries) _ second is size (q .1) in
       let r = past (ltb (length b) (roundedEnd prog (checkAt (log b) I))) NoSpace _ second is size (j .then) in
-      let c = past (not (roomClean prog b (logEnd (log b)) (logEndTag (log b)))) Unclean _ second is size (r .1) in
+      let c = past-room (roomOf prog b (logEnd (log b)) (logEndTag (log b))) _ second is size (r .1) in
       let l = past (coincides allOnes (logEndTag (log b)) I (checkTag (checkSize prog (checkAt (log b) I)))) Coincidence
       _ second is size (c .1) in
       let place : isSecond n0 (f .m) ≡ second = cc in
@@ -103,7 +105,7 @@ module _ (g : Geometry) (b0 b1 : List ℕ) (n0 n1 count seed : ℕ) (entries : L
         slots = j .c;
         judged = j .all;
         room = r .0;
-        clean = not-false _ (c .0);
+        clean = clean-holds prog b (logEnd (log b)) (logEndTag (log b)) (c .0);
         lucky = l .0;
         items = refl;
         check = refl;
@@ -120,7 +122,8 @@ module _ (g : Geometry) (b0 b1 : List ℕ) (n0 n1 count seed : ℕ) (entries : L
     c .judged,
     ← c .items,
     c .room,
-    c .clean,
+    holds-clean prog (blockAt second b0 b1) (logEnd (log (blockAt second b0 b1)))
+        (logEndTag (log (blockAt second b0 b1))) (c .clean),
     ← c .check,
     c .lucky,
   )

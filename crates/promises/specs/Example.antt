@@ -26,7 +26,8 @@ use Rattle.format.specs.Commit.{commitBytes, written}
 use Rattle.format.specs.Stores.{erased, allErased, fill, entriesLength, appending, coincides, compactBytes, compacting}
 use Rattle.format.specs.Entries.{entryBody, judge, itemsOf}
 use Rattle.format.specs.Directory.{empty, upd, dir, apply, applyAll, act, acts, dirOf, moveOf}
-use Rattle.format.specs.Writer.{unlimited, roundedEnd, checkSize, commitFits, roomClean, placed, appended, accepted}
+use Rattle.format.specs.Room.{roomOf}
+use Rattle.format.specs.Writer.{unlimited, roundedEnd, checkSize, commitFits, placed, appended, accepted}
 use Rattle.format.specs.Writer.{verdictOf, Images, commitImages}
 use Rattle.format.specs.Compaction.{slotItems, dirItems, compactionItems, placedAnew, compactable, compactAccepted}
 use Rattle.format.specs.Compaction.{compactVerdict, compactImages}
@@ -107,7 +108,7 @@ unfolding upTo seenBy commitImages verdictOf commitFits pairFits geometryFits fe
     walk walkFrom walkIn classOf readBehind bodyLength tagLength tagFlipped be32 le32 toBe32 toLe32 xor crc crcByte
     crcBits crcBit mdirOf erasedOf stoppedStraight span eventLength tagAfter countOf counted splitOf tailOf forwardOf
     seedOf appended Regular regularFrom ruleOf ruleHolds countAfter judge entryBody placed roundedEnd checkSize
-    roomClean allErased coincides fill entriesLength tagOf appending commitBytes getsliceBuffer getsliceFits recordFits
+    roomOf allErased coincides fill entriesLength tagOf appending commitBytes getsliceBuffer getsliceFits recordFits
     searched back backs wlook splicedAt asIds
 commit-cut = refl
 
@@ -120,7 +121,7 @@ unfolding upTo seenBy compactImages compactVerdict compactable placedAnew compac
     tooHigh view rank log committed walk walkFrom walkIn classOf readBehind bodyLength tagLength tagFlipped be32 le32
     toBe32 toLe32 xor crc crcByte crcBits crcBit mdirOf erasedOf stoppedStraight span eventLength tagAfter countOf
     counted splitOf tailOf forwardOf seedOf appended Regular regularFrom ruleOf ruleHolds countAfter judge entryBody
-    placed roundedEnd checkSize roomClean allErased coincides fill entriesLength tagOf appending commitBytes
+    placed roundedEnd checkSize roomOf allErased coincides fill entriesLength tagOf appending commitBytes
     getsliceBuffer getsliceFits recordFits searched back backs wlook splicedAt asIds
 compaction-cut = refl
 
@@ -130,7 +131,7 @@ pub takes-commit : verdictOf geometry first second 0 1 0 0 (deadline ∷ []) hou
 unfolding verdictOf commitFits pairFits geometryFits fetchOf tooHigh view rank log committed walk walkFrom walkIn
     classOf readBehind bodyLength tagLength tagFlipped be32 le32 toBe32 toLe32 xor crc crcByte crcBits crcBit mdirOf
     erasedOf stoppedStraight span eventLength tagAfter countOf counted splitOf tailOf forwardOf seedOf appended Regular
-    regularFrom ruleOf ruleHolds countAfter judge entryBody placed roundedEnd checkSize roomClean allErased coincides
+    regularFrom ruleOf ruleHolds countAfter judge entryBody placed roundedEnd checkSize roomOf allErased coincides
     fill entriesLength tagOf appending commitBytes getsliceBuffer getsliceFits recordFits searched back backs wlook
     splicedAt asIds
 takes-commit = refl
@@ -141,7 +142,7 @@ unfolding compactVerdict compactable placedAnew compactionItems dirItems slotIte
     moveOf verdictOf commitFits pairFits geometryFits fetchOf tooHigh view rank log committed walk walkFrom walkIn
     classOf readBehind bodyLength tagLength tagFlipped be32 le32 toBe32 toLe32 xor crc crcByte crcBits crcBit mdirOf
     erasedOf stoppedStraight span eventLength tagAfter countOf counted splitOf tailOf forwardOf seedOf appended Regular
-    regularFrom ruleOf ruleHolds countAfter judge entryBody placed roundedEnd checkSize roomClean allErased coincides
+    regularFrom ruleOf ruleHolds countAfter judge entryBody placed roundedEnd checkSize roomOf allErased coincides
     fill entriesLength tagOf appending commitBytes getsliceBuffer getsliceFits recordFits searched back backs wlook
     splicedAt asIds
 takes-compaction = refl
@@ -196,7 +197,7 @@ pub other-seed : seenBy (stopped .b0) (stopped .b1) (fetchOf geometry (stopped .
 unfolding seenBy commitImages verdictOf commitFits pairFits geometryFits fetchOf tooHigh view rank log committed walk
     walkFrom walkIn classOf readBehind bodyLength tagLength tagFlipped be32 le32 toBe32 toLe32 xor crc crcByte crcBits
     crcBit mdirOf erasedOf stoppedStraight span eventLength tagAfter countOf counted splitOf tailOf forwardOf seedOf
-    appended Regular regularFrom ruleOf ruleHolds countAfter judge entryBody placed roundedEnd checkSize roomClean
+    appended Regular regularFrom ruleOf ruleHolds countAfter judge entryBody placed roundedEnd checkSize roomOf
     allErased coincides fill entriesLength tagOf appending commitBytes getsliceBuffer getsliceFits recordFits searched
     back backs wlook splicedAt asIds
 other-seed = refl

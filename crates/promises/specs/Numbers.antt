@@ -25,7 +25,8 @@ use Rattle.format.specs.declared.LfsMdir.{LfsMdir}
 use Rattle.format.specs.declared.LfsGstate.{LfsGstate}
 use Rattle.format.specs.declared.Refusal.{Refusal}
 use Rattle.format.specs.declared.Refusal.the-variants.{Invalid, Corrupt, NoEntry, TooMany}
-use Rattle.format.specs.declared.Refusal.the-variants.{BadEntry, Irregular, NoSpace, Unclean, Coincidence}
+use Rattle.format.specs.declared.Refusal.the-variants.{BadEntry, Irregular, NoSpace, Misaligned, TopBit, NotErased}
+use Rattle.format.specs.declared.Refusal.the-variants.{Coincidence}
 use Rattle.format.specs.declared.Fetched.{Fetched}
 use Rattle.format.specs.declared.Fetched.the-variants as fetched
 use Rattle.format.specs.declared.Got.{Got}
@@ -42,7 +43,7 @@ use Rattle.format.specs.declared.Stored.the-variants as stored
 use Rattle.promises.specs.Possible.{FetchRefuses, fetch22, fetch84, fetch2, SliceRefuses, slice22, slice84}
 use Rattle.promises.specs.Possible.{slice2, GetRefuses, get22, get2, GstateRefuses, gstate22, WordRefuses, word84}
 use Rattle.promises.specs.Possible.{AlignRefuses, align22, CommitRefuses, commit22, commitFetch, commit202}
-use Rattle.promises.specs.Possible.{commit201, commit28, commit203, commit204}
+use Rattle.promises.specs.Possible.{commit201, commit28, commit211, commit212, commit213, commit204}
 use Rattle.promises.specs.Possible.{CompactRefuses, compactFetch, compact202, compact28, compact204}
 use Rattle.promises.specs.Possible.{FetchedOr, GotOr, AlteredOr, WordOr, CommittedOr, StoredOr}
 use Rattle.promises.specs.Possible.{le32-possible, be32-possible, put-possible}
@@ -57,7 +58,7 @@ abbrev below : ℤ → ℕ
 below (pos n) = 0
 below (negsuc n) = suc n
 
--- which refusal a number is: `two` is what -2 means, `index` comes with -201
+-- which refusal a number is: `two` is what -2 means, `index` comes with -201 and -213
 abbrev pub refusalFrom : Refusal → ℤ → ℕ → Refusal
 refusalFrom two number index =
     cond (eqb (below number) 22) Invalid
@@ -66,7 +67,9 @@ refusalFrom two number index =
     (cond (eqb (below number) 201) (BadEntry index)
     (cond (eqb (below number) 202) Irregular
     (cond (eqb (below number) 28) NoSpace
-    (cond (eqb (below number) 203) Unclean Coincidence))))))
+    (cond (eqb (below number) 211) Misaligned
+    (cond (eqb (below number) 212) TopBit
+    (cond (eqb (below number) 213) (NotErased index) Coincidence))))))))
 
 -- 0 is no refusal
 abbrev pub answerFrom : {A : Type 0} → A → (Refusal → A) → Refusal → ℤ → ℕ → A
@@ -117,7 +120,9 @@ module _ {A : Type 0} (done : A) (refuse : Refusal → A) where
     commit-back known commit202 = refl
     commit-back known commit201 = refl
     commit-back known commit28 = refl
-    commit-back known commit203 = refl
+    commit-back known commit211 = refl
+    commit-back known commit212 = refl
+    commit-back known commit213 = refl
     commit-back known commit204 = refl
 
 -- ---- the refusals of other calls are among those of `lfs_dir_getslice`, or among those of commit

@@ -17,7 +17,8 @@ use Rattle.format.specs.declared.Geometry.{Geometry}
 use Rattle.format.specs.declared.LfsMdir.{LfsMdir}
 use Rattle.format.specs.declared.Refusal.{Refusal}
 use Rattle.format.specs.declared.Refusal.the-variants.{Invalid, Corrupt, NoEntry, TooMany}
-use Rattle.format.specs.declared.Refusal.the-variants.{BadEntry, Irregular, NoSpace, Unclean, Coincidence}
+use Rattle.format.specs.declared.Refusal.the-variants.{BadEntry, Irregular, NoSpace, Misaligned, TopBit, NotErased}
+use Rattle.format.specs.declared.Refusal.the-variants.{Coincidence}
 use Rattle.format.specs.declared.Fetched.{Fetched}
 use Rattle.format.specs.declared.Fetched.the-variants as fetched
 use Rattle.format.specs.declared.Got.{Got}
@@ -62,14 +63,17 @@ pub data WordRefuses : Refusal → Type 0 where
 pub data AlignRefuses : Refusal → Type 0 where
   align22 : AlignRefuses Invalid
 
--- "Commit: -22, fetch's own refusals, -202, -201, -28, -203, -204."
+-- "Commit: -22, fetch's own refusals, -202, -201, -28, -203, -204", and "-203 becomes -211 misaligned end, -212 top
+-- bit, -213 byte with offset".
 pub data CommitRefuses : Refusal → Type 0 where
   commit22 : CommitRefuses Invalid
   commitFetch : {r : Refusal} → FetchRefuses r → CommitRefuses r
   commit202 : CommitRefuses Irregular
   commit201 : {i : ℕ} → CommitRefuses (BadEntry i)
   commit28 : CommitRefuses NoSpace
-  commit203 : CommitRefuses Unclean
+  commit211 : CommitRefuses Misaligned
+  commit212 : CommitRefuses TopBit
+  commit213 : {at : ℕ} → CommitRefuses (NotErased at)
   commit204 : CommitRefuses Coincidence
 
 -- "Compaction: the same without -201 and -203." Its -22 is fetch's.

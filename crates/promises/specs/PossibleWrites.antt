@@ -2,20 +2,22 @@
 -- Assumes nothing.
 use mathlib.Core.Bool.{Bool, not}
 use mathlib.Core.List.{List}
-use Prim.Native.Nat.{ℕ}
-use lib.ListN.{length}
-use lib.Dec.{ltb}
+use Prim.Native.Nat.{ℕ, _%_}
+use lib.ListN.{length, drop}
+use lib.Dec.{ltb, eqb}
 use Rattle.format.specs.Word.{le32, toLe32, allOnes, plus32}
 use Rattle.format.specs.Crc.{crc}
+use Rattle.format.specs.Tag.{tagValid}
 use Rattle.format.specs.Walk.{Event}
 use Rattle.format.specs.Log.{log, logEnd, logEndTag}
 use Rattle.format.specs.Record.{countOf}
 use Rattle.format.specs.Fetch.{fetchOf}
 use Rattle.format.specs.Regular.{Regular}
 use Rattle.format.specs.Commit.{Item, checkTag}
-use Rattle.format.specs.Stores.{coincides}
+use Rattle.format.specs.Stores.{allErased, coincides}
 use Rattle.format.specs.Entries.{itemsOf, Judged, bad, good, judge}
-use Rattle.format.specs.Writer.{roundedEnd, checkSize, checkAt, commitFits, roomClean, blockAt, isSecond}
+use Rattle.format.specs.Room.{roomOf}
+use Rattle.format.specs.Writer.{roundedEnd, checkSize, checkAt, commitFits, blockAt, roomThen, isSecond}
 use Rattle.format.specs.Writer.{Verdict, refused, accepted, placed, appended, judgedBy, fetchedThen, verdictOf}
 use Rattle.format.specs.Writer.{Images, unlimited, answerOf, storesMade, commitImages, commitOf, commitStoresOf}
 use Rattle.format.specs.Compaction.{CompactVerdict, compactRefused, compactAccepted, compactionItems, compactCheckAt}
@@ -24,10 +26,12 @@ use Rattle.format.specs.Compaction.{compactImages, compactOf, compactStoresOf}
 use Rattle.format.specs.declared.Geometry.{Geometry}
 use Rattle.format.specs.declared.Entry.{Entry}
 use Rattle.format.specs.declared.LfsMdir.{LfsMdir}
+use Rattle.format.specs.declared.Room.{Room}
+use Rattle.format.specs.declared.Room.the-variants as room
 use Rattle.format.specs.declared.Fetched.{Fetched}
 use Rattle.format.specs.declared.Fetched.the-variants as fetched
 use Rattle.promises.specs.Possible.{CommitRefuses, commit22, commitFetch, commit202, commit201, commit28}
-use Rattle.promises.specs.Possible.{commit203, commit204}
+use Rattle.promises.specs.Possible.{commit211, commit212, commit213, commit204}
 use Rattle.promises.specs.Possible.{CompactRefuses, compactFetch, compact202, compact28, compact204}
 use Rattle.promises.specs.Possible.{CommittedOr, StoredOr, through, Fetches, fetch-possible}
 
@@ -40,12 +44,28 @@ judged-possible : (j : Judged) (v : Verdict) → Commits v → Commits (judgedBy
 judged-possible (bad i) v h = commit201
 judged-possible (good c) v h = h
 
+-- a room that is clean, or one of its reasons
+abbrev Rooms : Room → Type 0
+Rooms room.Clean = Unit {0}
+Rooms (room.Refused r) = CommitRefuses r
+
+room-then : (r : Room) (v : Verdict) → Rooms r → Commits v → Commits (roomThen r v)
+room-then room.Clean v h k = k
+room-then (room.Refused r) v h k = h
+
+room-possible : (prog : ℕ) (b : List ℕ) (end etag : ℕ) → Rooms (roomOf prog b end etag)
+unfolding roomOf
+room-possible prog b end etag =
+    through Rooms (not (eqb (end % prog) 0)) commit211
+    (through Rooms (not (tagValid etag)) commit212
+    (through Rooms (not (allErased (drop end b))) commit213 tt))
+
 placed-possible : (prog : ℕ) (second : Bool) (b : List ℕ) (es : List Event) (is : List Item)
     → Commits (placed prog second b es is)
 unfolding placed
 placed-possible prog second b es is =
     through Commits (ltb (length b) (roundedEnd prog (checkAt es is))) commit28
-    (through Commits (not (roomClean prog b (logEnd es) (logEndTag es))) commit203
+    (room-then (roomOf prog b (logEnd es) (logEndTag es)) _ (room-possible prog b (logEnd es) (logEndTag es))
     (through Commits (coincides allOnes (logEndTag es) is (checkTag (checkSize prog (checkAt es is)))) commit204 tt))
 
 appended-possible : (prog : ℕ) (second : Bool) (b : List ℕ) (es : List Event) (entries : List Entry) (dat : List ℕ)

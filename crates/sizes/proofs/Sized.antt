@@ -5,7 +5,7 @@ use Prim.Native.Nat.{ℕ, _%_, _≤_}
 use native.Mathlib.Omega.{arith}
 use lib.Dec.{leb, eqb}
 use borrow.Author.Tests.{leb-true, eqb-true}
-use Rattle.format.specs.Fetch.{geometryFits, pairFits}
+use Rattle.format.specs.Fetch.{geometryFits, imagesFit, pairFits}
 use Rattle.format.specs.declared.Geometry.{Geometry}
 
 -- what both parts of a test say
@@ -43,11 +43,14 @@ module _ (g : Geometry) where
         multiple = eqb-true _ _ (e1 .1);
       }
 
+  pub images-sized : (length0 length1 : ℕ) → imagesFit g length0 length1 ≡ true → Sized g length0 length1
+  images-sized length0 length1 h =
+      let s = g .«block_size» in
+      let e2 = both (geometryFits g && eqb length0 s) (eqb length1 s) h in
+      let e3 = both (geometryFits g) (eqb length0 s) (e2 .0) in
+      record { geometry = fitting (e3 .0); first = eqb-true _ _ (e3 .1); second = eqb-true _ _ (e2 .1) }
+
   pub sized : (length0 length1 n0 n1 : ℕ) → pairFits g length0 length1 n0 n1 ≡ true → Sized g length0 length1
   unfolding pairFits
   sized length0 length1 n0 n1 h =
-      let s = g .«block_size» in
-      let e1 = both (geometryFits g && eqb length0 s && eqb length1 s) (not (eqb n0 n1)) h in
-      let e2 = both (geometryFits g && eqb length0 s) (eqb length1 s) (e1 .0) in
-      let e3 = both (geometryFits g) (eqb length0 s) (e2 .0) in
-      record { geometry = fitting (e3 .0); first = eqb-true _ _ (e3 .1); second = eqb-true _ _ (e2 .1) }
+      images-sized length0 length1 (both (imagesFit g length0 length1) (not (eqb n0 n1)) h .0)

@@ -1,7 +1,7 @@
 // Document 01's domain: which sizes and block numbers a call accepts. Fetch, lookups and the writer make these tests
 // before they read a block. Every function takes any numbers.
 ghost use mathlib.Core.Path.{_≡_};
-ghost use Rattle.format.specs.Fetch.{geometryFits, pairFits, tooHigh};
+ghost use Rattle.format.specs.Fetch.{geometryFits, imagesFit, pairFits, tooHigh};
 use format::Geometry;
 
 // "Block size 128 to 32,768; program size 4 to 512; block size a multiple of it."
@@ -17,12 +17,19 @@ pub fn geometry_fits(g: Geometry) -> bool
     (prog <= 512) & (128 <= block) & (block <= 32_768) & (block % prog == 0)
 }
 
-// "Two images, each exactly one block long. Two block numbers, not equal."
+// "Two images, each exactly one block long."
+pub fn images_fit(g: Geometry, len0: usize, len1: usize) -> bool
+    ensures { λ r. ⌜ r ≡ imagesFit g len0 len1 ⌝ }
+{
+    let block_size = g.block_size as usize;
+    geometry_fits(g) & (len0 == block_size) & (len1 == block_size)
+}
+
+// "Two block numbers, not equal."
 pub fn pair_fits(g: Geometry, len0: usize, len1: usize, n0: u32, n1: u32) -> bool
     ensures { λ r. ⌜ r ≡ pairFits g len0 len1 n0 n1 ⌝ }
 {
-    let block_size = g.block_size as usize;
-    geometry_fits(g) & (len0 == block_size) & (len1 == block_size) & (n0 != n1)
+    images_fit(g, len0, len1) & (n0 != n1)
 }
 
 // "block number not below a non-zero block count"

@@ -54,7 +54,9 @@ fn number_of(r: Refusal) -> u32
         Refusal::BadEntry(_) => 201,
         Refusal::Irregular => 202,
         Refusal::NoSpace => 28,
-        Refusal::Unclean => 203,
+        Refusal::Misaligned => 211,
+        Refusal::TopBit => 212,
+        Refusal::NotErased(_) => 213,
         Refusal::Coincidence => 204,
     }
 }

@@ -8,11 +8,13 @@
 use super::{Geometry, Mdir};
 
 /// Document 01's numbers for the refusals of commit and compaction, beside
-/// those of fetch.
+/// those of fetch, and the three of document 02, L1, in the place of -203.
 pub const BAD_ENTRY: i32 = -201;
 pub const IRREGULAR: i32 = -202;
 pub const NO_SPACE: i32 = -28;
-pub const UNCLEAN: i32 = -203;
+pub const MISALIGNED: i32 = -211;
+pub const TOP_BIT: i32 = -212;
+pub const NOT_ERASED: i32 = -213;
 pub const COINCIDENCE: i32 = -204;
 
 /// `lanolin_entry`.

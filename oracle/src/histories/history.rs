@@ -9,7 +9,7 @@
 use super::ask::{fetched, task, After, Outcome, Step};
 use super::lists::{self, Habits, List};
 use super::start;
-use crate::calls::write::{Entry, Work, NO_SPACE, UNCLEAN};
+use crate::calls::write::{Entry, Work, MISALIGNED, NOT_ERASED, NO_SPACE, TOP_BIT};
 use crate::calls::{Fetched, Mdir};
 use crate::generate::{self, Case, Sizes};
 use crate::model::*;
@@ -83,7 +83,7 @@ impl History<'_> {
     fn step(&mut self) {
         if self.stuck && self.random.below(4) > 0 {
             self.stuck = false;
-            return self.compact("compaction of a full or unclean block");
+            return self.compact("compaction of a block without room");
         }
         match self.random.below(100) {
             0..43 => self.good(),
@@ -95,7 +95,8 @@ impl History<'_> {
             84..90 => self.coincidence(),
             90..92 => self.coincident_compaction(),
             92..95 => self.early(),
-            95..98 => self.dirt(),
+            95..97 => self.dirt(),
+            97 => self.no_room(),
             _ => self.elsewhere(),
         }
     }
@@ -112,7 +113,7 @@ impl History<'_> {
             self.limited(kind, work, limit);
         }
         let result = self.whole(kind, work);
-        self.stuck = matches!(result, NO_SPACE | UNCLEAN);
+        self.stuck = matches!(result, NO_SPACE | MISALIGNED | TOP_BIT | NOT_ERASED);
         result
     }
 
@@ -197,7 +198,21 @@ impl History<'_> {
         self.commit("entries that fill the block", &list);
     }
 
-    /// A byte behind the end that is not clean: near, far or the last.
+    /// A pair without room for one of the reasons, for several at once or for
+    /// none. The history stays where it is.
+    fn no_room(&mut self) {
+        let kept = (self.case.clone(), self.directory.clone(), self.stuck);
+        self.case = start::no_room(&mut self.random, self.case.geometry);
+        self.directory = read(&self.case);
+        match self.random.below(4) {
+            0 => self.coincidence(),
+            1 => self.filled(),
+            _ => self.good(),
+        }
+        (self.case, self.directory, self.stuck) = kept;
+    }
+
+    /// A byte behind the end that isn't erased: near, far or the last.
     fn dirt(&mut self) {
         let record = self.record();
         let which = usize::from(record.pair[0] == self.case.numbers[1]);

@@ -78,6 +78,24 @@ pub fn large(random: &mut Random) -> Case {
     case
 }
 
+/// An empty directory whose end may be no multiple, whose end tag may have its top
+/// bit set, and behind which up to two bytes may not be erased.
+pub fn no_room(random: &mut Random, geometry: Geometry) -> Case {
+    let mut log = Log::new(geometry.block_size as usize, random.word());
+    let size = log.check_size(0, geometry.prog_size as usize) + random.below(2) as u32;
+    log.check(tag_of(CHECK + random.below(2) as u32, NO_SLOT, size));
+    let (end, room) = (log.at(), log.room());
+    for _ in 0..random.below(3) {
+        if room > 0 {
+            log.bytes[end + random.below(room)] &= !(1 << random.below(8));
+        }
+    }
+    let images = [log.bytes, vec![0xff; geometry.block_size as usize]];
+    let mut case = generate::finish(random, "no room", geometry, images);
+    case.block_count = 0;
+    case
+}
+
 /// A compacted empty directory.
 fn fresh(geometry: Geometry, revision: u32) -> Log {
     let mut log = Log::new(geometry.block_size as usize, revision);

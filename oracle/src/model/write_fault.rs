@@ -22,8 +22,11 @@ write_faults! {
     LengthsAfterFetch "order: -22 of the lengths behind fetch's refusals";
     BadBeforeIrregular "order: -201 before -202";
     SpaceBeforeBad "order: -28 before -201";
-    UncleanBeforeSpace "order: -203 before -28";
-    CoincidenceBeforeUnclean "order: -204 before -203";
+    RoomBeforeSpace "order: -211, -212 and -213 before -28";
+    TopBitBeforeMisaligned "order: -212 before -211";
+    ByteBeforeMisaligned "order: -213 before -211";
+    ByteBeforeTopBit "order: -213 before -212";
+    CoincidenceBeforeRoom "order: -204 before -211, -212 and -213";
     CoincidenceBeforeSpace "order: -204 before -28";
     CoincidenceBeforeIrregular "order: compaction's -204 before -202";
     Entries8193 "sizes: 8,193 entries accepted";
@@ -75,7 +78,11 @@ write_faults! {
     CleanToNewEnd "room: clean only up to the new end";
     CleanOneTag "room: only four bytes looked at";
     UnalignedEnd "room: old end that is no multiple accepted";
+    AlignedByBlock "room: old end tested by the block size";
     EndTagWithBit31 "room: end tag with bit 31 accepted";
+    LastByteNamed "room: the offset of the last byte that isn't erased";
+    OffsetFromEnd "room: the byte's offset counted from the old end";
+    NoOffset "room: no offset";
     NeedsErased "room: the erased mark asked for";
     CoincidenceUntested "coincidence: not tested";
     CoincidenceWithout1 "coincidence: 2 and 3 bytes only";

@@ -133,7 +133,8 @@ impl Writer {
         entries.len() <= most && data.len() <= longest
     }
 
-    /// "-202, -201, -28, -203, -204"
+    /// "-202, -201, -28, -203, -204", and for -203 "-211 misaligned end, -212 top
+    /// bit, -213 byte with offset"
     fn commit(
         &self,
         task: &Task,
@@ -147,15 +148,20 @@ impl Writer {
             self.irregular(read),
             self.bad_entry(read, entries, data),
             self.full(task, &laid),
-            self.unclean(read, prog, &laid),
+            self.misaligned(task, read),
+            self.top_bit(read),
+            self.not_erased(read, &laid),
             laid.coincides.then_some((COINCIDENCE, 0)),
         ];
         match self.fault {
             WriteFault::BadBeforeIrregular => tests.swap(0, 1),
             WriteFault::SpaceBeforeBad => tests.swap(1, 2),
-            WriteFault::UncleanBeforeSpace => tests.swap(2, 3),
-            WriteFault::CoincidenceBeforeUnclean => tests.swap(3, 4),
-            WriteFault::CoincidenceBeforeSpace => tests.swap(2, 4),
+            WriteFault::RoomBeforeSpace => tests[2..6].rotate_left(1),
+            WriteFault::TopBitBeforeMisaligned => tests.swap(3, 4),
+            WriteFault::ByteBeforeMisaligned => tests[3..6].rotate_right(1),
+            WriteFault::ByteBeforeTopBit => tests.swap(4, 5),
+            WriteFault::CoincidenceBeforeRoom => tests[3..7].rotate_right(1),
+            WriteFault::CoincidenceBeforeSpace => tests.swap(2, 6),
             _ => {}
         }
         match tests.into_iter().flatten().next() {
@@ -238,10 +244,26 @@ impl Writer {
         (end > task.geometry.block_size as usize).then_some((NO_SPACE, 0))
     }
 
-    /// "Append needs bytes 0xff from the old end to the block's end, an old end
-    /// that is a multiple of the program size, and an end tag with bit 31 clear."
-    fn unclean(&self, read: &Read, prog: usize, laid: &Laid) -> Refused {
-        let (end, tag) = (read.dir.off as usize, read.dir.etag);
+    /// "-211 misaligned end"
+    fn misaligned(&self, task: &Task, read: &Read) -> Refused {
+        let unit = match self.fault {
+            WriteFault::AlignedByBlock => task.geometry.block_size,
+            _ => task.geometry.prog_size,
+        };
+        let aligned = read.dir.off.is_multiple_of(unit) || self.has(WriteFault::UnalignedEnd);
+        (!aligned).then_some((MISALIGNED, 0))
+    }
+
+    /// "-212 top bit"
+    fn top_bit(&self, read: &Read) -> Refused {
+        let plain = read.dir.etag & INVALID == 0 || self.has(WriteFault::EndTagWithBit31);
+        (!plain).then_some((TOP_BIT, 0))
+    }
+
+    /// "-213 byte with offset": of the bytes from the old end to the block's end the
+    /// first that isn't 0xff.
+    fn not_erased(&self, read: &Read, laid: &Laid) -> Refused {
+        let end = read.dir.off as usize;
         let rest = read.block.get(end..).unwrap_or_default();
         let needed = match self.fault {
             WriteFault::CleanOnlyWhereLaid => laid.bytes.len(),
@@ -249,11 +271,19 @@ impl Writer {
             WriteFault::CleanOneTag => 4,
             _ => rest.len(),
         };
-        let clean = rest.iter().take(needed).all(|&byte| byte == 0xff);
-        let aligned = end.is_multiple_of(prog) || self.has(WriteFault::UnalignedEnd);
-        let plain = tag & INVALID == 0 || self.has(WriteFault::EndTagWithBit31);
-        let erased = read.dir.erased == 0 && self.has(WriteFault::NeedsErased);
-        (!(clean && aligned && plain) || erased).then_some((UNCLEAN, 0))
+        let mut needed = rest.iter().take(needed);
+        let dirty = |&byte: &u8| byte != 0xff;
+        let found = match self.fault {
+            WriteFault::LastByteNamed => needed.rposition(dirty),
+            WriteFault::NeedsErased if read.dir.erased == 0 => Some(0),
+            _ => needed.position(dirty),
+        };
+        let offset = match self.fault {
+            WriteFault::OffsetFromEnd => found?,
+            WriteFault::NoOffset => found.map(|_| 0)?,
+            _ => end + found?,
+        };
+        Some((NOT_ERASED, offset as u32))
     }
 }
 

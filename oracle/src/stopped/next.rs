@@ -1,12 +1,13 @@
 //! What a recovery does next, at some of the stops: it fetches again; it tries a
-//! commit, which a torn room refuses with -203; it compacts, which is accepted as
+//! commit, which a torn room refuses with -213 at the old end, since a commit's
+//! first byte is never 0xff; it compacts, which is accepted as
 //! it would have been before, and gives the directory that fetch gave.
 //!
 //! Assumes nothing.
 
 use super::call::{Call, State};
 use super::Asked;
-use crate::calls::write::{Answer, Committed, Task, Work, Writes, UNCLEAN};
+use crate::calls::write::{Answer, Committed, Task, Work, Writes, NOT_ERASED};
 use crate::calls::{Mdir, Voice};
 use crate::histories::ask::Outcome;
 use crate::tally::Check;
@@ -72,8 +73,8 @@ fn commit<W: Writes, R: Voice>(
     let expected = match torn {
         true => {
             let refused = Committed {
-                result: UNCLEAN,
-                index: 0,
+                result: NOT_ERASED,
+                index: call.before.fetched.dir.off,
                 dir: Mdir::default(),
                 seed: bare.seed,
             };

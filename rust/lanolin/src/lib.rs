@@ -348,7 +348,7 @@ impl PairMut<'_> {
     /// its stores the pair reads as finished or as never begun; only the old
     /// record's erased mark may differ (`commit-stopped`).
     ///
-    /// After a stop the room may be torn: `Unclean`, until [`PairMut::compact`].
+    /// After a stop the room may be torn: `NotErased`, until [`PairMut::compact`].
     ///
     /// ```
     /// # use lanolin::*;
@@ -361,7 +361,7 @@ impl PairMut<'_> {
     /// let deadline = [Entry::user_attr(0x74, 0, 0, 4)];
     /// let seconds = 3600u32.to_le_bytes();
     /// let record = match pair.commit(0, 0, &deadline, &seconds) {
-    ///     Err(Refusal::NoSpace | Refusal::Unclean) => {
+    ///     Err(refusal) if refusal.needs_compaction() => {
     ///         pair.compact(0, 0)?;
     ///         pair.commit(0, 0, &deadline, &seconds)?
     ///     }

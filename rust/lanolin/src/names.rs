@@ -7,7 +7,7 @@
 /// The version of the header, major number.
 pub const VERSION_MAJOR: u32 = 0;
 /// The version of the header, minor number.
-pub const VERSION_MINOR: u32 = 1;
+pub const VERSION_MINOR: u32 = 2;
 /// Both: the major number in the upper half, the minor in the lower.
 pub const VERSION: u32 = VERSION_MAJOR << 16 | VERSION_MINOR;
 
@@ -26,8 +26,12 @@ pub const ERR_NOSPC: i32 = -28;
 pub const ERR_BADENTRY: i32 = -201;
 /// The number of [`Refusal::Irregular`](crate::Refusal::Irregular).
 pub const ERR_IRREGULAR: i32 = -202;
-/// The number of [`Refusal::Unclean`](crate::Refusal::Unclean).
-pub const ERR_UNCLEAN: i32 = -203;
+/// The number of [`Refusal::Misaligned`](crate::Refusal::Misaligned).
+pub const ERR_MISALIGNED: i32 = -211;
+/// The number of [`Refusal::TopBit`](crate::Refusal::TopBit).
+pub const ERR_TOPBIT: i32 = -212;
+/// The number of [`Refusal::NotErased`](crate::Refusal::NotErased).
+pub const ERR_NOTERASED: i32 = -213;
 /// The number of [`Refusal::Coincidence`](crate::Refusal::Coincidence).
 pub const ERR_COINCIDENCE: i32 = -204;
 

@@ -1,5 +1,6 @@
 //! Refusals: document 01's numbers as an enum, one case for each line of its
-//! table, with what comes back. The cases and their names are those of
+//! table, with what comes back; in the place of its -203 three cases say why
+//! there is no room. The cases and their names are those of
 //! `crates/format/src/lib.rt`.
 //!
 //! That a call gives no other answers than its own is proved (`fetch-possible`,
@@ -35,8 +36,13 @@ pub enum Refusal {
     Irregular,
     /// -28: the rounded end passes the block. Commit and compaction.
     NoSpace,
-    /// -203: the room behind the end isn't clean. Commit only.
-    Unclean,
+    /// -211: the log's end is no multiple of the program size. Commit only.
+    Misaligned,
+    /// -212: the end tag's top bit is set. Commit only.
+    TopBit,
+    /// -213: a byte behind the end isn't erased; the offset in the block of the
+    /// first such byte. Commit only.
+    NotErased(u32),
     /// -204: the checksum coincidence, in which a commit cut short could be
     /// taken for a whole one. Commit and compaction.
     Coincidence,
@@ -64,10 +70,28 @@ impl Refusal {
             Refusal::BadEntry(_) => ERR_BADENTRY,
             Refusal::Irregular => ERR_IRREGULAR,
             Refusal::NoSpace => ERR_NOSPC,
-            Refusal::Unclean => ERR_UNCLEAN,
+            Refusal::Misaligned => ERR_MISALIGNED,
+            Refusal::TopBit => ERR_TOPBIT,
+            Refusal::NotErased(_) => ERR_NOTERASED,
             Refusal::Coincidence => ERR_COINCIDENCE,
             Refusal::Unknown(number) => number,
         }
+    }
+
+    /// Whether a compaction makes room for the commit that was refused: compact,
+    /// and commit once more.
+    ///
+    /// ```
+    /// use lanolin::Refusal;
+    ///
+    /// assert!(Refusal::NotErased(48).needs_compaction());
+    /// assert!(!Refusal::Irregular.needs_compaction());
+    /// ```
+    pub fn needs_compaction(self) -> bool {
+        matches!(
+            self,
+            Refusal::NoSpace | Refusal::Misaligned | Refusal::TopBit | Refusal::NotErased(_)
+        )
     }
 }
 
@@ -82,7 +106,11 @@ impl fmt::Display for Refusal {
             Refusal::BadEntry(index) => write!(f, "entry {index} is bad"),
             Refusal::Irregular => write!(f, "the log isn't regular"),
             Refusal::NoSpace => write!(f, "no space"),
-            Refusal::Unclean => write!(f, "the room behind the end isn't clean"),
+            Refusal::Misaligned => write!(f, "the end is no multiple of the program size"),
+            Refusal::TopBit => write!(f, "the end tag's top bit is set"),
+            Refusal::NotErased(offset) => {
+                write!(f, "byte {offset} of the block, behind the end, isn't erased")
+            }
             Refusal::Coincidence => write!(f, "the checksum coincidence"),
             Refusal::Unknown(_) => write!(f, "a number that this crate doesn't know"),
         }
@@ -101,7 +129,7 @@ pub(crate) fn of_lookup<T>(result: i32, found: T) -> Result<T, Refusal> {
 }
 
 /// The answer of fetch, commit or compaction: all three have a record and a
-/// seed, and only commit an index.
+/// seed, and only commit an index or an offset.
 pub(crate) fn of_fetch(
     result: i32,
     index: u32,
@@ -123,7 +151,9 @@ fn refused(number: i32, index: u32) -> Refusal {
         ERR_BADENTRY => Refusal::BadEntry(index),
         ERR_IRREGULAR => Refusal::Irregular,
         ERR_NOSPC => Refusal::NoSpace,
-        ERR_UNCLEAN => Refusal::Unclean,
+        ERR_MISALIGNED => Refusal::Misaligned,
+        ERR_TOPBIT => Refusal::TopBit,
+        ERR_NOTERASED => Refusal::NotErased(index),
         ERR_COINCIDENCE => Refusal::Coincidence,
         other => Refusal::Unknown(other),
     }
@@ -137,15 +167,33 @@ mod tests {
     /// number that it hasn't is handed on, whatever it is.
     #[test]
     fn numbers_are_kept() {
-        for number in [-22, -84, -201, -202, -28, -203, -204] {
+        for number in [-22, -84, -201, -202, -28, -211, -212, -213, -204] {
             let refusal = refused(number, 0);
             assert_eq!(refusal.number(), number);
             assert!(!matches!(refusal, Refusal::Unknown(_)));
         }
-        for number in [-213, -1, 1, i32::MIN, i32::MAX] {
+        for number in [-203, -1, 1, i32::MIN, i32::MAX] {
             assert_eq!(refused(number, 0), Refusal::Unknown(number));
             assert_eq!(of_lookup(number, ()), Err(Refusal::Unknown(number)));
             assert_eq!(Refusal::Unknown(number).number(), number);
+        }
+    }
+
+    /// What comes with a number is its own.
+    #[test]
+    fn indices_are_kept() {
+        assert_eq!(refused(-201, 7), Refusal::BadEntry(7));
+        assert_eq!(refused(-213, 7), Refusal::NotErased(7));
+        let room = "refused, -213: byte 7 of the block, behind the end, isn't erased";
+        assert_eq!(Refusal::NotErased(7).to_string(), room);
+    }
+
+    /// A compaction serves what is wanting of room, and nothing else.
+    #[test]
+    fn compaction_is_for_room() {
+        for number in -300..=0 {
+            let needs = [-28, -211, -212, -213].contains(&number);
+            assert_eq!(refused(number, 7).needs_compaction(), needs, "{number}");
         }
     }
 }

@@ -1,4 +1,4 @@
--- `lanolin_answers::refused_index` meets its contract: what the one case holds, and the same with every other. Assumes
+-- `lanolin_answers::refused_index` meets its contract: what the two cases hold, and the same with every other. Assumes
 -- nothing.
 use mathlib.Core.Path.{sym, ap}
 use borrow.Author.Needs.{needs}
@@ -11,7 +11,10 @@ returns : tie.Need-returns
 returns c = sym (ap refusalIndex (c .before .r .given .1))
 
 returns-2 : tie.Need-returns-2
-returns-2 c = unindexed (c .before .args .r) (c .match .keys2)
+returns-2 c = sym (ap refusalIndex (c .before .r2 .given .1))
+
+returns-3 : tie.Need-returns-3
+returns-3 c = unindexed (c .before .args .r) (c .match .keys3)
 
 pub refused-index-spec : {M : Type 1} → statement M
-refused-index-spec = tie.close (tie.spec (λ c. search needs) returns returns-2)
+refused-index-spec = tie.close (tie.spec (λ c. search needs) (λ c. search needs) returns returns-2 returns-3)

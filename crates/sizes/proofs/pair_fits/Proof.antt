@@ -6,7 +6,7 @@ use Rattle.sizes.proofs.pair_fits.Tie as tie
 
 returns : tie.Need-returns
 unfolding pairFits
-returns c = rw (c .geometry-fits .ensures)
+returns c = rw (c .images-fit .ensures)
 
 pub pair-fits-spec : {M : Type 1} → statement M
-pair-fits-spec = tie.close (tie.spec (λ c. search needs) (λ c κs. search needs) returns)
+pair-fits-spec = tie.close (tie.spec (λ c κs. search needs) returns)

@@ -18,22 +18,26 @@ use Rattle.format.specs.Walk.{Event}
 use Rattle.format.specs.Log.{log, logEnd, logEndTag}
 use Rattle.format.specs.Record.{countOf}
 use Rattle.format.specs.View.{at}
-use Rattle.format.specs.Fetch.{geometryFits, pairFits, fetchOf}
+use Rattle.format.specs.Fetch.{geometryFits, imagesFit, pairFits, fetchOf}
 use Rattle.format.specs.Regular.{Regular}
 use Rattle.format.specs.Commit.{Item, checkTag}
 use Rattle.format.specs.Stores.{allErased, entriesLength, coincides}
 use Rattle.format.specs.Entries.{itemsOf, Judged, judge, bad, good}
+use Rattle.format.specs.Room.{roomClean, roomOf}
 use Rattle.format.specs.Writer.{checkLength, roundedEnd, checkSize, checkAt, mostData, mostEntries, commitFits}
-use Rattle.format.specs.Writer.{roomClean, Verdict, blockAt, placed, judgedBy, appended, fetchedThen, verdictOf}
+use Rattle.format.specs.Writer.{Verdict, blockAt, roomThen, placed, judgedBy, appended, fetchedThen, verdictOf}
 use Rattle.format.specs.Writer.{refused, accepted}
 use Rattle.format.specs.declared.Geometry.{Geometry}
 use Rattle.format.specs.declared.LfsMdir.{LfsMdir}
 use Rattle.format.specs.declared.Entry.{Entry}
 use Rattle.format.specs.declared.Refusal.{Refusal}
-use Rattle.format.specs.declared.Refusal.the-variants.{Invalid, Irregular, NoSpace, Unclean, Coincidence}
+use Rattle.format.specs.declared.Refusal.the-variants.{Invalid, Irregular, NoSpace, Coincidence}
+use Rattle.format.specs.declared.Room.{Room}
+use Rattle.format.specs.declared.Room.the-variants as room
 use Rattle.format.specs.declared.Fetched.{Fetched}
 use Rattle.format.specs.declared.Fetched.the-variants as fetched
 use Rattle.format.proofs.Tags.{of-length}
+use Rattle.format.proofs.Rooms.{clean-holds}
 use Rattle.theory.specs.Walk.Step.{both-true}
 use Rattle.theory.specs.Log.TwoBlocks.{viewAt, view-log}
 use Rattle.format.specs.Directory.{acts}
@@ -90,6 +94,11 @@ pub past : (b : Bool) (r : Refusal) (v : Verdict) (w : Bool) (is : List Item) (s
 past true r v w is size h = (cc, cc)
 past false r v w is size h = (refl, h)
 
+pub past-room : (r : Room) (v : Verdict) (w : Bool) (is : List Item) (size : ℕ) → roomThen r v ≡ accepted w is size
+    → (r ≡ room.Clean) × (v ≡ accepted w is size)
+past-room (room.Refused r) v w is size h = (cc, cc)
+past-room room.Clean v w is size h = (refl, h)
+
 pub record FoundThen (f : Fetched) (on : LfsMdir → Verdict) (v : Verdict) : Type 0 where
   pub m : LfsMdir
   pub s : ℕ
@@ -123,15 +132,18 @@ fits-prog g h =
     let u = both-true (leb 4 p) (leb p 512) (t .0) in
     (leb-true 4 p (u .0), leb-true p 512 (u .1))
 
-pub fits-geometry : (g : Geometry) (l0 l1 n0 n1 e d : ℕ) → commitFits g l0 l1 n0 n1 e d ≡ true → geometryFits g ≡ true
-unfolding commitFits pairFits
-fits-geometry g l0 l1 n0 n1 e d h =
-    let r = both-true (pairFits g l0 l1 n0 n1 && leb d mostData) (leb e mostEntries) h in
-    let s = both-true (pairFits g l0 l1 n0 n1) (leb d mostData) (r .0) in
-    let t = both-true (geometryFits g && eqb l0 (g .«block_size») && eqb l1 (g .«block_size»)) (not (eqb n0 n1))
-    (s .0) in
-    let u = both-true (geometryFits g && eqb l0 (g .«block_size»)) (eqb l1 (g .«block_size»)) (t .0) in
-    both-true (geometryFits g) (eqb l0 (g .«block_size»)) (u .0) .0
+module _ (g : Geometry) (l0 l1 n0 n1 e d : ℕ) (fits : commitFits g l0 l1 n0 n1 e d ≡ true) where
+  pub fits-images : imagesFit g l0 l1 ≡ true
+  unfolding commitFits pairFits
+  fits-images =
+      let r = both-true (pairFits g l0 l1 n0 n1 && leb d mostData) (leb e mostEntries) fits in
+      let s = both-true (pairFits g l0 l1 n0 n1) (leb d mostData) (r .0) in
+      both-true (imagesFit g l0 l1) (not (eqb n0 n1)) (s .0) .0
+
+  pub fits-geometry : geometryFits g ≡ true
+  fits-geometry =
+      let u = both-true (geometryFits g && eqb l0 (g .«block_size»)) (eqb l1 (g .«block_size»)) fits-images in
+      both-true (geometryFits g) (eqb l0 (g .«block_size»)) (u .0) .0
 
 -- ---- the tests of good entries
 module _ (prog : ℕ) (some : 4 ≤ prog) (most : prog ≤ 512) (b : List ℕ) (es : List Event) (old : log b ≡ es)
@@ -144,11 +156,11 @@ module _ (prog : ℕ) (some : 4 ≤ prog) (most : prog ≤ 512) (b : List ℕ) (
   placed-accepts second w is size h =
       let I : List Item = itemsOf dat entries in
       let p = past (ltb (length b) (roundedEnd prog (checkAt es I))) NoSpace _ w is size h in
-      let q = past (not (roomClean prog b (logEnd es) (logEndTag es))) Unclean _ w is size (p .1) in
+      let q = past-room (roomOf prog b (logEnd es) (logEndTag es)) _ w is size (p .1) in
       let r = past (coincides allOnes (logEndTag es) I (checkTag (checkSize prog (checkAt es I)))) Coincidence _ w is
       size (q .1) in
       let clean = both-true (allErased (drop (logEnd es) b) && eqb (logEnd es % prog) 0) (tagValid (logEndTag es))
-      (not-false _ (q .0)) in
+      (clean-holds prog b (logEnd es) (logEndTag es) (q .0)) in
       let empty = both-true (allErased (drop (logEnd es) b)) (eqb (logEnd es % prog) 0) (clean .0) in
       let slots : countOf 0 es ≡ slotsAfterAll 0 (acts es) = regular-slots es regular in
       let g = judged-good dat entries 0 (slotsAfterAll 0 (acts es)) c (regular-count b es old regular)

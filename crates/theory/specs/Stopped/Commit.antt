@@ -70,7 +70,7 @@ module _ (g : Geometry) (b0 b1 : List ℕ) (n0 n1 count seed : ℕ) (entries : L
       (a .answers) (appends .answers)
 
   -- the images after n stores: only the block that answers is altered
-  commit-written : (n : ℕ) → (blockAt w (commitImages g b0 b1 n0 n1 count seed entries dat n .b0)
+  pub commit-written : (n : ℕ) → (blockAt w (commitImages g b0 b1 n0 n1 count seed entries dat n .b0)
       (commitImages g b0 b1 n0 n1 count seed entries dat n .b1) ≡ storedTo x is size n)
       × (blockAt (not w) (commitImages g b0 b1 n0 n1 count seed entries dat n .b0)
       (commitImages g b0 b1 n0 n1 count seed entries dat n .b1) ≡ o)
