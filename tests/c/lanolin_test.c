@@ -320,8 +320,9 @@ static lanolin_committed bare(uint32_t prog_size, uint8_t *block) {
     return c;
 }
 
-/* Why there is no room, each reason alone and then together: the listing's end, 48, is no multiple of 32; behind a check
- * of type 0x501 the end tag's top bit is set; of the bytes behind the end the first that isn't erased is named. */
+/* Why there is no room, each reason alone and then together: the listing's end, 48, is no multiple of 32; behind a
+ * check of type 0x501 the end tag's top bit is set; of the bytes behind the end the first that isn't erased is named.
+ */
 static void test_no_room(void) {
     static const uint8_t CHECK[8] = {0x67, 0x5f, 0xfc, 0x09, 0x37, 0x9b, 0xc2, 0x51}; /* as in samples/writes/cases */
     uint8_t c0[128];

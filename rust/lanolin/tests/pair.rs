@@ -391,6 +391,8 @@ fn why_there_is_no_room() {
         (32, dirty(LISTING), Refusal::Misaligned, -211),
         (16, dirty(&flipped), Refusal::TopBit, -212),
     ];
+    let said = "refused, -213: byte 70 of the block, behind the end, isn't erased";
+    assert_eq!(Refusal::NotErased(70).to_string(), said);
     for (prog_size, mut bytes, refusal, number) in cases {
         let answer = refused_by(prog_size, &bytes, &[DEADLINE], &SECONDS);
         assert_eq!((answer, answer.number()), (refusal, number));

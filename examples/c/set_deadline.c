@@ -1,0 +1,69 @@
+/* set_deadline.c: gives a slot a new deadline, in seconds: a commit of its user attribute 0x74. Where there is no room
+ * for it, says why, compacts the pair and commits once more.
+ *
+ *     set_deadline FILE SLOT SECONDS [PROG_SIZE]
+ *
+ * FILE has both blocks of a pair, one behind the other, and is written anew; without PROG_SIZE it is 16. Exits 1 if it
+ * is refused, with FILE as it was; 2 if it is used wrongly or the file can't be read or written. */
+#include "lanolin.h"
+
+#include <stdio.h>
+#include <stdlib.h>
+
+/* What the service desk is told. `end` is where the log ends: there a commit begins, and there a torn one shows. */
+static void say_why(lanolin_committed refused, uint32_t end) {
+    printf("no room, %d: ", (int)refused.result);
+    switch (refused.result) {
+    case LANOLIN_ERR_NOSPC: puts("the block is full"); break;
+    case LANOLIN_ERR_MISALIGNED: puts("the log's end is no multiple of the program size"); break;
+    case LANOLIN_ERR_TOPBIT: puts("the end tag's top bit is set"); break;
+    case LANOLIN_ERR_NOTERASED:
+        printf("byte %lu isn't erased, %s\n", (unsigned long)refused.index,
+               refused.index == end ? "as after a commit that was cut short" : "which no commit of ours left");
+    }
+}
+
+static int set_deadline(uint8_t *b0, uint8_t *b1, size_t size, uint32_t prog_size, uint16_t slot, uint32_t seconds) {
+    const lanolin_geometry g = {(uint32_t)size, prog_size};
+    const lanolin_entry entry = {LANOLIN_TYPE_USERATTR + 0x74, slot, 0, 4};
+    uint8_t data[4];
+    lanolin_put_le32(data, sizeof data, 0, seconds);
+    uint32_t end = lanolin_fetch(g, b0, size, b1, size, 0, 1, 0, 0).dir.off;
+    lanolin_committed c = lanolin_commit(g, b0, size, b1, size, 0, 1, 0, 0, &entry, 1, data, sizeof data);
+    if (LANOLIN_NEEDS_COMPACTION(c.result)) {
+        say_why(c, end);
+        c = lanolin_compact(g, b0, size, b1, size, 0, 1, 0, 0);
+        if (c.result == LANOLIN_OK) puts("compacted");
+        if (c.result == LANOLIN_OK)
+            c = lanolin_commit(g, b0, size, b1, size, 0, 1, 0, 0, &entry, 1, data, sizeof data);
+    }
+    if (c.result != LANOLIN_OK) return fprintf(stderr, "refused: %d\n", (int)c.result), 1;
+    printf("committed: revision %lu, end %lu\n", (unsigned long)c.dir.rev, (unsigned long)c.dir.off);
+    return 0;
+}
+
+/* A whole decimal number of at most `most`. */
+static int number(const char *text, unsigned long most, unsigned long *value) {
+    char *end;
+    if (*text < '0' || *text > '9') return 0;
+    *value = strtoul(text, &end, 10);
+    return !*end && *value <= most;
+}
+
+int main(int argc, char **argv) {
+    static uint8_t image[2 * 32768 + 2]; /* two bytes more than the largest pair: it is refused */
+    unsigned long slot, seconds, prog_size = 16;
+    if (argc < 4 || argc > 5 || !number(argv[2], 0xffff, &slot) || !number(argv[3], 0xffffffff, &seconds) ||
+        (argc == 5 && !number(argv[4], 0xffffffff, &prog_size)))
+        return fprintf(stderr, "usage: set_deadline FILE SLOT SECONDS [PROG_SIZE]   (both blocks of a pair)\n"), 2;
+    FILE *file = fopen(argv[1], "r+b");
+    if (!file) return perror(argv[1]), 2;
+    size_t read = fread(image, 1, sizeof image, file), half = read / 2;
+    if (ferror(file)) return perror(argv[1]), 2;
+    if (read % 2) return fprintf(stderr, "%s: not two blocks of one size\n", argv[1]), 2;
+    int status = set_deadline(image, image + half, half, (uint32_t)prog_size, (uint16_t)slot, (uint32_t)seconds);
+    if (status) return status;
+    rewind(file);
+    if (fwrite(image, 1, read, file) != read || fclose(file)) return perror(argv[1]), 2;
+    return 0;
+}
