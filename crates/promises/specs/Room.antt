@@ -11,7 +11,7 @@ use lib.Seq.{getD-drop}
 use lib.Dec.{ltb, eqb}
 use borrow.Author.Tests.{ltb-true, ltb-false, lt-ltb, eqb-true, eqb-false, eq-eqb}
 use Rattle.format.specs.Tag.{tagValid}
-use Rattle.format.specs.Stores.{erasedByte, allErased}
+use Rattle.format.specs.Stores.{allErased}
 use Rattle.format.specs.Room.{roomClean, erasedRun, firstUnerased, roomOf}
 use Rattle.format.specs.declared.Refusal.{Refusal}
 use Rattle.format.specs.declared.Refusal.the-variants.{Misaligned, TopBit, NotErased}
@@ -60,21 +60,24 @@ module _ (prog : ℕ) (b : List ℕ) (end etag : ℕ) where
       go true k = refl
       go false k = absurd (unerased k .1 (h (firstUnerased b end) from-end (unerased k .0)))
 
+  no-reason : roomClean prog b end etag ≡ true → NoReason
+  unfolding roomClean
+  no-reason h =
+      let p = both-true (allErased (drop end b) && eqb (end % prog) 0) (tagValid etag) h in
+      let q = both-true (allErased (drop end b)) (eqb (end % prog) 0) (p .0) in
+      record {
+        aligned = eqb-true (end % prog) 0 (q .1);
+        top = ltb-true etag (2 ^ 31) (p .1);
+        erased = all-bytes (q .0);
+      }
+
+  then-clean : NoReason → roomClean prog b end etag ≡ true
+  unfolding roomClean
+  then-clean r = rw (bytes-all (r .erased), eq-eqb (end % prog) 0 (r .aligned), lt-ltb etag (2 ^ 31) (r .top))
+
   -- document 01's condition, and the reasons
   pub clean-exactly : (roomClean prog b end etag ≡ true) ↔ NoReason
-  unfolding roomClean
-  clean-exactly = (
-    λ h. (
-        let p = both-true (allErased (drop end b) && eqb (end % prog) 0) (tagValid etag) h in
-        let q = both-true (allErased (drop end b)) (eqb (end % prog) 0) (p .0) in
-        record {
-          aligned = eqb-true (end % prog) 0 (q .1);
-          top = ltb-true etag (2 ^ 31) (p .1);
-          erased = all-bytes (q .0);
-        }
-        ),
-    λ r. rw (bytes-all (r .erased), eq-eqb (end % prog) 0 (r .aligned), lt-ltb etag (2 ^ 31) (r .top)),
-  )
+  clean-exactly = (no-reason, then-clean)
 
   -- what the call tests, and document 01's condition
   pub room-exactly : (roomOf prog b end etag ≡ Clean) ↔ (roomClean prog b end etag ≡ true)
@@ -115,22 +118,20 @@ module _ (prog : ℕ) (b : List ℕ) (end etag : ℕ) where
   told-not-erased k true true false h = (refl, refl, refl, cc)
   told-not-erased k true true true h = (cc, cc, cc, cc)
 
-  -- -211 wherever the old end is no multiple, "even where a byte is dirty too"
+  -- -211 wherever the old end is no multiple, whatever the end tag and the bytes
   pub misaligned-exactly : (roomOf prog b end etag ≡ Refused Misaligned) ↔ (end % prog ≢ 0)
   misaligned-exactly = (
     λ h. eqb-false (end % prog) 0 (told-misaligned aligned plain all (told Misaligned h)),
     misaligned-first prog b end etag,
   )
 
-  -- -212 behind an end that is one
+  top-bit-then : roomOf prog b end etag ≡ Refused TopBit → (end % prog ≡ 0) × (2 ^ 31 ≤ etag)
+  top-bit-then h = let t = told-top-bit aligned plain all (told TopBit h) in
+      (eqb-true (end % prog) 0 (t .0), ltb-false etag (2 ^ 31) (t .1))
+
+  -- -212 behind an end that is one, whatever the bytes
   pub top-bit-exactly : (roomOf prog b end etag ≡ Refused TopBit) ↔ ((end % prog ≡ 0) × (2 ^ 31 ≤ etag))
-  top-bit-exactly = (
-    λ h. (
-        let t = told-top-bit aligned plain all (told TopBit h) in
-        (eqb-true (end % prog) 0 (t .0), ltb-false etag (2 ^ 31) (t .1))
-        ),
-    λ h. top-bit-next prog b end etag (h .0) (h .1),
-  )
+  top-bit-exactly = (top-bit-then, λ h. top-bit-next prog b end etag (h .0) (h .1))
 
   -- k is the block offset of the first byte from the old end on that isn't erased
   pub record First (k : ℕ) : Type 0 where
@@ -164,18 +165,22 @@ module _ (prog : ℕ) (b : List ℕ) (end etag : ℕ) where
         ltb-false (firstUnerased b end) k i,
       )
 
+  not-erased-then : (k : ℕ) → roomOf prog b end etag ≡ Refused (NotErased k)
+      → (end % prog ≡ 0) × (etag < 2 ^ 31) × First k
+  not-erased-then k h =
+      let t = told-not-erased k aligned plain all (told (NotErased k) h) in
+      let u = unerased (t .2) in (
+        eqb-true (end % prog) 0 (t .0),
+        ltb-true etag (2 ^ 31) (t .1),
+        subst First (t .3) (record { from = from-end; inside = u .0; is = u .1; before = before-first }),
+      )
+
+  then-not-erased : (k : ℕ) → (end % prog ≡ 0) × (etag < 2 ^ 31) × First k
+      → roomOf prog b end etag ≡ Refused (NotErased k)
+  then-not-erased k h = byte-last prog b end etag (h .0) (h .1) (some-byte k (h .2))
+      ∙ ap (λ (j : ℕ). Refused (NotErased j)) (only-first k (h .2))
+
   -- -213 behind both, with that offset
   pub not-erased-exactly : (k : ℕ) → (roomOf prog b end etag ≡ Refused (NotErased k))
       ↔ ((end % prog ≡ 0) × (etag < 2 ^ 31) × First k)
-  not-erased-exactly k = (
-    λ h. (
-        let t = told-not-erased k aligned plain all (told (NotErased k) h) in
-        let u = unerased (t .2) in (
-          eqb-true (end % prog) 0 (t .0),
-          ltb-true etag (2 ^ 31) (t .1),
-          subst First (t .3) (record { from = from-end; inside = u .0; is = u .1; before = before-first }),
-        )
-        ),
-    λ h. byte-last prog b end etag (h .0) (h .1) (some-byte k (h .2))
-        ∙ ap (λ (j : ℕ). Refused (NotErased j)) (only-first k (h .2)),
-  )
+  not-erased-exactly k = (not-erased-then k, then-not-erased k)
