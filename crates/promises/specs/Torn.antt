@@ -9,7 +9,7 @@ use native.Mathlib.Nat.{le-refl}
 use native.Mathlib.Omega.{arith}
 use lib.Bits.{xor-lt}
 use lib.ListN.{length, getD, take}
-use lib.Seq.{paste, length-paste, take-paste, getD-take, getD-append-add, length-take-le}
+use lib.Seq.{paste, take-paste, getD-take, getD-append-add, length-take-le}
 use Rattle.format.specs.Word.{toBe32, xor, allOnes}
 use Rattle.format.specs.Log.{log, logEnd, logEndTag}
 use Rattle.format.specs.Commit.{Item, checkTag, commitBytes}
@@ -21,11 +21,7 @@ use Rattle.format.specs.declared.Entry.{Entry}
 use Rattle.format.specs.declared.Refusal.the-variants.{NotErased}
 use Rattle.format.specs.declared.Room.the-variants.{Refused}
 use Rattle.theory.specs.Rules.MadeItem.{AllMade}
-use Rattle.theory.specs.Blocks.Append.{AppendOk, length-commit}
-use Rattle.theory.specs.Commit.Acceptance.{Accepts}
-use Rattle.theory.specs.Commit.Acceptance as writing
-use Rattle.theory.specs.Commit.AcceptedVerdict.{accepted-commit}
-use Rattle.theory.specs.Stopped.Commit.{commit-written}
+use Rattle.theory.specs.Stopped.Commit.{takes, ok, bytes-length, room, stored-length, commit-written}
 use Rattle.promises.specs.Accepted.{commit-accepted-exactly}
 use Rattle.promises.specs.Room.{NoReason, clean-exactly, not-erased-exactly}
 
@@ -40,75 +36,69 @@ unfolding commitBytes toBe32
 begins sum prev [] ct h k m = first-byte ct prev k h
 begins sum prev (i ∷ is) ct h k m = first-byte (i .tag) prev (m .0 .0) h
 
--- ---- the block that a commit of `is` is appended to, after n stores
-module _ (b : List ℕ) (is : List Item) (size n : ℕ) (a : Accepts b (log b) is size) (some : 1 ≤ n) where
+-- ---- the call: the images after n stores, by the end and the end tag that were there before
+module _ (g : Geometry) (b0 b1 : List ℕ) (n0 n1 count seed : ℕ) (entries : List Entry) (dat : List ℕ) (second : Bool)
+    (is : List Item) (size : ℕ) (h : verdictOf g b0 b1 n0 n1 count seed entries dat ≡ accepted second is size)
+    (n : ℕ) (some : 1 ≤ n) where
+  abbrev old : List ℕ
+  old = blockAt second b0 b1
+
   abbrev end : ℕ
-  end = logEnd (log b)
+  end = logEnd (log old)
+
+  abbrev etag : ℕ
+  etag = logEndTag (log old)
+
+  abbrev left : Images
+  left = commitImages g b0 b1 n0 n1 count seed entries dat n
 
   abbrev bytes : List ℕ
-  bytes = commitBytes allOnes (logEndTag (log b)) is (checkTag size)
+  bytes = commitBytes allOnes etag is (checkTag size)
 
   abbrev made : ℕ
   made = min n (allStores is)
 
-  ok : AppendOk b (log b) is (checkTag size)
-  ok = writing.accepted b (log b) is size a
-
+  -- what every accepted commit has: its bytes, room for them, and a block that keeps its length
   long : length bytes ≡ allStores is
-  long = length-commit is allOnes (logEndTag (log b)) (checkTag size) (ok .items)
+  long = bytes-length g b0 b1 n0 n1 count seed entries dat second is size h
 
-  room : end + allStores is ≤ length b
-  room = omega (arith, ok .fits, ok .check .long)
+  fits : end + allStores is ≤ length old
+  fits = room g b0 b1 n0 n1 count seed entries dat second is size h
 
-  stored-length : length (storedTo b is size n) ≡ length b
-  unfolding appending
-  stored-length = length-paste b end bytes made (omega (arith, room)) (omega (arith, long))
+  same-length : length (storedTo old is size n) ≡ length old
+  same-length = stored-length g b0 b1 n0 n1 count seed entries dat second is size h made (omega arith)
 
-  stored-byte : getD (storedTo b is size n) end 0 ≡ getD bytes 0 0
+  no-reason : NoReason (g .«prog_size») old end etag
+  no-reason = clean-exactly (g .«prog_size») old end etag .0
+      (commit-accepted-exactly g b0 b1 n0 n1 count seed entries dat second is size .0 h .clean)
+
+  stored-byte : getD (storedTo old is size n) end 0 ≡ getD bytes 0 0
   unfolding appending
   stored-byte =
-      let at : length (take end b) + 0 ≡ end = omega (arith, length-take-le end b (omega (arith, room))) in
-      sym (getD-take (end + made) (paste b end bytes made) end 0 (omega (arith, some)))
-      ∙ ap (λ (l : List ℕ). getD l end 0) (take-paste b end bytes made (omega (arith, room)) (omega (arith, long)))
-      ∙ ap (λ (i : ℕ). getD (take end b ++ take made bytes) i 0) (sym at)
-      ∙ getD-append-add (take end b) (take made bytes) 0 0
+      let at : length (take end old) + 0 ≡ end = omega (arith, length-take-le end old (omega (arith, fits))) in
+      sym (getD-take (end + made) (paste old end bytes made) end 0 (omega (arith, some)))
+      ∙ ap (λ (l : List ℕ). getD l end 0) (take-paste old end bytes made (omega (arith, fits)) (omega (arith, long)))
+      ∙ ap (λ (i : ℕ). getD (take end old ++ take made bytes) i 0) (sym at)
+      ∙ getD-append-add (take end old) (take made bytes) 0 0
       ∙ getD-take made bytes 0 0 (omega (arith, some))
 
-  torn : (prog : ℕ) → NoReason prog b end (logEndTag (log b))
-      → roomOf prog (storedTo b is size n) end (logEndTag (log b)) ≡ Refused (NotErased end)
-  torn prog r =
-      not-erased-exactly prog (storedTo b is size n) end (logEndTag (log b)) end .1 (
-        r .aligned,
-        r .top,
+  small : getD bytes 0 0 < 0xff
+  small =
+      begins allOnes etag is (checkTag size) (no-reason .top)
+      (ok g b0 b1 n0 n1 count seed entries dat second is size h .check .small)
+      (takes g b0 b1 n0 n1 count seed entries dat second is size h .made)
+
+  pub torn-at-end : roomOf (g .«prog_size») (blockAt second (left .b0) (left .b1)) end etag ≡ Refused (NotErased end)
+  torn-at-end =
+      ap (λ (b : List ℕ). roomOf (g .«prog_size») b end etag)
+      (commit-written g b0 b1 n0 n1 count seed entries dat second is size h n .0)
+      ∙ not-erased-exactly (g .«prog_size») (storedTo old is size n) end etag end .1 (
+        no-reason .aligned,
+        no-reason .top,
         record {
           from = le-refl end;
-          inside = omega (arith, stored-length, room);
-          is = λ e. omega (
-            arith,
-            begins allOnes (logEndTag (log b)) is (checkTag size) (r .top) (ok .check .small) (a .made),
-            sym e ∙ stored-byte,
-          );
+          inside = omega (arith, same-length, fits);
+          is = λ e. omega (arith, small, sym e ∙ stored-byte);
           before = λ i from below. absurd (omega arith);
         },
       )
-
--- ---- the call: the images after n stores, by the end and the end tag that were there before
-module _ (g : Geometry) (b0 b1 : List ℕ) (n0 n1 count seed : ℕ) (entries : List Entry) (dat : List ℕ) (second : Bool)
-    (is : List Item) (size : ℕ) (h : verdictOf g b0 b1 n0 n1 count seed entries dat ≡ accepted second is size) where
-  abbrev old : List ℕ
-  old = blockAt second b0 b1
-
-  abbrev left : ℕ → Images
-  left n = commitImages g b0 b1 n0 n1 count seed entries dat n
-
-  pub torn-at-end : (n : ℕ) → 1 ≤ n
-      → roomOf (g .«prog_size») (blockAt second (left n .b0) (left n .b1)) (logEnd (log old)) (logEndTag (log old))
-      ≡ Refused (NotErased (logEnd (log old)))
-  torn-at-end n some =
-      let to = accepted-commit g b0 b1 n0 n1 count seed entries dat second is size h in
-      let takes : Accepts old (log old) is size = rw (to .items) (to .accepts) in
-      let clean = commit-accepted-exactly g b0 b1 n0 n1 count seed entries dat second is size .0 h .clean in
-      ap (λ (b : List ℕ). roomOf (g .«prog_size») b (logEnd (log old)) (logEndTag (log old)))
-      (commit-written g b0 b1 n0 n1 count seed entries dat second is size h n .0)
-      ∙ torn old is size n takes some (g .«prog_size»)
-      (clean-exactly (g .«prog_size») old (logEnd (log old)) (logEndTag (log old)) .0 clean)

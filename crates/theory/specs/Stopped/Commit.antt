@@ -60,7 +60,7 @@ module _ (g : Geometry) (b0 b1 : List ℕ) (n0 n1 count seed : ℕ) (entries : L
   appends : AppendsTo b0 b1 entries dat w is size
   appends = accepted-commit g b0 b1 n0 n1 count seed entries dat w is size h
 
-  takes : Accepts (blockAt w b0 b1) (log (blockAt w b0 b1)) is size
+  pub takes : Accepts (blockAt w b0 b1) (log (blockAt w b0 b1)) is size
   takes = rw (appends .items) (appends .accepts)
 
   place : isSecond n0 (commit-found .0) ≡ w
@@ -83,16 +83,16 @@ module _ (g : Geometry) (b0 b1 : List ℕ) (n0 n1 count seed : ℕ) (entries : L
       go false = (refl, refl)
       go true = (refl, refl)
 
-  ok : AppendOk (blockAt w b0 b1) (log (blockAt w b0 b1)) is (checkTag size)
+  pub ok : AppendOk (blockAt w b0 b1) (log (blockAt w b0 b1)) is (checkTag size)
   ok = writing.accepted x (log x) is size takes
 
-  bytes-length : length (commitBytes allOnes (logEndTag (log x)) is (checkTag size)) ≡ allStores is
+  pub bytes-length : length (commitBytes allOnes (logEndTag (log x)) is (checkTag size)) ≡ allStores is
   bytes-length = length-commit is allOnes (logEndTag (log x)) (checkTag size) (ok .items)
 
-  room : logEnd (log x) + allStores is ≤ length x
+  pub room : logEnd (log x) + allStores is ≤ length x
   room = omega (arith, ok .fits, ok .check .long)
 
-  stored-length : (k : ℕ) → k ≤ allStores is → length (appending x (log x) is (checkTag size) k) ≡ length x
+  pub stored-length : (k : ℕ) → k ≤ allStores is → length (appending x (log x) is (checkTag size) k) ≡ length x
   unfolding appending
   stored-length k hk = length-paste x (logEnd (log x)) (commitBytes allOnes (logEndTag (log x)) is (checkTag size)) k
       (omega (arith, room)) (omega (arith, bytes-length))
