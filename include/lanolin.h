@@ -169,7 +169,8 @@ int32_t lanolin_getgstate(lanolin_geometry g, const uint8_t *b0, size_t b0_len, 
 /* ---- writing; a refused call alters no byte */
 
 /* One commit of all the entries, appended to the block that answers; answers what a fetch of the finished pair from the
- * same seed gives. */
+ * same seed gives. Where there is no room for it the result says why; LANOLIN_NEEDS_COMPACTION says that a compaction
+ * serves. */
 lanolin_committed lanolin_commit(lanolin_geometry g, uint8_t *b0, size_t b0_len, uint8_t *b1, size_t b1_len,
                                  uint32_t n0, uint32_t n1, uint32_t block_count, uint32_t seed,
                                  const lanolin_entry *entries, size_t entries_len,
