@@ -30,7 +30,8 @@ CASES, EXPECTED = [], []
 
 
 def fnv1a(image):
-    """FNV-1a of an image. Not a CRC-32: it stands in the image behind what it sums, so that all whole blocks have one."""
+    """FNV-1a of an image. Not a CRC-32: each commit ends with that sum of itself, so it would not tell what whole
+    commits hold, only where they end."""
     value = 0x811C9DC5
     for byte in image:
         value = (value ^ byte) * 0x01000193 % 2 ** 32
@@ -147,8 +148,8 @@ dirty = image[:127] + b"\x00"
 refused("commit-misaligned", "commit", 128, 32, (image, erased), DEADLINE, SECONDS, -211)
 refused("commit-top-bit", "commit", 128, 16, (flipped, erased), DEADLINE, SECONDS, -212)
 refused("commit-last-byte-not-erased", "commit", 128, 16, (dirty, erased), DEADLINE, SECONDS, -213, 127)
-refused("commit-first-byte-not-erased", "commit", 128, 16, (image[:48] + b"\xfe" + image[49:], erased), DEADLINE, SECONDS,
-        -213, 48)
+refused("commit-first-byte-not-erased", "commit", 128, 16, (image[:48] + b"\xfe" + image[49:], erased), DEADLINE,
+        SECONDS, -213, 48)
 refused("commit-three-bytes-not-erased", "commit", 128, 16,
         (image[:70] + b"\x7f" + image[71:90] + b"\x00" + dirty[91:], erased), DEADLINE, SECONDS, -213, 70)
 # the first commit of a log that was cut short behind 5 of its 16 bytes, and the one that it is tried again with

@@ -49,7 +49,8 @@ static size_t entries_of(char *text) {
     return n;
 }
 
-/* FNV-1a of an image. Not a CRC-32: it stands in the image behind what it sums, so that all whole blocks have one. */
+/* FNV-1a of an image. Not a CRC-32: each commit ends with that sum of itself, so it would not tell what whole commits
+ * hold, only where they end. */
 static uint32_t sum(const uint8_t *image, size_t n) {
     uint32_t h = 0x811c9dc5;
     while (n--) h = (h ^ *image++) * 0x01000193;

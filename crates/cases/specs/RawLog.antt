@@ -15,7 +15,8 @@ use Rattle.format.specs.Fetch.{geometryFits, pairFits, tooHigh, erasedOf, mdirO
 use Rattle.format.specs.Listing.{ascii, hexDigit, decimalIn, hexBytes, numberLine, refusedLine, fetchInput, inputPair}
 use Rattle.format.specs.RawLog.{margin, column, idColumn, sizeColumn, nameIn, className, tagName, typeColumns}
 use Rattle.format.specs.RawLog.{tagColumns, cell, hexCells, letter, letters, cells, cutData, dataLine, dataLines}
-use Rattle.format.specs.RawLog.{fullData, entryText, checkText, stopLine, invalidStop, checkStop, pastStop, stopText, eventTexts}
+use Rattle.format.specs.RawLog.{fullData, entryText, checkText, stopLine, invalidStop, checkStop, pastStop, stopText}
+use Rattle.format.specs.RawLog.{eventTexts}
 use Rattle.format.specs.RawLog.{committedLine, blockLog, answersLine, isShown, blockLogs, rawLogOf}
 use Rattle.cases.specs.Listing.{blank, listing}
 
@@ -33,11 +34,11 @@ pub logged : rawLogOf false 16 inputPair (listing ++ blank 128)
     ++ (ascii "stops at 00000008: no valid tag, the word there is ffffffff\nnothing is committed\n\n"
     ++ ascii "block 0 answers\n")))))))))
 unfolding fetchInput refusedLine numberLine hexBytes decimalIn hexDigit margin column idColumn sizeColumn nameIn
-    className tagName typeColumns tagColumns cell hexCells letter letters cells cutData dataLine dataLines fullData entryText
-    checkText stopLine invalidStop checkStop pastStop stopText eventTexts committedLine blockLog answersLine isShown
-    blockLogs fetchOf mdirOf erasedOf tooHigh pairFits geometryFits view rank seedOf forwardOf splitOf tailOf countOf
-    counted stoppedStraight tagAfter span eventLength log committed walk walkFrom walkIn classOf readBehind bodyLength
-    tagFlipped tagLength be32 le32 toBe32 toLe32 xor crc crcByte crcBits crcBit
+    className tagName typeColumns tagColumns cell hexCells letter letters cells cutData dataLine dataLines fullData
+    entryText checkText stopLine invalidStop checkStop pastStop stopText eventTexts committedLine blockLog answersLine
+    isShown blockLogs fetchOf mdirOf erasedOf tooHigh pairFits geometryFits view rank seedOf forwardOf splitOf tailOf
+    countOf counted stoppedStraight tagAfter span eventLength log committed walk walkFrom walkIn classOf readBehind
+    bodyLength tagFlipped tagLength be32 le32 toBe32 toLe32 xor crc crcByte crcBits crcBit
 logged = refl
 
 -- all data, in lines below the tags
@@ -54,10 +55,10 @@ pub in-full : blockLog true 7 listing
     ++ (ascii "      00000023: 47 38 e4 4d ff ff ff ff ff ff ff ff ff           G8.M.........\n"
     ++ ascii "stops at 00000030: no valid tag, the word there is ffffffff\ncommitted up to 00000030\n\n")))))))))
 unfolding fetchInput refusedLine numberLine hexBytes decimalIn hexDigit margin column idColumn sizeColumn nameIn
-    className tagName typeColumns tagColumns cell hexCells letter letters cells cutData dataLine dataLines fullData entryText
-    checkText stopLine invalidStop checkStop pastStop stopText eventTexts committedLine blockLog answersLine isShown
-    blockLogs tagAfter span eventLength log committed walk walkFrom walkIn classOf readBehind bodyLength tagFlipped
-    tagLength be32 le32 toBe32 toLe32 xor crc crcByte crcBits crcBit
+    className tagName typeColumns tagColumns cell hexCells letter letters cells cutData dataLine dataLines fullData
+    entryText checkText stopLine invalidStop checkStop pastStop stopText eventTexts committedLine blockLog answersLine
+    isShown blockLogs tagAfter span eventLength log committed walk walkFrom walkIn classOf readBehind bodyLength
+    tagFlipped tagLength be32 le32 toBe32 toLe32 xor crc crcByte crcBits crcBit
 in-full = refl
 
 -- torn: behind its tag the check's first byte is 0x46 and not 0x47, so nothing of the block is committed
@@ -70,10 +71,10 @@ pub torn : blockLog false 0 (take 35 listing ++ (0x46 ∷ drop 36 listing))
     ++ (ascii "0000001f: 500ffc0d  500  ccrc           .   13  checksum 4de43846 does not fit, computed 4de43847\n"
     ++ ascii "stops at 0000001f: the checksum does not fit\nnothing is committed\n\n")))))
 unfolding fetchInput refusedLine numberLine hexBytes decimalIn hexDigit margin column idColumn sizeColumn nameIn
-    className tagName typeColumns tagColumns cell hexCells letter letters cells cutData dataLine dataLines fullData entryText
-    checkText stopLine invalidStop checkStop pastStop stopText eventTexts committedLine blockLog answersLine isShown
-    blockLogs tagAfter span eventLength log committed walk walkFrom walkIn classOf readBehind bodyLength tagFlipped
-    tagLength be32 le32 toBe32 toLe32 xor crc crcByte crcBits crcBit
+    className tagName typeColumns tagColumns cell hexCells letter letters cells cutData dataLine dataLines fullData
+    entryText checkText stopLine invalidStop checkStop pastStop stopText eventTexts committedLine blockLog answersLine
+    isShown blockLogs tagAfter span eventLength log committed walk walkFrom walkIn classOf readBehind bodyLength
+    tagFlipped tagLength be32 le32 toBe32 toLe32 xor crc crcByte crcBits crcBit
 torn = refl
 
 -- an input that can't be two blocks: nothing is shown of it

@@ -180,7 +180,8 @@ module _ (dat : List ℕ) (entries : List Entry) (w : Bool) (b0 b1 : List ℕ) (
         → Ran b0 b1 n (verdict x y z) (laidBy (tests x y z))
     ran-tests true y z e = ran-refused b0 b1 n w NoSpace _ (laid-refused w NoSpace b0 b1 entries dat)
     ran-tests false (room.Refused r) z e = ran-refused b0 b1 n w r _ (laid-refused w r b0 b1 entries dat)
-    ran-tests false room.Clean true e = ran-refused b0 b1 n w Coincidence _ (laid-refused w Coincidence b0 b1 entries dat)
+    ran-tests false room.Clean true e =
+        ran-refused b0 b1 n w Coincidence _ (laid-refused w Coincidence b0 b1 entries dat)
     ran-tests false room.Clean false e =
         let fit : roundedEnd prog (checkAt (log B) I) ≤ length B =
         ltb-false (length B) (roundedEnd prog (checkAt (log B) I)) e in

@@ -36,7 +36,7 @@ pub fn check_tag(prog: u32, at: usize) -> u32
     LFS_CHECK_TAG + (size as u32)
 }
 
-// The offset of the first byte from the old end on that isn't erased; the block's end, where all are.
+// The offset of the first byte from the old end on that isn't erased; where all are, the offset behind them.
 fn first_unerased(b: &[u8], end: usize) -> usize
     ensures { λ r. ⌜ r ≡ firstUnerased (now (b .entry)) end ⌝ }
 {

@@ -23,11 +23,11 @@ geometryFits g =
     leb 4 (g .«prog_size») && leb (g .«prog_size») 512 && leb 128 (g .«block_size») && leb (g .«block_size») 32_768
     && eqb (g .«block_size» % g .«prog_size») 0
 
--- "Two images, each exactly one block long."
+-- Sizes that fit, and "two images, each exactly one block long".
 abbrev pub imagesFit : Geometry → ℕ → ℕ → Bool
 imagesFit g length0 length1 = geometryFits g && eqb length0 (g .«block_size») && eqb length1 (g .«block_size»)
 
--- "Two block numbers, not equal."
+-- All that document 01 asks of a pair: these, and "two block numbers, not equal".
 unfoldable pub pairFits : Geometry → ℕ → ℕ → ℕ → ℕ → Bool
 pairFits g length0 length1 n0 n1 = imagesFit g length0 length1 && not (eqb n0 n1)
 

@@ -33,7 +33,9 @@ module _ (prog : ℕ) (b : List ℕ) (end etag : ℕ) where
 
   -- of the bytes from the old end on, by their offset in the block
   byte-at : (i : ℕ) → end ≤ i → getD (drop end b) (i - end) 0 ≡ getD b i 0
-  byte-at i h = getD-drop end b (i - end) 0 ∙ ap (λ (k : ℕ). getD b k 0) (let e : end + (i - end) ≡ i = omega arith in e)
+  byte-at i h =
+      let same : end + (i - end) ≡ i = omega arith in
+      getD-drop end b (i - end) 0 ∙ ap (λ (k : ℕ). getD b k 0) same
 
   all-bytes : allErased (drop end b) ≡ true → (i : ℕ) → end ≤ i → i < length b → getD b i 0 ≡ 0xff
   all-bytes h i from inside =

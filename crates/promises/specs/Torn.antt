@@ -21,7 +21,7 @@ use Rattle.format.specs.declared.Entry.{Entry}
 use Rattle.format.specs.declared.Refusal.the-variants.{NotErased}
 use Rattle.format.specs.declared.Room.the-variants.{Refused}
 use Rattle.theory.specs.Rules.MadeItem.{AllMade}
-use Rattle.theory.specs.Stopped.Commit.{takes, ok, bytes-length, room, stored-length, commit-written}
+use Rattle.theory.specs.Stopped.Commit as stopped
 use Rattle.promises.specs.Accepted.{commit-accepted-exactly}
 use Rattle.promises.specs.Room.{NoReason, clean-exactly, not-erased-exactly}
 
@@ -60,13 +60,13 @@ module _ (g : Geometry) (b0 b1 : List ℕ) (n0 n1 count seed : ℕ) (entries : L
 
   -- what every accepted commit has: its bytes, room for them, and a block that keeps its length
   long : length bytes ≡ allStores is
-  long = bytes-length g b0 b1 n0 n1 count seed entries dat second is size h
+  long = stopped.bytes-length g b0 b1 n0 n1 count seed entries dat second is size h
 
   fits : end + allStores is ≤ length old
-  fits = room g b0 b1 n0 n1 count seed entries dat second is size h
+  fits = stopped.room g b0 b1 n0 n1 count seed entries dat second is size h
 
   same-length : length (storedTo old is size n) ≡ length old
-  same-length = stored-length g b0 b1 n0 n1 count seed entries dat second is size h made (omega arith)
+  same-length = stopped.stored-length g b0 b1 n0 n1 count seed entries dat second is size h made (omega arith)
 
   no-reason : NoReason (g .«prog_size») old end etag
   no-reason = clean-exactly (g .«prog_size») old end etag .0
@@ -85,13 +85,13 @@ module _ (g : Geometry) (b0 b1 : List ℕ) (n0 n1 count seed : ℕ) (entries : L
   small : getD bytes 0 0 < 0xff
   small =
       begins allOnes etag is (checkTag size) (no-reason .top)
-      (ok g b0 b1 n0 n1 count seed entries dat second is size h .check .small)
-      (takes g b0 b1 n0 n1 count seed entries dat second is size h .made)
+      (stopped.ok g b0 b1 n0 n1 count seed entries dat second is size h .check .small)
+      (stopped.takes g b0 b1 n0 n1 count seed entries dat second is size h .made)
 
   pub torn-at-end : roomOf (g .«prog_size») (blockAt second (left .b0) (left .b1)) end etag ≡ Refused (NotErased end)
   torn-at-end =
       ap (λ (b : List ℕ). roomOf (g .«prog_size») b end etag)
-      (commit-written g b0 b1 n0 n1 count seed entries dat second is size h n .0)
+      (stopped.commit-written g b0 b1 n0 n1 count seed entries dat second is size h n .0)
       ∙ not-erased-exactly (g .«prog_size») (storedTo old is size n) end etag end .1 (
         no-reason .aligned,
         no-reason .top,

@@ -17,7 +17,7 @@ pub fn geometry_fits(g: Geometry) -> bool
     (prog <= 512) & (128 <= block) & (block <= 32_768) & (block % prog == 0)
 }
 
-// "Two images, each exactly one block long."
+// Sizes that fit, and "two images, each exactly one block long".
 pub fn images_fit(g: Geometry, len0: usize, len1: usize) -> bool
     ensures { λ r. ⌜ r ≡ imagesFit g len0 len1 ⌝ }
 {
@@ -25,7 +25,7 @@ pub fn images_fit(g: Geometry, len0: usize, len1: usize) -> bool
     geometry_fits(g) & (len0 == block_size) & (len1 == block_size)
 }
 
-// "Two block numbers, not equal."
+// These, and "two block numbers, not equal".
 pub fn pair_fits(g: Geometry, len0: usize, len1: usize, n0: u32, n1: u32) -> bool
     ensures { λ r. ⌜ r ≡ pairFits g len0 len1 n0 n1 ⌝ }
 {

@@ -1,7 +1,7 @@
 //! What a recovery does next, at some of the stops: it fetches again; it tries a
 //! commit, which a torn room refuses with -213 at the old end, since a commit's
-//! first byte is never 0xff; it compacts, which is accepted as
-//! it would have been before, and gives the directory that fetch gave.
+//! first byte is never 0xff; it compacts, which is accepted as it would have been
+//! before, and gives the directory that fetch gave.
 //!
 //! Assumes nothing.
 

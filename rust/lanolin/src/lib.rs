@@ -30,8 +30,9 @@
 //! do then.
 //!
 //! The constants are those of `include/lanolin.h` without their `LANOLIN_`. Whole
-//! programs are `examples/first.rs`, in ten lines, `examples/deadline.rs`, and
-//! `examples/restart.rs`, a controller's restart.
+//! programs are `examples/first.rs`, in ten lines, `examples/deadline.rs`,
+//! `examples/set_deadline.rs`, which writes, and `examples/restart.rs`, a
+//! controller's restart.
 //!
 //! The calls with a limit of stores, which are for trying what a power cut
 //! leaves, and most of the leaves are not here; `include/lanolin.h` has them.
