@@ -36,7 +36,7 @@ FACTS = re.compile("|".join((
     r"(as printed|computed as far as they go), the two (types|sides) ",
     r"expected type `",
     r"`(search|cc)`: no proof of `",
-    r"`omega`: the goal does not follow",
+    r"`omega`: the (part `\.\w+` of the )?goal does not follow",
     r"`(rw|simp)`: no occurrence of the path's left endpoint in the goal",
     r"give a proof of that as the last argument, `(rw|simp) L t`",
     r"list the missing equation with its arguments",

@@ -7,6 +7,8 @@
 //! Assumes that nothing else of weight runs meanwhile.
 
 #[cfg(lfs_rust)]
+mod counts;
+#[cfg(lfs_rust)]
 mod directory;
 #[cfg(lfs_rust)]
 mod measure;
@@ -92,6 +94,9 @@ fn read_lines() -> bool {
         );
         print_line("lfs_crc", len, Some(len), &times);
         missed |= len == GOAL.1 && times.ratio() > GOAL.0;
+    }
+    for (name, times) in counts::lines() {
+        print_line(name, 4, None, &times);
     }
     for (block_size, slots, in_a_commit, looked_up) in DIRECTORIES {
         let directory = directory::Directory::new(block_size, slots, in_a_commit);

@@ -1,26 +1,23 @@
+use mathlib.Core.Path.{_≡_, ap, _∙_}
+use Prim.Native.Nat.{ℕ, _-_, max}
 use native.Mathlib.Omega.{arith}
-use Rattle.bits.proofs.Stairs.{npw2-is}
+use lib.Count.{leadingZeros, leading-le}
+use Rattle.format.specs.Word.{minus32}
+use Rattle.format.specs.Arith.{npw2}
 use borrow.Author.Needs.{needs}
 use Rattle.bits.proofs.lfs_npw2.Statement.{statement}
 use Rattle.bits.proofs.lfs_npw2.Tie as tie
 
+sub-lfs-max : tie.Need-sub-lfs-max
+sub-lfs-max c = leading-le 32 (c .wrapping-sub-u32 .result)
+
 returns : tie.Need-returns
+unfolding npw2
 returns c =
-    let c4 = c .before in
-    let c3 = c4 .before in
-    let c2 = c3 .before in
-    let c1 = c2 .before in
-    let c0 = c1 .before in
-    npw2-is (c0 .before .args .a) (c0 .wrapping-sub-u32 .result) (c1 .drop-of .result) (c2 .drop-of2 .result)
-    (c3 .drop-of3 .result) (c4 .drop-of4 .result) (c .drop-of5 .result) (c1 .drop-of .ensures)
-    (c2 .drop-of2 .ensures) (c3 .drop-of3 .ensures) (c4 .drop-of4 .ensures) (c .drop-of5 .ensures)
-    (omega (arith, c0 .wrapping-sub-u32 .ok))
-    (omega (arith, c0 .wrapping-sub-u32 .ensures, c0 .wrapping-sub-u32 .ok, c0 .before .fits .a))
+    let less = c .before .wrapping-sub-u32 in
+    let start = c .before .before in
+    let e : less .result ≡ minus32 (start .args .a) 1 = omega (arith, less .ensures, less .ok, start .fits .a) in
+    c .lfs-max .ensures ∙ ap (λ (w : ℕ). max 1 (32 - leadingZeros 32 w)) e
 
 pub lfs-npw2-spec : {M : Type 1} → statement M
-lfs-npw2-spec =
-    tie.close
-    (tie.spec (λ c κs. search needs) (λ c κs. search needs) (λ c. search needs) (λ c κs. search needs)
-    (λ c. search needs) (λ c κs. search needs) (λ c. search needs) (λ c κs. search needs) (λ c. search needs)
-    (λ c κs. search needs) (λ c. search needs) (λ c. search needs) (λ c. search needs) (λ c. search needs)
-    (λ c. search needs) returns)
+lfs-npw2-spec = tie.close (tie.spec (λ c κs. search needs) sub-lfs-max (λ c κs. search needs) returns)

@@ -2,14 +2,14 @@
 use mathlib.Core.Path.{_≡_, refl, sym, ap, ap₂, _∙_}
 use Prim.Native.Nat.{ℕ, zero, suc, _+_, _-_, _*_, _/_, _%_, _^_, _<_, _≤_, min}
 use native.Mathlib.Nat.{mod-lt, le-of-suc-le-suc, not-suc-le-zero, zero-lt-suc, pow-suc, lt-irrefl, lt-of-le-of-lt}
-use native.Mathlib.Nat.{le-of-eq, le-trans, lt-of-not-le}
+use native.Mathlib.Nat.{le-of-eq, le-trans, lt-of-not-le, le-max-right}
 use native.Mathlib.Omega.{arith}
 use lib.Arith.{lt-one}
 use lib.Pow.{pow-pos, pow-mono}
 use lib.Bits.{bitAnd, and-step, and-le-l}
 use lib.Count.{leadingZeros, trailingZeros, under}
 use Rattle.format.specs.Arith.{npw2, ctz}
-use Rattle.bits.proofs.Stairs.{top-npw2}
+use Rattle.bits_shifts.proofs.Stairs.{top-npw2}
 
 -- a number and its complement have no digit in common
 apart : (k b : ℕ) → b < 2 ^ k → bitAnd b (2 ^ k - 1 - b) ≡ 0
@@ -60,7 +60,7 @@ ctz-is (suc n) m h hm e =
     (lt-of-le-of-lt (pow-mono {i = 32} {j = t} g) b)) in
     let q : t + 1 ≡ npw2 ((bitAnd a m + 1) % 2 ^ 32) =
     top-npw2 ((bitAnd a m + 1) % 2 ^ 32) (2 ^ t) t (omega (arith, low, b, pow-pos t)) l
-    (record { low = native.Mathlib.Nat.le-refl (2 ^ t); high = omega (arith, pow-pos t) }) in
+    (record { low = le-max-right 1 (2 ^ t); high = omega (arith, pow-pos t) }) in
     omega (arith, q)
 
 pub npw2-pos : (a : ℕ) → 1 ≤ npw2 a

@@ -1,4 +1,0 @@
--- Why the stairs of shifts count what they count.
-mod Stairs
-mod Lowest
-mod Fields

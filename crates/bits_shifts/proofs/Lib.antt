@@ -1,0 +1,4 @@
+-- Why the shifts count what they count.
+mod Stairs
+mod Lowest
+mod Fields
