@@ -38,6 +38,7 @@ macro_rules! calls_on_numbers {
             $(fn $call($($name: $type),*) -> $answer;)*
         }
         $(
+            #[inline] // so that a benchmark pays for one call
             pub fn $wrapper($($name: $type),*) -> $answer {
                 // SAFETY: the call takes numbers, and any number is answered.
                 unsafe { $call($($name),*) }

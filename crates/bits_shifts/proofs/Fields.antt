@@ -1,5 +1,6 @@
 -- Counting a word's set digits by adding neighbouring fields: the sum of a word's fields of k digits is the sum of its
--- fields of k + k digits once each is replaced by the sum of its two halves. Assumes nothing.
+-- fields of k + k digits once each is replaced by the sum of its two halves. First such pairings, then the Rust's own
+-- lines. Assumes nothing.
 use mathlib.Core.Path.{_≡_, refl, sym, ap, ap₂, _∙_, subst}
 use Prim.Native.Nat.{ℕ, zero, suc, _+_, _-_, _*_, _/_, _%_, _^_, _<_, _≤_}
 use native.Mathlib.Nat.{mod-lt, add-mul, add-assoc, lt-of-lt-of-le, le-add-right, mul-le-mul-left, pow-suc, zero-mod}
@@ -10,16 +11,16 @@ use lib.Bits.{bitAnd, and-block, and-mask, and-zero-r, and-le-r}
 use lib.Count.{ones, onesIn, ones-step}
 
 -- the fields of y that a mask keeps, and those k digits up, added
-unfoldable pub halvesAdded : ℕ → ℕ → ℕ → ℕ
+unfoldable halvesAdded : ℕ → ℕ → ℕ → ℕ
 halvesAdded k mask y = bitAnd y mask + bitAnd (y / 2 ^ k) mask
 
 -- the sum of the m low fields of k digits
-unfoldable pub sum : ℕ → ℕ → ℕ → ℕ
+unfoldable sum : ℕ → ℕ → ℕ → ℕ
 sum k zero x = zero
 sum k (suc m) x = x % 2 ^ k + sum k m (x / 2 ^ k)
 
 -- the k low digits of each of m fields of k + k
-unfoldable pub evens : ℕ → ℕ → ℕ
+unfoldable evens : ℕ → ℕ → ℕ
 evens k zero = zero
 evens k (suc m) = evens k m * 2 ^ (k + k) + (2 ^ k - 1)
 
@@ -56,11 +57,11 @@ room (suc k) x y p hx hy =
     omega (arith, e, f)
 
 -- twice m, so that a count of 2 m fields unfolds two at a time
-unfoldable pub twice : ℕ → ℕ
+unfoldable twice : ℕ → ℕ
 twice zero = zero
 twice (suc m) = suc (suc (twice m))
 
-pub pair-sum : (k m y : ℕ) → 0 < k → sum (k + k) m (halvesAdded k (evens k m) y) ≡ sum k (twice m) y
+pair-sum : (k m y : ℕ) → 0 < k → sum (k + k) m (halvesAdded k (evens k m) y) ≡ sum k (twice m) y
 unfolding sum twice
 pair-sum k zero y p = refl
 pair-sum k (suc m) y p =
@@ -79,9 +80,9 @@ unfolding sum ones onesIn
 ones-sum zero x h = ap ones (sym (lt-one h))
 ones-sum (suc n) x h = ap (λ (k : ℕ). x % 2 + k) (ones-sum n (x / 2) (omega (arith, pow-suc 2 n))) ∙ sym (ones-step x)
 
--- ---- what the Rust's lines do in place of a plain pairing
+-- ---- what the Rust's lines have in place of plain pairings
 
--- the first: a word is its even digits and twice its odd ones, so that the odd ones taken off leave both, added
+-- The first: a word is its even digits and twice its odd ones, so that the odd ones taken off leave both, added.
 twos : (m y : ℕ) → y < 4 ^ m → bitAnd y (evens 1 m) + bitAnd (y / 2) (evens 1 m) * 2 ≡ y
 unfolding evens
 twos zero y h = rw (lt-one h) refl
@@ -92,7 +93,7 @@ twos (suc m) y h =
     omega (arith, low-field 1 y (evens 1 m), low-field 1 (y / 2) (evens 1 m), rest, odd)
 
 -- each of the m fields of k digits is at most b, and nothing stands above them
-unfoldable pub Within : ℕ → ℕ → ℕ → ℕ → Type 0
+unfoldable Within : ℕ → ℕ → ℕ → ℕ → Type 0
 Within k b zero x = x ≡ 0
 Within k b (suc m) x = (x % 2 ^ k ≤ b) × Within k b m (x / 2 ^ k)
 
@@ -106,7 +107,7 @@ unfolding halvesAdded evens
 none k y = ap₂ (λ (u v : ℕ). u + v) (and-zero-r y) (and-zero-r (y / 2 ^ k))
 
 -- a pairing's fields
-pub pair-within : (k m y : ℕ) → 0 < k → Within (k + k) ((2 ^ k - 1) + (2 ^ k - 1)) m (halvesAdded k (evens k m) y)
+pair-within : (k m y : ℕ) → 0 < k → Within (k + k) ((2 ^ k - 1) + (2 ^ k - 1)) m (halvesAdded k (evens k m) y)
 unfolding Within
 pair-within k zero y p = none k y
 pair-within k (suc m) y p =
@@ -128,8 +129,8 @@ sum-high x l h n =
     let whole : x + x / 16 ≡ (q + q / 16) * 256 + rest = omega arith in
     ap (λ (n : ℕ). n / 256) whole ∙ digits-div (q + q / 16) (omega arith)
 
--- the third: such fields are added first and masked then
-pub bytes : (m x : ℕ) → Within 4 6 (twice m) x → bitAnd (x + x / 2 ^ 4) (evens 4 m) ≡ halvesAdded 4 (evens 4 m) x
+-- The third: such fields are added first and masked then.
+bytes : (m x : ℕ) → Within 4 6 (twice m) x → bitAnd (x + x / 2 ^ 4) (evens 4 m) ≡ halvesAdded 4 (evens 4 m) x
 unfolding Within twice evens
 bytes zero x h = and-zero-r (x + x / 2 ^ 4) ∙ sym (none 4 x)
 bytes (suc m) x h =
@@ -137,12 +138,11 @@ bytes (suc m) x h =
     let lo = sum-low x (h .0) (h .1 .0) in
     let hi = sum-high x (h .0) (h .1 .0) (first 4 6 (twice m) (x / 256) deeper) in
     low-field 4 (x + x / 16) (evens 4 m) ∙ ap₂ (λ (u v : ℕ). bitAnd u (evens 4 m) * 256 + v) hi lo
-    ∙ ap (λ (n : ℕ). n * 256 + (x % 16 + x / 16 % 16))
-    (bytes m (x / 256) deeper)
+    ∙ ap (λ (n : ℕ). n * 256 + (x % 16 + x / 16 % 16)) (bytes m (x / 256) deeper)
     ∙ sym (pair-step 4 m x)
 
--- the last: four bytes, none above 30, times 0x0101_0101: the fourth byte of the product is the bytes' sum
-pub product : (y : ℕ) → Within 8 30 4 y → bitAnd (y * 0x0101_0101 / 2 ^ 24) 0xff ≡ sum 8 4 y
+-- The last: four bytes, none above 30, times 0x0101_0101: the fourth byte of the product is the bytes' sum.
+product : (y : ℕ) → Within 8 30 4 y → bitAnd (y * 0x0101_0101 / 2 ^ 24) 0xff ≡ sum 8 4 y
 unfolding Within sum
 product y h =
     let b0 : y % 256 ≤ 30 = h .0 in
@@ -163,12 +163,12 @@ product y h =
     ∙ digits-mod above (omega arith)
     ∙ omega arith
 
--- ---- the four lines
+-- ---- the lines, one after the other
 
 abbrev pub twosOf : ℕ → ℕ
 twosOf a = a - bitAnd (a / 2 ^ 1) 0x5555_5555
 
-abbrev pub foursOf : ℕ → ℕ
+abbrev foursOf : ℕ → ℕ
 foursOf a = bitAnd (twosOf a) 0x3333_3333 + bitAnd (twosOf a / 2 ^ 2) 0x3333_3333
 
 pub popc-is : (a w : ℕ) → a < 2 ^ 32 → w ≡ (foursOf a + foursOf a / 2 ^ 4) % 2 ^ 32

@@ -13,7 +13,7 @@ pub fn agree(a: u32) -> bool
         & (lfs_popc(a) == bits::lfs_popc(a))
 }
 
-// Per util.rs lfs_npw2: five steps, each of which halves the digits that are left.
+// Per util.rs lfs_npw2: four steps, each of which halves the digits that are left, and the upper one of the last two.
 pub fn lfs_npw2(a: u32) -> u32
     ensures { λ r. ⌜ r ≡ npw2 a ⌝ }
 {

@@ -40,8 +40,8 @@ fn corners() {
     show(0xffff_ffff);
 }
 
-// The i-th of words that are all different before they are shifted, so many digits down or up: of every length, and with
-// every number of zeros at their end.
+// The i-th of words that are all different before they are shifted down or up: they have every length, and every number
+// of zeros at their end.
 fn word(i: u32) -> u32 {
     let spread = ((i as u64) * 0x9e37_79b1 % 0x1_0000_0000) as u32;
     let digits = i / 2 % 32;
