@@ -1,7 +1,7 @@
 //! `lfs_npw2`, `lfs_ctz` and `lfs_popc`, the mean over words of any length.
 //!
-//! A call takes no longer than its call and return do, so each waits for the one
-//! before: the lowest bit of its word is altered by the last answer.
+//! The functions are so short that a processor would overlap their calls. So each
+//! call waits for the one before: the lowest bit of its word depends on the answer.
 
 use crate::measure::{side_by_side, Times};
 use oracle::{port, random::Random, rust::util as rust};
@@ -19,7 +19,11 @@ pub fn lines() -> [(&'static str, Times); 3] {
 fn of_each_word(port: impl Fn(u32) -> u32, rust: impl Fn(u32) -> u32) -> Times {
     let mut random = Random::new(WORDS as u64);
     let words: Vec<u32> = (0..WORDS).map(|_| random.word_of_any_width()).collect();
-    side_by_side(|sum| chain(&words, sum, &port), |sum| chain(&words, sum, &rust)).of_each(WORDS)
+    side_by_side(
+        |sum| chain(&words, sum, &port),
+        |sum| chain(&words, sum, &rust),
+    )
+    .of_each(WORDS)
 }
 
 fn chain(words: &[u32], sum: u32, call: impl Fn(u32) -> u32) -> u32 {
