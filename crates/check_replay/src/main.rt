@@ -208,7 +208,7 @@ fn slice_into(head: [u8; 128], b0: &[u8], b1: &[u8], want: &[u8], buffer: &mut [
         at(head, GOFF),
         buffer,
     ) {
-        Got::Found(t) => (result == 0) & (t == at(head, WANT_TAG)),
+        Got::Found(e) => (result == 0) & (e.tag == at(head, WANT_TAG)),
         Got::Refused(r) => result == number(r),
     };
     equal & check::same(buffer, want)

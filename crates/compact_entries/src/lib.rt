@@ -5,18 +5,20 @@ ghost use mathlib.Core.Path.{_≡_};
 ghost use mathlib.Core.Bool.{cond};
 ghost use mathlib.Core.List.{_∷_, _++_};
 ghost use Prim.Native.Nat.{_+_, _^_, _<_};
+ghost use lib.ListN.{length};
 ghost use Rattle.format.specs.Log.{log};
 ghost use Rattle.format.specs.Word.{xor, toBe32, toLe32};
 ghost use Rattle.format.specs.Kind.{typeTail, typeHardTail};
 ghost use Rattle.format.specs.Crc.{crc};
 ghost use Rattle.format.specs.Directory.{classes, dirOf};
-ghost use Rattle.format.specs.Compaction.{classItems, slotItems, dirItems, tailItems, compactionItems};
+ghost use Rattle.format.specs.Look.{HitIn};
+ghost use Rattle.format.specs.Compaction.{slotItems, dirItems, tailItems, compactionItems};
 ghost use Rattle.commit_lay.specs.Laid.{laid, putsOf, bodyOf};
-ghost use Rattle.compact_slot.specs.Seat.{loadIn};
 ghost use Rattle.compact_slot.specs.Slots.{slotIn};
-ghost use Rattle.compact_entries.specs.Emitted.{standing, emitted, emits, createItem, Seated, SlotSeated, Source};
-ghost use Rattle.compact_entries.specs.Emitted.{Read};
+ghost use Rattle.compact_entries.specs.Emitted.{standing, emitted, emits, createItem, hitItems, SlotSeated};
+ghost use Rattle.compact_entries.specs.Emitted.{Source, Read};
 use commit_lay::Run;
+use format::Hit;
 use format::LfsMdir;
 use format::LfsPair;
 use format::types::*;
@@ -45,23 +47,20 @@ fn entry(new: &mut [u8], e: Emit, tag: u32, dat: &[u8], off: u32, len: u32) -> E
     }
 }
 
-// What stands at a seat, as an entry of the id: nothing at a free one, and nothing for a removal.
-fn class_entry(old: &[u8], new: &mut [u8], e: Emit, id: u32, seat: u64) -> Emit
-    requires { ⌜ Seated (now old) e id seat ⌝ }
+// An entry that was found, with the tag that it was found with; or nothing.
+fn found_entry(old: &[u8], new: &mut [u8], e: Emit, h: Hit) -> Emit
+    requires { ⌜ (e .end < 2 ^ 32) × HitIn (length (now old)) h ⌝ }
     ensures { λ r. ⌜ standing r (now (new .exit)) ≡ emits (standing e (now (new .entry)))
-        (classItems id (loadIn (now (old .entry)) seat)) ⌝ }
+        (hitItems (now (old .entry)) h) ⌝ }
 {
-    let p = compact_slot::held_at(seat);
-    if !p.held {
-        return e;
+    match h {
+        Hit::Nothing => e,
+        Hit::Found(f) => entry(new, e, f.tag, old, f.off, f.length - 4),
     }
-    let size = (p.to - p.from) as u32;
-    let tag = tag::lfs_mktag(p.kind as u32, id, size);
-    entry(new, e, tag, old, p.from as u32, size)
 }
 
 // A slot: its create, and what stands at its seats, by rising class.
-fn slot(old: &[u8], new: &mut [u8], e: Emit, id: u32, seats: &[u64; 258]) -> Emit
+fn slot(old: &[u8], new: &mut [u8], e: Emit, id: u32, seats: &[u32; 516]) -> Emit
     requires { ⌜ SlotSeated (now old) e id (now seats) ⌝ }
     ensures { λ r. ⌜ standing r (now (new .exit)) ≡ emits (standing e (now (new .entry)))
         (createItem id ∷ slotItems classes 0 id (slotIn (now (old .entry)) (now (seats .entry)))) ⌝ }
@@ -76,7 +75,7 @@ fn slot(old: &[u8], new: &mut [u8], e: Emit, id: u32, seats: &[u64; 258]) -> Emi
     );
     let mut class = 0;
     while class < compact_slot::CLASSES {
-        w = class_entry(old, new, w, id, seats[class]);
+        w = found_entry(old, new, w, compact_slot::found(seats, class));
         class += 1;
     }
     w
@@ -91,7 +90,7 @@ fn slots(old: &[u8], new: &mut [u8], e: Emit, end: usize, etag: u32, count: u32)
     let mut w = e;
     let mut id: u32 = 0;
     while id < count {
-        let seats = compact_slot::gather(old, end, etag, id as usize);
+        let seats = compact_slot::gather(old, end, etag, id);
         w = slot(old, new, w, id, &seats);
         id += 1;
     }
@@ -143,13 +142,10 @@ pub fn entries(old: &[u8], new: &mut [u8], e: Emit, dir: LfsMdir) -> Emit
     let pair = dir.tail;
     let w = slots(old, new, e, end, etag, dir.count as u32);
     let w = tail(new, w, dir.split, pair);
-    class_entry(
-        old,
-        new,
-        w,
-        NO_SLOT,
-        compact_slot::newest_move(old, end, etag),
-    )
+    let gmask = tag::lfs_mktag(TYPE3_MASK, 0, 0);
+    let gtag = tag::lfs_mktag(LFS_TYPE_MOVESTATE as u32, 0, 12);
+    let h = lookup_search::find_back(old, dir.off, etag, gmask, gtag, 0);
+    found_entry(old, new, w, h)
 }
 
 // The check behind the entries: its tag, and the checksum with it.

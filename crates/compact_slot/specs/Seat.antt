@@ -1,35 +1,35 @@
--- What one walk back gathers for a slot: for each class a seat, the newest entry's tag and place in one number. Assumes
--- nothing.
+-- What one walk back gathers for a slot: for each class a seat of two words, the newest entry's tag with the slot's id,
+-- and the offset of its first data byte. Assumes nothing.
 use mathlib.Core.Path.{_≡_}
 use mathlib.Core.Bool.{Bool, cond, _&&_}
-use mathlib.Core.Option.{Option, none}
 use mathlib.Core.List.{List}
-use Prim.Native.Nat.{ℕ, _+_, _-_, _*_, _/_, _%_, _^_, _≤_, _<_}
+use Prim.Native.Nat.{ℕ, _+_, _-_, _*_, _^_, _≤_, _<_}
 use lib.ListN.{length, getD, set}
 use lib.Dec.{eqb, leb, ltb}
-use Rattle.format.specs.Tag.{tagType3, tagChunk, tagId, tagLength}
+use Rattle.format.specs.Tag.{tagType3, tagChunk, tagId, tagSize, tagDelete, tagLength, tagOf}
 use Rattle.format.specs.Kind.{isName, typeCreate, typeDelete}
-use Rattle.format.specs.Directory.{classes, Load, Act, isStruct, isAttr, loadOf}
+use Rattle.format.specs.Directory.{classes, Act, isStruct, isAttr}
+use Rattle.format.specs.Look.{HitIn}
+use Rattle.format.specs.declared.Hit.{Hit}
+use Rattle.format.specs.declared.Hit.the-variants as hit
 use Rattle.theory.specs.Directory.Machine.{find, mostSlots}
-use Rattle.theory.specs.Lookup.ByMask.{bytesAt}
+use Rattle.theory.specs.Lookup.ByMask.{holds, Answers}
 
--- a tag of 32 bits above a place of 16
-abbrev pub seatOf : ℕ → ℕ → ℕ
-seatOf t at = t * 2 ^ 16 + at
+-- the two words of a class's seat
+abbrev pub seatTag : List ℕ → ℕ → ℕ
+seatTag seats c = getD seats (2 * c) 0
 
-abbrev pub seatTag : ℕ → ℕ
-seatTag v = v / 2 ^ 16 % 2 ^ 32
+abbrev pub seatOff : List ℕ → ℕ → ℕ
+seatOff seats c = getD seats (2 * c + 1) 0
 
-abbrev pub seatPlace : ℕ → ℕ
-seatPlace v = v % 2 ^ 16
+-- what they tell: nothing where the offset is 0, and nothing of a removal
+unfoldable pub hitOf : ℕ → ℕ → Hit
+hitOf t off =
+    cond (eqb off 0) hit.Nothing
+    (cond (tagDelete t) hit.Nothing (hit.Found (record { tag = t; length = tagLength t; off = off })))
 
--- what stands at a seat; 0 is none
-unfoldable pub loadIn : List ℕ → ℕ → Option Load
-loadIn b v = cond (eqb v 0) none (loadOf (seatTag v) (bytesAt b (record { tag = seatTag v; off = seatPlace v })))
-
--- it stands in the block whole
-abbrev pub Inside : List ℕ → ℕ → Type 0
-Inside b v = seatPlace v + tagLength (seatTag v) ≤ length b
+abbrev pub hitAt : List ℕ → ℕ → Hit
+hitAt seats c = hitOf (seatTag seats c) (seatOff seats c)
 
 -- the class of what an entry sets in its slot, or `classes`
 unfoldable pub seatClass : ℕ → ℕ
@@ -45,20 +45,24 @@ idBefore t id =
     cond (eqb (tagType3 t) typeCreate) (cond (ltb (tagId t) id) (id - 1) id)
     (cond (eqb (tagType3 t) typeDelete) (cond (leb (tagId t) id) (id + 1) id) id)
 
--- the seats after an entry of the slot: a newer one stays
-unfoldable pub noted : List ℕ → ℕ → ℕ → ℕ → List ℕ
-noted seats t at id =
-    cond (eqb (tagId t) id && ltb (seatClass t) classes && eqb (getD seats (seatClass t) 0) 0)
-    (set seats (seatClass t) (seatOf t at)) seats
+-- the seats with a tag and an offset in that of class k
+abbrev pub seated : List ℕ → ℕ → ℕ → ℕ → List ℕ
+seated seats k t off = set (set seats (2 * k) t) (2 * k + 1) off
 
--- what the walk asks: a block of at most 65,536 bytes with a word, the end inside, and an id that a slot can have
+-- the seats after an entry of the slot, whose id is `slot` there and `id` now: a newer one stays
+unfoldable pub noted : List ℕ → ℕ → ℕ → ℕ → ℕ → List ℕ
+noted seats t at slot id =
+    cond (eqb (tagId t) slot && ltb (seatClass t) classes && eqb (seatOff seats (seatClass t)) 0)
+    (seated seats (seatClass t) (tagOf (tagType3 t) id (tagSize t)) (at + 4)) seats
+
+-- what the walk asks: a block with its end inside and below 2 ^ 32, and an id that a slot can have
 pub record Gatherable (b : List ℕ) (end id : ℕ) : Type 0 where
-  pub word : 4 ≤ length b
-  pub most : length b ≤ 2 ^ 16
   pub inside : end ≤ length b
+  pub small : end < 2 ^ 32
   pub slot : id ≤ mostSlots
 
--- what it leaves: at each class's seat stands what the search back finds
+-- what it leaves: at each class's seat stands what the search back finds, whole in the block, its tag with the slot's id
 pub record Gathered (b : List ℕ) (l : List Act) (id : ℕ) (seats : List ℕ) : Type 0 where
-  pub loads : (c : ℕ) → c < classes → loadIn b (getD seats c 0) ≡ find c id l
-  pub inside : (c : ℕ) → c < classes → Inside b (getD seats c 0)
+  pub loads : (c : ℕ) → c < classes → holds b (hitAt seats c) ≡ find c id l
+  pub inside : (c : ℕ) → c < classes → HitIn (length b) (hitAt seats c)
+  pub named : (c : ℕ) → c < classes → Answers id (hitAt seats c)

@@ -3,12 +3,14 @@
 use mathlib.Core.Path.{_≡_}
 use mathlib.Core.Bool.{true}
 use mathlib.Core.List.{List}
-use Prim.Native.Nat.{ℕ, _^_, _≤_}
-use lib.ListN.{length, getD}
+use Prim.Native.Nat.{ℕ, _^_, _≤_, _<_}
+use lib.ListN.{length}
 use Rattle.format.specs.Log.{log, logEnd, logEndTag}
 use Rattle.format.specs.Regular.{Regular}
-use Rattle.format.specs.Directory.{Slot, dirOf}
-use Rattle.compact_slot.specs.Seat.{loadIn}
+use Rattle.format.specs.Directory.{classes, Slot, dirOf}
+use Rattle.format.specs.Look.{HitIn}
+use Rattle.theory.specs.Lookup.ByMask.{holds}
+use Rattle.compact_slot.specs.Seat.{hitAt}
 
 pub record Slots (b : List ℕ) (end etag count : ℕ) : Type 0 where
   pub word : 4 ≤ length b
@@ -20,4 +22,8 @@ pub record Slots (b : List ℕ) (end etag count : ℕ) : Type 0 where
 
 -- a slot as its seats hold it
 abbrev pub slotIn : List ℕ → List ℕ → Slot
-slotIn b seats c = loadIn b (getD seats c 0)
+slotIn b seats c = holds b (hitAt seats c)
+
+-- all that they tell stands whole in the block
+abbrev pub AllInside : List ℕ → List ℕ → Type 0
+AllInside b seats = (c : ℕ) → c < classes → HitIn (length b) (hitAt seats c)

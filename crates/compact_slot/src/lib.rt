@@ -6,56 +6,33 @@ ghost use mathlib.Core.List.{map};
 ghost use Prim.Native.Nat.{_+_, _^_, _<_};
 ghost use Rattle.format.specs.Back.{back};
 ghost use Rattle.theory.specs.Back.BackActs.{seen};
-ghost use Rattle.theory.specs.Lookup.MoveState.{lastMove};
-ghost use Rattle.compact_slot.specs.Seat.{seatOf, loadIn, Inside, seatClass, createdAt, idBefore, noted};
-ghost use Rattle.compact_slot.specs.Seat.{Gatherable, Gathered};
-ghost use Rattle.compact_slot.specs.Held.{Stands};
+ghost use Rattle.compact_slot.specs.Seat.{hitAt, seatClass, createdAt, idBefore, noted, Gatherable, Gathered};
+use format::Found;
+use format::Hit;
 use format::types::*;
 use lookup_back::Back;
 
 // A name, a struct, and 256 user attributes.
 pub const CLASSES: usize = 258;
 
-// An entry's tag and where it stands, in one number: 0 is none, since no entry stands at 0.
-fn seat_of(tag: u32, at: usize) -> u64
-    requires { ⌜ at < 2 ^ 16 ⌝ }
-    ensures { λ r. ⌜ r ≡ seatOf tag at ⌝ }
+// What a class's seat tells: nothing where it is free, since no data begin at 0, and nothing of a removal.
+pub fn found(seats: &[u32; 516], class: usize) -> Hit
+    requires { ⌜ class < 258 ⌝ }
+    ensures { λ r. ⌜ r ≡ hitAt (now (seats .entry)) class ⌝ }
 {
-    tag as u64 * 0x1_0000 + at as u64
-}
-
-// What stands at a seat: nothing, or an entry's type and where its data begin and end in the block.
-pub struct Held {
-    pub held: bool,
-    pub kind: u16,
-    pub from: usize,
-    pub to: usize,
-}
-
-// What a seat tells: nothing where it is free, and nothing of a removal.
-pub fn held_at(seat: u64) -> Held
-    ensures { λ r. ⌜ Stands seat r ⌝ }
-{
-    let nothing = Held {
-        held: false,
-        kind: 0,
-        from: 0,
-        to: 0,
-    };
-    if seat == 0 {
-        return nothing;
+    let tag = seats[2 * class];
+    let off = seats[2 * class + 1];
+    if off == 0 {
+        return Hit::Nothing;
     }
-    let found = (seat / 0x1_0000 % 0x1_0000_0000) as u32;
-    if tag::lfs_tag_isdelete(found) {
-        return nothing;
+    if tag::lfs_tag_isdelete(tag) {
+        return Hit::Nothing;
     }
-    let from = (seat % 0x1_0000) as usize + 4;
-    Held {
-        held: true,
-        kind: tag::lfs_tag_type3(found),
-        from,
-        to: from + tag::lfs_tag_size(found) as usize,
-    }
+    Hit::Found(Found {
+        tag,
+        length: tag::lfs_tag_dsize(tag),
+        off,
+    })
 }
 
 // The class of what an entry sets in its slot: 0 the name, 1 the struct, 2 + u the user attribute u, and 258 none of
@@ -100,33 +77,36 @@ fn id_before(tag: u32, id: usize) -> usize
     id
 }
 
-// An entry of the slot takes its class's seat, if no newer one has it.
-fn note(seats: &mut [u64; 258], tag: u32, at: usize, id: usize)
-    requires { ⌜ at < 2 ^ 16 ⌝ }
-    ensures { λ _. ⌜ now (seats .exit) ≡ noted (now (seats .entry)) tag at id ⌝ }
+// An entry takes its class's seat, if it is the slot's and no newer one has it. The slot's id is `slot` at the entry and
+// `id` now: the seat has the tag with that.
+fn note(seats: &mut [u32; 516], tag: u32, at: usize, slot: usize, id: u32)
+    requires { ⌜ (at + 4 < 2 ^ 32) × (id < 2 ^ 10) ⌝ }
+    ensures { λ _. ⌜ now (seats .exit) ≡ noted (now (seats .entry)) tag at slot id ⌝ }
 {
-    if tag::lfs_tag_id(tag) as usize != id {
+    if tag::lfs_tag_id(tag) as usize != slot {
         return;
     }
     let class = class_of(tag);
     if CLASSES <= class {
         return;
     }
-    if seats[class] != 0 {
+    if seats[2 * class + 1] != 0 {
         return;
     }
-    seats[class] = seat_of(tag, at);
+    seats[2 * class] = tag::lfs_mktag(tag::lfs_tag_type3(tag) as u32, id, tag::lfs_tag_size(tag));
+    seats[2 * class + 1] = (at + 4) as u32;
 }
 
-// The seats of the slot `id`, from the end of a log and the tag that ends there.
-pub fn gather(b: &[u8], end: usize, etag: u32, id: usize) -> [u64; 258]
+// The seats of the slot `id`, from the end of a log and the tag that ends there: two words for each class, the newest
+// entry's tag with the id, and the offset of its first data byte.
+pub fn gather(b: &[u8], end: usize, etag: u32, id: u32) -> [u32; 516]
     requires { ⌜ Gatherable (now b) end id ⌝ }
     ensures { λ r. ⌜ Gathered (now (b .entry)) (map (seen (now (b .entry))) (back (now (b .entry)) end etag)) id r ⌝ }
 {
-    let mut seats = [0u64; 258];
+    let mut seats = [0u32; 516];
     let mut off = end;
     let mut tag = etag;
-    let mut slot = id;
+    let mut slot = id as usize;
     loop {
         let Back::At(at) = lookup_back::place(off, tag) else {
             return seats;
@@ -134,28 +114,8 @@ pub fn gather(b: &[u8], end: usize, etag: u32, id: usize) -> [u64; 258]
         if created(tag, slot) {
             return seats;
         }
-        note(&mut seats, tag, at, slot);
+        note(&mut seats, tag, at, slot, id);
         slot = id_before(tag, slot);
-        tag = lookup_back::tag_before(b, at, tag);
-        off = at;
-    }
-}
-
-// The seat of the newest move state, whatever its id.
-pub fn newest_move(b: &[u8], end: usize, etag: u32) -> u64
-    requires { ⌜ Gatherable (now b) end 0 ⌝ }
-    ensures { λ r. ⌜ (loadIn (now (b .entry)) r ≡ lastMove (now (b .entry)) (back (now (b .entry)) end etag))
-        × Inside (now (b .entry)) r ⌝ }
-{
-    let mut off = end;
-    let mut tag = etag;
-    loop {
-        let Back::At(at) = lookup_back::place(off, tag) else {
-            return 0;
-        };
-        if tag::lfs_tag_type3(tag) == LFS_TYPE_MOVESTATE {
-            return seat_of(tag, at);
-        }
         tag = lookup_back::tag_before(b, at, tag);
         off = at;
     }

@@ -15,6 +15,8 @@ pub mod Parts
 pub mod Walk
 pub mod Classes
 pub mod Back
+-- What a search finds, and a lookup's answer.
+pub mod Searched
 -- The room behind a log, and the order of a commit's refusals.
 pub mod Rooms
 pub mod Refusals

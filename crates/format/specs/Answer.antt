@@ -12,6 +12,7 @@ use Rattle.format.specs.declared.Altered.{Altered}
 use Rattle.format.specs.declared.Altered.the-variants as altered
 use Rattle.format.specs.declared.Fetched.{Fetched}
 use Rattle.format.specs.declared.Fetched.the-variants as fetched
+use Rattle.format.specs.declared.Found.{Found}
 use Rattle.format.specs.declared.Got.{Got}
 use Rattle.format.specs.declared.Got.the-variants as got
 use Rattle.format.specs.declared.Committed.{Committed}
@@ -123,12 +124,20 @@ fetchedSeed seed (fetched.Found m s) = s
 fetchedSeed seed (fetched.Refused r) = refusalSeed seed r
 
 abbrev pub gotResult : Got → ℤ
-gotResult (got.Found t) = pos 0
+gotResult (got.Found e) = pos 0
 gotResult (got.Refused r) = refusalNumber r
 
-abbrev pub gotTag : Got → ℕ
-gotTag (got.Found t) = t
-gotTag (got.Refused r) = 0
+abbrev pub noneFound : Found
+noneFound = record { tag = 0; length = 0; off = 0 }
+
+abbrev pub gotFound : Got → Found
+gotFound (got.Found e) = e
+gotFound (got.Refused r) = noneFound
+
+-- the word of an answer, the tag or the refusal: what demands 2 and 3 compare, with the buffer
+abbrev pub gotWord : Got → Word
+gotWord (got.Found e) = word.Is (e .tag)
+gotWord (got.Refused r) = word.Refused r
 
 abbrev pub committedResult : Committed → ℤ
 committedResult (committed.Done m s) = pos 0

@@ -27,21 +27,26 @@ unfoldable pub isPayload : Option Load → Bool
 isPayload none = false
 isPayload (some v) = eqb (v .type) 0x202 || (eqb (v .type) 0x201 && ltb 0 (length (v .bytes)))
 
--- It has a deadline if the user attribute 0x74 is there, of any length.
+-- Its deadline is the user attribute 0x74, of four bytes. Of any other length it can't be read: it is there, and is no
+-- deadline to go by.
 unfoldable pub isDeadline : Option Load → Bool
 isDeadline none = false
-isDeadline (some v) = true
+isDeadline (some v) = eqb (length (v .bytes)) 4
+
+unfoldable pub isThere : Option Load → Bool
+isThere none = false
+isThere (some v) = true
 
 abbrev pub deadlineClass : ℕ
 deadlineClass = 2 + 0x74
 
--- a payload and no deadline
+-- a payload, and no deadline that can be read
 unfoldable pub lacksDeadline : Slot → Bool
 lacksDeadline s = isInstruction (s 0) && (isPayload (s 1) && not (isDeadline (s deadlineClass)))
 
--- a deadline and no payload
+-- a deadline, be it one that can't be read, and no payload
 unfoldable pub lacksPayload : Slot → Bool
-lacksPayload s = isInstruction (s 0) && (isDeadline (s deadlineClass) && not (isPayload (s 1)))
+lacksPayload s = isInstruction (s 0) && (isThere (s deadlineClass) && not (isPayload (s 1)))
 
 -- ---- the lines
 -- The name as in the listing; `-` where there is none.
@@ -49,14 +54,20 @@ unfoldable pub nameOrDash : Option Load → List ℕ
 nameOrDash none = ascii "-"
 nameOrDash (some v) = nameBytes (v .bytes)
 
--- `slot ID NAME no deadline` or `slot ID NAME no payload`
+-- `slot ID NAME`, and what it lacks: ` no deadline` or ` no payload`
 unfoldable pub lackLine : ℕ → Option Load → List ℕ → List ℕ
 lackLine id name what = ascii "slot " ++ (decimal id ++ (ascii " " ++ (nameOrDash name ++ what)))
+
+-- A deadline that can't be read is told apart from a missing one: `slot ID NAME deadline of N bytes`.
+unfoldable pub deadlineLine : ℕ → Option Load → Option Load → List ℕ
+deadlineLine id name none = lackLine id name (ascii " no deadline\n")
+deadlineLine id name (some v) = lackLine id name (ascii " deadline of ")
+    ++ (decimal (length (v .bytes)) ++ ascii " bytes\n")
 
 -- A slot has one of the two lines, or none.
 unfoldable pub auditLine : ℕ → Slot → List ℕ
 auditLine id s =
-    cond (lacksDeadline s) (lackLine id (s 0) (ascii " no deadline\n"))
+    cond (lacksDeadline s) (deadlineLine id (s 0) (s deadlineClass))
     (cond (lacksPayload s) (lackLine id (s 0) (ascii " no payload\n")) [])
 
 -- the slots from id on, by rising id

@@ -2,20 +2,36 @@
 -- wrap." A pending move only lowers the difference that the search starts with. Assumes nothing.
 use mathlib.Core.Bool.{Bool, cond, _&&_}
 use mathlib.Core.List.{List, [], _∷_}
-use Prim.Native.Nat.{ℕ, suc, _*_, _%_, _^_}
+use Prim.Native.Nat.{ℕ, suc, _+_, _-_, _*_, _%_, _^_, _≤_}
+use lib.ListN.{take, drop}
 use lib.Bits.{bitAnd}
 use lib.Dec.{leb, eqb}
 use lib.IntN.{ℤ, pos, negsuc}
 use Rattle.format.specs.Word.{plus32, minus32}
-use Rattle.format.specs.Tag.{tagSplice, tagId, tagDelete, tagOf}
+use Rattle.format.specs.Tag.{tagSplice, tagId, tagDelete, tagLength, tagOf}
 use Rattle.format.specs.Kind.{isSplice, typeCreate}
 use Rattle.format.specs.Back.{Met}
+use Rattle.format.specs.declared.Found.{Found}
+use Rattle.format.specs.declared.Hit.{Hit}
+use Rattle.format.specs.declared.Hit.the-variants as hit
 
--- No entry; or the tag that matched, where it stands, and the difference there. "The answer is the tag plus the
--- difference."
-pub data Found : Type 0 where
-  noEntry : Found
-  found : ℕ → ℕ → ℕ → Found
+-- The entry of the tag t that stands at `off`, found with the difference `diff`. "The answer is the tag plus the
+-- difference"; document 02, L3: "the stored length and the offset of the first data byte beside the tag".
+abbrev pub foundAt : ℕ → ℕ → ℕ → Found
+foundAt t off diff = record { tag = plus32 t diff; length = tagLength t; off = off + 4 }
+
+-- how many data bytes it has: "The stored length is 4 plus size"
+abbrev pub dataSize : Found → ℕ
+dataSize e = e .length - 4
+
+-- and which, in its block
+abbrev pub bytesOf : List ℕ → Found → List ℕ
+bytesOf b e = take (dataSize e) (drop (e .off) b)
+
+-- what is found stands whole in a block's first n bytes
+abbrev pub HitIn : ℕ → Hit → Type 0
+HitIn n hit.Nothing = Unit {0}
+HitIn n (hit.Found e) = (4 ≤ e .length) × (e .off + dataSize e ≤ n)
 
 -- The masks of the directory lookups: "newest name (type under 0x700), struct (under 0x700)", both with the id; "0x7ff
 -- for each attribute type", with the id; "the move state (0x7ff, no ids)".
@@ -47,10 +63,10 @@ diffAfter ids t key diff = cond (splicedAt ids t (minus32 key diff)) (plus32 dif
 
 -- "each splice at or below the adjusted id answers -2 if it is exactly create at that id with size 0, else adds its
 -- splice, as ids, to the difference. A match that is a removal answers -2."
-unfoldable pub wlook : Bool → ℕ → ℕ → ℕ → List Met → Found
-wlook ids mask key diff [] = noEntry
+unfoldable pub wlook : Bool → ℕ → ℕ → ℕ → List Met → Hit
+wlook ids mask key diff [] = hit.Nothing
 wlook ids mask key diff (m ∷ ms) =
-    cond (splicedAt ids (m .tag) (minus32 key diff) && eqb (m .tag) (createAt (minus32 key diff))) noEntry
+    cond (splicedAt ids (m .tag) (minus32 key diff) && eqb (m .tag) (createAt (minus32 key diff))) hit.Nothing
     (cond (eqb (bitAnd (m .tag) mask) (bitAnd (minus32 key (diffAfter ids (m .tag) key diff)) mask))
-    (cond (tagDelete (m .tag)) noEntry (found (m .tag) (m .off) (diffAfter ids (m .tag) key diff)))
+    (cond (tagDelete (m .tag)) hit.Nothing (hit.Found (foundAt (m .tag) (m .off) (diffAfter ids (m .tag) key diff))))
     (wlook ids mask key (diffAfter ids (m .tag) key diff) ms))

@@ -5,7 +5,7 @@ use mathlib.Core.List.{List, _∷_, _++_}
 use Prim.Native.Nat.{ℕ, _+_, _-_, _%_, _^_, min}
 use lib.ListN.{length, take, drop, replicate}
 use lib.Dec.{leb, ltb, eqb}
-use Rattle.format.specs.Word.{le32, plus32, minus32}
+use Rattle.format.specs.Word.{le32, minus32}
 use Rattle.format.specs.Tag.{tagType3, tagId, tagSize, tagOf}
 use Rattle.format.specs.Kind.{typeDirectory, typeDirStruct, typeInlineStruct, typeCtzStruct, typeName, typeMove}
 use Rattle.format.specs.Kind.{noSlot}
@@ -14,12 +14,15 @@ use Rattle.format.specs.Pair.{pairSync}
 use Rattle.format.specs.Gstate.{gstateHasMoveHere, gstateXor}
 use Rattle.format.specs.Fetch.{pairFits}
 use Rattle.format.specs.Back.{back}
-use Rattle.format.specs.Look.{Found, noEntry, found, wlook}
+use Rattle.format.specs.Look.{dataSize, wlook}
 use Rattle.format.specs.declared.Geometry.{Geometry}
 use Rattle.format.specs.declared.LfsMdir.{LfsMdir}
 use Rattle.format.specs.declared.LfsGstate.{LfsGstate}
 use Rattle.format.specs.declared.Refusal.{Refusal}
 use Rattle.format.specs.declared.Refusal.the-variants.{Invalid, Corrupt, NoEntry}
+use Rattle.format.specs.declared.Found.{Found}
+use Rattle.format.specs.declared.Hit.{Hit}
+use Rattle.format.specs.declared.Hit.the-variants as hit
 use Rattle.format.specs.declared.Got.{Got}
 use Rattle.format.specs.declared.Got.the-variants as got
 use Rattle.format.specs.declared.Altered.{Altered}
@@ -43,39 +46,39 @@ abbrev pub hasIds : ℕ → Bool
 hasIds mask = not (eqb (tagId mask) 0)
 
 -- "The walk goes back from end and end tag", from a difference
-abbrev pub searchedFrom : List ℕ → LfsMdir → ℕ → ℕ → ℕ → Found
+abbrev pub searchedFrom : List ℕ → LfsMdir → ℕ → ℕ → ℕ → Hit
 searchedFrom b dir mask key diff = wlook (hasIds mask) mask key diff (back b (dir .off) (dir .etag))
 
 -- "a pending move (global tag's type1 not 0) whose pair shares any block answers -2 at its own id and lowers the
 -- difference by one id above it"
-unfoldable pub searched : List ℕ → LfsMdir → LfsGstate → ℕ → ℕ → Found
+unfoldable pub searched : List ℕ → LfsMdir → LfsGstate → ℕ → ℕ → Hit
 searched b dir gdisk mask key =
     cond (hasIds mask && gstateHasMoveHere gdisk (dir .pair))
-    (cond (eqb (tagId (gdisk .tag)) (tagId key)) noEntry
+    (cond (eqb (tagId (gdisk .tag)) (tagId key)) hit.Nothing
     (cond (ltb (tagId (gdisk .tag)) (tagId key)) (searchedFrom b dir mask key (minus32 0 (2 ^ 10)))
     (searchedFrom b dir mask key 0)))
     (searchedFrom b dir mask key 0)
 
 -- ---- the slice of what was found: "min(size, buffer length) bytes are read from the entry's first data byte plus the
--- offset, also where that runs into the next entry; the rest of the buffer is zeroed. The answer is the tag plus the
--- difference." "-84 | lookup: the matched bytes pass the block"
-abbrev pub sliceStart : ℕ → ℕ → ℕ
-sliceStart tagOff offset = tagOff + 4 + offset
+-- offset, also where that runs into the next entry; the rest of the buffer is zeroed." "-84 | lookup: the matched bytes
+-- pass the block". The answer is the entry as it was found, whatever offset and buffer.
+abbrev pub sliceStart : Found → ℕ → ℕ
+sliceStart e offset = e .off + offset
 
-abbrev pub sliceEnd : ℕ → ℕ → ℕ → ℕ → ℕ
-sliceEnd t tagOff offset size = sliceStart tagOff offset + min (tagSize t) size
+abbrev pub sliceEnd : Found → ℕ → ℕ → ℕ
+sliceEnd e offset size = sliceStart e offset + min (dataSize e) size
 
-abbrev pub sliceAnswer : List ℕ → ℕ → ℕ → Found → Got
-sliceAnswer b offset size noEntry = got.Refused NoEntry
-sliceAnswer b offset size (found t tagOff diff) =
-    cond (leb (sliceEnd t tagOff offset size) (length b)) (got.Found (plus32 t diff)) (got.Refused Corrupt)
+abbrev pub sliceAnswer : List ℕ → ℕ → ℕ → Hit → Got
+sliceAnswer b offset size hit.Nothing = got.Refused NoEntry
+sliceAnswer b offset size (hit.Found e) =
+    cond (leb (sliceEnd e offset size) (length b)) (got.Found e) (got.Refused Corrupt)
 
-abbrev pub sliceBuffer : List ℕ → ℕ → List ℕ → Found → List ℕ
-sliceBuffer b offset buffer noEntry = buffer
-sliceBuffer b offset buffer (found t tagOff diff) =
-    cond (leb (sliceEnd t tagOff offset (length buffer)) (length b))
-    (take (min (tagSize t) (length buffer)) (drop (sliceStart tagOff offset) b)
-    ++ replicate (length buffer - tagSize t) 0)
+abbrev pub sliceBuffer : List ℕ → ℕ → List ℕ → Hit → List ℕ
+sliceBuffer b offset buffer hit.Nothing = buffer
+sliceBuffer b offset buffer (hit.Found e) =
+    cond (leb (sliceEnd e offset (length buffer)) (length b))
+    (take (min (dataSize e) (length buffer)) (drop (sliceStart e offset) b)
+    ++ replicate (length buffer - dataSize e) 0)
     buffer
 
 -- ---- `lfs_dir_getslice`
@@ -130,16 +133,15 @@ moveKey = tagOf typeMove 0 12
 abbrev pub gstateIn : List ℕ → LfsGstate
 gstateIn d = record { tag = le32 d; pair = pairIn (drop 4 d) }
 
-abbrev pub moveAnswer : List ℕ → Found → Altered
-moveAnswer b noEntry = altered.Done
-moveAnswer b (found t tagOff diff) = cond (leb (sliceEnd t tagOff 0 12) (length b)) altered.Done
-    (altered.Refused Corrupt)
+abbrev pub moveAnswer : List ℕ → Hit → Altered
+moveAnswer b hit.Nothing = altered.Done
+moveAnswer b (hit.Found e) = cond (leb (sliceEnd e 0 12) (length b)) altered.Done (altered.Refused Corrupt)
 
-abbrev pub moveState : List ℕ → LfsGstate → Found → LfsGstate
-moveState b gstate noEntry = gstate
-moveState b gstate (found t tagOff diff) =
-    cond (leb (sliceEnd t tagOff 0 12) (length b))
-    (gstateXor gstate (gstateIn (sliceBuffer b 0 (blankBuffer 12) (found t tagOff diff)))) gstate
+abbrev pub moveState : List ℕ → LfsGstate → Hit → LfsGstate
+moveState b gstate hit.Nothing = gstate
+moveState b gstate (hit.Found e) =
+    cond (leb (sliceEnd e 0 12) (length b))
+    (gstateXor gstate (gstateIn (sliceBuffer b 0 (blankBuffer 12) (hit.Found e)))) gstate
 
 unfoldable pub getgstateOf : Geometry → List ℕ → List ℕ → ℕ → ℕ → LfsMdir → LfsGstate → Altered
 getgstateOf g b0 b1 n0 n1 dir gdisk =
@@ -193,25 +195,25 @@ infoSize t struct = cond (eqb (tagType3 t) typeCtzStruct) (le32 (drop 4 struct))
 -- from the answers and the buffers of the two lookups; "name bytes not read are 0"
 abbrev pub infoFrom : Got → List ℕ → Got → List ℕ → Informed
 infoFrom (got.Refused r) name u struct = infoRefused r
-infoFrom (got.Found t) name (got.Refused r) struct = infoRefused r
-infoFrom (got.Found t) name (got.Found u) struct =
+infoFrom (got.Found e) name (got.Refused r) struct = infoRefused r
+infoFrom (got.Found e) name (got.Found u) struct =
     record {
       answer = altered.Done;
       info = record {
-        kind = tagType3 t % 2 ^ 8;
-        size = infoSize u struct;
+        kind = tagType3 (e .tag) % 2 ^ 8;
+        size = infoSize (u .tag) struct;
         name = name ++ blankBuffer (256 - length name);
       };
     }
 
 -- a lookup at offset 0 into a blank buffer of n bytes: its answer, and the buffer
-abbrev pub readAnswer : List ℕ → ℕ → Found → Got
-readAnswer b n f = sliceAnswer b 0 n f
+abbrev pub readAnswer : List ℕ → ℕ → Hit → Got
+readAnswer b n h = sliceAnswer b 0 n h
 
-abbrev pub readBuffer : List ℕ → ℕ → Found → List ℕ
-readBuffer b n f = sliceBuffer b 0 (blankBuffer n) f
+abbrev pub readBuffer : List ℕ → ℕ → Hit → List ℕ
+readBuffer b n h = sliceBuffer b 0 (blankBuffer n) h
 
-abbrev pub infoOf : List ℕ → ℕ → Found → Found → Informed
+abbrev pub infoOf : List ℕ → ℕ → Hit → Hit → Informed
 infoOf b nameMax name struct =
     infoFrom (readAnswer b (nameMax + 1) name) (readBuffer b (nameMax + 1) name) (readAnswer b 8 struct)
     (readBuffer b 8 struct)

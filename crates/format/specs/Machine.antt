@@ -14,8 +14,8 @@ use Rattle.format.specs.Tag.{tagOf}
 use Rattle.format.specs.Look.{maskType1, maskType3, maskMove}
 use Rattle.format.specs.declared.LfsPair.{LfsPair}
 use Rattle.format.specs.declared.Refusal.the-variants.{NoEntry}
-use Rattle.format.specs.declared.Got.{Got}
-use Rattle.format.specs.declared.Got.the-variants as got
+use Rattle.format.specs.declared.Word.{Word}
+use Rattle.format.specs.declared.Word.the-variants as word
 
 -- ---- the machine
 -- all that a pair holds: its slots, its tail (hard where `split`) and its move state
@@ -81,10 +81,11 @@ askId (struct id) = id
 askId (attribute id u) = id
 askId move = noSlot
 
--- the answer: a tag of what is there, its type, id and length; "-2 | .. lookup: no entry"
-abbrev pub heldGot : ℕ → Option Load → Got
-heldGot id none = got.Refused NoEntry
-heldGot id (some v) = got.Found (tagOf (v .type) id (length (v .bytes)))
+-- the answer's word: a tag of what is there, its type, id and length; "-2 | .. lookup: no entry". A machine has no
+-- places.
+abbrev pub heldWord : ℕ → Option Load → Word
+heldWord id none = word.Refused NoEntry
+heldWord id (some v) = word.Is (tagOf (v .type) id (length (v .bytes)))
 
 -- "min(size, buffer length) bytes are read ..; the rest of the buffer is zeroed"
 abbrev pub heldBuffer : List ℕ → Option Load → List ℕ

@@ -11,6 +11,7 @@ use lib.ListN.{length, getD}
 use Rattle.format.specs.Log.{log}
 use Rattle.format.specs.Gstate.{gstateHasMoveHere}
 use Rattle.format.specs.Fetch.{tooHigh, fetchOf}
+use Rattle.format.specs.Answer.{gotWord}
 use Rattle.format.specs.Lookup.{blockOf, longestBuffer, getsliceOf, getsliceBuffer}
 use Rattle.format.specs.Regular.{Regular}
 use Rattle.format.specs.Commit.{Item, written}
@@ -22,7 +23,7 @@ use Rattle.format.specs.declared.LfsMdir.{LfsMdir}
 use Rattle.format.specs.declared.LfsGstate.{LfsGstate}
 use Rattle.format.specs.declared.Entry.{Entry}
 use Rattle.format.specs.declared.Fetched.the-variants.{Found}
-use Rattle.format.specs.Machine.{Machine, machineOf, ran, Ask, askMask, askKey, askFits, askId, asked, heldGot}
+use Rattle.format.specs.Machine.{Machine, machineOf, ran, Ask, askMask, askKey, askFits, askId, asked, heldWord}
 use Rattle.format.specs.Machine.{heldBuffer}
 
 -- what an image is: a list of bytes
@@ -64,12 +65,13 @@ module _ (g : Geometry) (n0 n1 : ℕ) where
     pub lookups : (a : Ask) (gdisk : LfsGstate) (size : ℕ) (buffer : List ℕ)
         → askFits M a ≡ true → gstateHasMoveHere gdisk (dir .pair) ≡ false → size < 2 ^ 10
         → length buffer ≤ longestBuffer
-        → (getsliceOf g b0 b1 n0 n1 dir gdisk (askMask a) (askKey a size) 0 buffer ≡ heldGot (askId a) (asked M a))
+        → (gotWord (getsliceOf g b0 b1 n0 n1 dir gdisk (askMask a) (askKey a size) 0 buffer)
+        ≡ heldWord (askId a) (asked M a))
         × (getsliceBuffer g b0 b1 n0 n1 dir gdisk (askMask a) (askKey a size) 0 buffer ≡ heldBuffer buffer (asked M a))
 
   -- The images i0, i1 read as b0, b1 did: fetch gives the same record but for the erased mark, and from every seed the
-  -- same seed; and every lookup at offset 0 with it, whatever mask, key and global state, gives the same answer and
-  -- buffer.
+  -- same seed; and every lookup at offset 0 with it, whatever mask, key and global state, gives the same answer,
+  -- tag, length and place, and the same buffer.
   pub record ReadsAs (b0 b1 i0 i1 : List ℕ) : Type 0 where
     pub before : LfsMdir
     pub after : LfsMdir

@@ -90,6 +90,21 @@ pub enum Room {
     Refused(Refusal),
 }
 
+// An entry that was found: its tag with the difference added, so with the id that it has now; its stored length, "4 plus
+// size" (a removal is never found); and the offset in the block of its first data byte.
+#[repr(C)]
+pub struct Found {
+    pub tag: u32,
+    pub length: u32,
+    pub off: u32,
+}
+
+// What a search comes to.
+pub enum Hit {
+    Found(Found),
+    Nothing,
+}
+
 // A word: read from four bytes, or brought to a multiple.
 pub enum Word {
     Is(u32),
@@ -108,9 +123,9 @@ pub enum Fetched {
     Refused(Refusal),
 }
 
-// Lookup: the tag with the difference added.
+// Lookup: the entry.
 pub enum Got {
-    Found(u32),
+    Found(Found),
     Refused(Refusal),
 }
 

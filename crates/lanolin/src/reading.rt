@@ -10,8 +10,8 @@ use format::Geometry;
 use format::LfsGstate;
 use format::LfsMdir;
 use lanolin_answers::FetchedOut;
+use lanolin_answers::GotOut;
 use lanolin_answers::InfoOut;
-use lanolin_answers::Value;
 use lanolin_answers::altered_out;
 use lanolin_answers::fetched_out;
 use lanolin_answers::got_out;
@@ -35,7 +35,7 @@ pub extern "C" fn lanolin_fetch(
     )
 }
 
-// The tag stands in the value.
+// The entry's tag, length and place.
 #[no_mangle]
 pub extern "C" fn lanolin_getslice(
     g: Geometry,
@@ -49,7 +49,7 @@ pub extern "C" fn lanolin_getslice(
     gtag: u32,
     goff: u32,
     buffer: &mut [u8],
-) -> Value
+) -> GotOut
     ensures { λ r. ⌜ r ≡ gotOut (getsliceOf g (now (b0 .entry)) (now (b1 .entry)) n0 n1 dir gdisk gmask gtag goff
         (now (buffer .entry))) ⌝ }
     ensures { λ _. ⌜ now (buffer .exit) ≡ getsliceBuffer g (now (b0 .entry)) (now (b1 .entry)) n0 n1 dir gdisk gmask
@@ -70,7 +70,7 @@ pub extern "C" fn lanolin_get(
     gmask: u32,
     gtag: u32,
     buffer: &mut [u8],
-) -> Value
+) -> GotOut
     ensures { λ r. ⌜ r ≡ gotOut (getOf g (now (b0 .entry)) (now (b1 .entry)) n0 n1 dir gdisk gmask gtag
         (now (buffer .entry))) ⌝ }
     ensures { λ _. ⌜ now (buffer .exit) ≡ getBuffer g (now (b0 .entry)) (now (b1 .entry)) n0 n1 dir gdisk gmask gtag

@@ -1,6 +1,6 @@
 -- The structs that C gets, from the answers. Assumes nothing.
 use Prim.Native.Nat.{ℕ}
-use Rattle.format.specs.Answer.{wordResult, wordValue, gotResult, gotTag, fetchedResult, fetchedMdir, fetchedSeed}
+use Rattle.format.specs.Answer.{wordResult, wordValue, gotResult, gotFound, fetchedResult, fetchedMdir, fetchedSeed}
 use Rattle.format.specs.Answer.{alteredResult, committedResult, committedIndex, committedMdir, committedSeed}
 use Rattle.format.specs.Answer.{storedResult, storedIndex, storedMade}
 use Rattle.format.specs.declared.Word.{Word}
@@ -10,6 +10,7 @@ use Rattle.format.specs.declared.Informed.{Informed}
 use Rattle.format.specs.declared.Committed.{Committed}
 use Rattle.format.specs.declared.Stored.{Stored}
 use Rattle.lanolin_answers.specs.declared.Value.{Value}
+use Rattle.lanolin_answers.specs.declared.GotOut.{GotOut}
 use Rattle.lanolin_answers.specs.declared.FetchedOut.{FetchedOut}
 use Rattle.lanolin_answers.specs.declared.InfoOut.{InfoOut}
 use Rattle.lanolin_answers.specs.declared.CommittedOut.{CommittedOut}
@@ -18,8 +19,8 @@ use Rattle.lanolin_answers.specs.declared.StoredOut.{StoredOut}
 abbrev pub wordOut : Word → Value
 wordOut w = record { result = wordResult w; value = wordValue w }
 
-abbrev pub gotOut : Got → Value
-gotOut g = record { result = gotResult g; value = gotTag g }
+abbrev pub gotOut : Got → GotOut
+gotOut g = record { result = gotResult g; found = gotFound g }
 
 -- from the seed that was given
 abbrev pub fetchedOut : ℕ → Fetched → FetchedOut

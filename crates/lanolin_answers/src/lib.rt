@@ -6,6 +6,7 @@ ghost use Rattle.lanolin_answers.specs.Values.{wordOut, gotOut, fetchedO
 use format::Altered;
 use format::Committed;
 use format::Fetched;
+use format::Found;
 use format::Got;
 use format::Informed;
 use format::LfsMdir;
@@ -19,6 +20,14 @@ use format::Word;
 pub struct Value {
     pub result: i32,
     pub value: u32,
+}
+
+// What lanolin_getslice and lanolin_get answer: C has the entry's three words right behind the result. All 0 on a
+// refusal.
+#[repr(C)]
+pub struct GotOut {
+    pub result: i32,
+    pub found: Found,
 }
 
 // What lanolin_fetch answers.
@@ -105,17 +114,21 @@ pub fn altered_out(a: Altered) -> i32
     }
 }
 
-pub fn got_out(g: Got) -> Value
+pub fn got_out(g: Got) -> GotOut
     ensures { λ r. ⌜ r ≡ gotOut g ⌝ }
 {
     match g {
-        Got::Found(t) => Value {
+        Got::Found(e) => GotOut {
             result: 0,
-            value: t,
+            found: e,
         },
-        Got::Refused(r) => Value {
+        Got::Refused(r) => GotOut {
             result: number(r),
-            value: 0,
+            found: Found {
+                tag: 0,
+                length: 0,
+                off: 0,
+            },
         },
     }
 }

@@ -71,7 +71,7 @@ fn named(b: &[u8], dir: LfsMdir, gdisk: LfsGstate, id: u32, t: u32, name: [u8; 2
     match lookup_search::slice::read(b, dir, gdisk, gmask, gtag, 0, &mut s) {
         Got::Refused(r) => refused(r),
         Got::Found(u) => {
-            let size = size_of(u, &s);
+            let size = size_of(u.tag, &s);
             Informed {
                 answer: Altered::Done,
                 info: LfsInfo {
@@ -97,6 +97,6 @@ pub fn read(b: &[u8], dir: LfsMdir, gdisk: LfsGstate, name_max: u32, id: u32) ->
     let gtag = tag::lfs_mktag(LFS_TYPE_NAME as u32, id, name_max + 1);
     match lookup_search::slice::read(b, dir, gdisk, gmask, gtag, 0, &mut name[..size]) {
         Got::Refused(r) => refused(r),
-        Got::Found(t) => named(b, dir, gdisk, id, t, name),
+        Got::Found(e) => named(b, dir, gdisk, id, e.tag, name),
     }
 }

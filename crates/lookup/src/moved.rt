@@ -2,17 +2,18 @@
 ghost use mathlib.Core.Path.{_≡_};
 ghost use Prim.Native.Nat.{_≤_};
 ghost use lib.ListN.{length};
-ghost use Rattle.format.specs.Look.{found};
 ghost use Rattle.format.specs.Lookup.{gstateIn, moveMask, moveKey, moveAnswer, moveState, searched};
+ghost use Rattle.format.specs.declared.Hit.the-variants as hit;
 use crate::GotGstate;
 use format::Altered;
+use format::Found;
 use format::Got;
+use format::Hit;
 use format::LfsGstate;
 use format::LfsMdir;
 use format::LfsPair;
 use format::types::LFS_TYPE_MOVESTATE;
 use format::types::TYPE3_MASK;
-use lookup_search::Hit;
 
 // The three words of a state, little-endian: what the Rust has by a pointer cast and lfs_gstate_fromle32.
 fn gstate_in(d: &[u8]) -> LfsGstate
@@ -28,14 +29,14 @@ fn gstate_in(d: &[u8]) -> LfsGstate
     }
 }
 
-// The state with the move state XORed in that stands in the entry t at `at`.
-fn xored_at(b: &[u8], t: u32, at: usize, diff: u32, gstate: LfsGstate) -> GotGstate
-    requires { ⌜ at ≤ length (now b) ⌝ }
-    ensures { λ r. ⌜ (r .answer ≡ moveAnswer (now (b .entry)) (found t at diff))
-        × (r .gstate ≡ moveState (now (b .entry)) gstate (found t at diff)) ⌝ }
+// The state with the move state XORed in that stands in the entry.
+fn xored_at(b: &[u8], e: Found, gstate: LfsGstate) -> GotGstate
+    requires { ⌜ 4 ≤ e .length ⌝ }
+    ensures { λ r. ⌜ (r .answer ≡ moveAnswer (now (b .entry)) (hit.Found e))
+        × (r .gstate ≡ moveState (now (b .entry)) gstate (hit.Found e)) ⌝ }
 {
     let mut d = [0u8; 12];
-    match lookup_search::slice::read_at(b, t, at, diff, 0, &mut d) {
+    match lookup_search::slice::read_at(b, e, 0, &mut d) {
         Got::Refused(r) => GotGstate {
             answer: Altered::Refused(r),
             gstate: gstate,
@@ -63,6 +64,6 @@ pub fn read(b: &[u8], dir: LfsMdir, gdisk: LfsGstate, gstate: LfsGstate) -> GotG
             answer: Altered::Done,
             gstate: gstate,
         },
-        Hit::At(t, at, diff) => xored_at(b, t, at, diff, gstate),
+        Hit::Found(e) => xored_at(b, e, gstate),
     }
 }

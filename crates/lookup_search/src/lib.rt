@@ -3,14 +3,15 @@
 // crate `lookup`. The functions require that the end is inside the block, and are for the crates of this repository.
 ghost use mathlib.Core.Path.{_≡_};
 ghost use mathlib.Core.Bool.{cond};
-ghost use Prim.Native.Nat.{_^_, _≤_};
+ghost use Prim.Native.Nat.{_+_, _^_, _≤_, _<_};
 ghost use lib.ListN.{length};
 ghost use Rattle.format.specs.Word.{plus32, minus32};
 ghost use Rattle.format.specs.Tag.{tagSplice};
 ghost use Rattle.format.specs.Back.{back};
-ghost use Rattle.format.specs.Look.{asIds, splicedAt, createAt, wlook};
+ghost use Rattle.format.specs.Look.{foundAt, HitIn, asIds, splicedAt, createAt, wlook};
 ghost use Rattle.format.specs.Lookup.{hasIds, searched};
-ghost use Rattle.lookup_search.specs.Hit.{foundAs, Inside};
+use format::Found;
+use format::Hit;
 use format::LfsGstate;
 use format::LfsMdir;
 use format::types::LFS_TYPE_CREATE;
@@ -18,12 +19,6 @@ use format::types::LFS_TYPE_SPLICE;
 use lookup_back::Back;
 
 pub mod slice;
-
-// What was found: the tag, where it stands, and the difference there.
-pub enum Hit {
-    At(u32, usize, u32),
-    Nothing,
-}
 
 // Whether a tag is a splice at or below the key's id; `ids`: the mask has any id bit.
 fn splices(ids: bool, tag: u32, key: u32) -> bool
@@ -64,15 +59,26 @@ fn key_at(gtag: u32, gdiff: u32) -> u32
     std::num::wrapping_sub_u32(gtag, gdiff)
 }
 
+// The entry of a tag that stands at `at`, found with a difference: its length counts the tag, its data begin behind it.
+fn found_at(tag: u32, at: usize, diff: u32) -> Found
+    requires { ⌜ at + 4 < 2 ^ 32 ⌝ }
+    ensures { λ r. ⌜ r ≡ foundAt tag at diff ⌝ }
+{
+    Found {
+        tag: std::num::wrapping_add_u32(tag, diff),
+        length: tag::lfs_tag_dsize(tag),
+        off: (at + 4) as u32,
+    }
+}
+
 // The walk back, from an end, the tag that ends there, and a difference. A turn has no branch but the three that end
 // it: what is rare, and the match.
-fn find_back(b: &[u8], end: usize, etag: u32, gmask: u32, gtag: u32, diff: u32) -> Hit
+pub fn find_back(b: &[u8], end: u32, etag: u32, gmask: u32, gtag: u32, diff: u32) -> Hit
     requires { ⌜ end ≤ length (now b) ⌝ }
-    ensures { λ r. ⌜ (foundAs r ≡ wlook (hasIds gmask) gmask gtag diff (back (now (b .entry)) end etag))
-        × Inside end r ⌝ }
+    ensures { λ r. ⌜ (r ≡ wlook (hasIds gmask) gmask gtag diff (back (now (b .entry)) end etag)) × HitIn end r ⌝ }
 {
     let ids = tag::lfs_tag_id(gmask) != 0;
-    let mut off = end;
+    let mut off = end as usize;
     let mut tag = etag;
     let mut gdiff = diff;
     loop {
@@ -90,7 +96,7 @@ fn find_back(b: &[u8], end: usize, etag: u32, gmask: u32, gtag: u32, diff: u32) 
             if tag::lfs_tag_isdelete(tag) {
                 return Hit::Nothing;
             }
-            return Hit::At(tag, at, next);
+            return Hit::Found(found_at(tag, at, next));
         }
         tag = lookup_back::tag_before(b, at, tag);
         off = at;
@@ -108,7 +114,7 @@ fn first_diff(moved_below: bool) -> u32
 // The newest entry of a record's block. A pending move is compared with the id that was asked for, before any splice.
 pub fn newest(b: &[u8], dir: LfsMdir, gdisk: LfsGstate, gmask: u32, gtag: u32) -> Hit
     requires { ⌜ dir .off ≤ length (now b) ⌝ }
-    ensures { λ r. ⌜ (foundAs r ≡ searched (now (b .entry)) dir gdisk gmask gtag) × Inside (dir .off) r ⌝ }
+    ensures { λ r. ⌜ (r ≡ searched (now (b .entry)) dir gdisk gmask gtag) × HitIn (dir .off) r ⌝ }
 {
     let pair = dir.pair;
     let moves = (tag::lfs_tag_id(gmask) != 0) & gstate::has_move_here(gdisk, pair.n0, pair.n1);
@@ -119,7 +125,7 @@ pub fn newest(b: &[u8], dir: LfsMdir, gdisk: LfsGstate, gmask: u32, gtag: u32) -
     }
     find_back(
         b,
-        dir.off as usize,
+        dir.off,
         dir.etag,
         gmask,
         gtag,

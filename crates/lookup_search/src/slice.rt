@@ -4,10 +4,11 @@ ghost use mathlib.Core.Path.{_≡_};
 ghost use mathlib.Core.List.{_++_};
 ghost use Prim.Native.Nat.{_+_, _-_, _≤_, min};
 ghost use lib.ListN.{length, take, drop, replicate};
-ghost use Rattle.format.specs.Look.{found};
 ghost use Rattle.format.specs.Lookup.{sliceAnswer, sliceBuffer, searched};
-use crate::Hit;
+ghost use Rattle.format.specs.declared.Hit.the-variants as hit;
+use format::Found;
 use format::Got;
+use format::Hit;
 use format::LfsGstate;
 use format::LfsMdir;
 use format::Refusal;
@@ -43,20 +44,21 @@ fn zero_rest(n: usize, buffer: &mut [u8])
     }
 }
 
-// The slice of the entry t, which stands at `at`. What it reads may run into the next entry, and not past the block.
-pub fn read_at(b: &[u8], t: u32, at: usize, diff: u32, goff: u32, buffer: &mut [u8]) -> Got
-    requires { ⌜ at ≤ length (now b) ⌝ }
-    ensures { λ r. ⌜ r ≡ sliceAnswer (now (b .entry)) goff (length (now (buffer .entry))) (found t at diff) ⌝ }
-    ensures { λ _. ⌜ now (buffer .exit) ≡ sliceBuffer (now (b .entry)) goff (now (buffer .entry)) (found t at diff) ⌝ }
+// The slice of an entry. What it reads may run into the next entry, and not past the block. The entry is the answer as
+// it is, whatever the offset and the buffer.
+pub fn read_at(b: &[u8], e: Found, goff: u32, buffer: &mut [u8]) -> Got
+    requires { ⌜ 4 ≤ e .length ⌝ }
+    ensures { λ r. ⌜ r ≡ sliceAnswer (now (b .entry)) goff (length (now (buffer .entry))) (hit.Found e) ⌝ }
+    ensures { λ _. ⌜ now (buffer .exit) ≡ sliceBuffer (now (b .entry)) goff (now (buffer .entry)) (hit.Found e) ⌝ }
 {
-    let n = smaller(tag::lfs_tag_size(t) as usize, buffer.len());
-    let from = at + 4 + goff as usize;
+    let n = smaller((e.length - 4) as usize, buffer.len());
+    let from = e.off as usize + goff as usize;
     if b.len() < from + n {
         return Got::Refused(Refusal::Corrupt);
     }
     copy_in(b, from, n, buffer);
     zero_rest(n, buffer);
-    Got::Found(std::num::wrapping_add_u32(t, diff))
+    Got::Found(e)
 }
 
 // The slice of the newest entry.
@@ -77,6 +79,6 @@ pub fn read(
 {
     match crate::newest(b, dir, gdisk, gmask, gtag) {
         Hit::Nothing => Got::Refused(Refusal::NoEntry),
-        Hit::At(t, at, diff) => read_at(b, t, at, diff, goff, buffer),
+        Hit::Found(e) => read_at(b, e, goff, buffer),
     }
 }

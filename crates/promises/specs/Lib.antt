@@ -14,6 +14,8 @@ pub mod Possible
 pub mod PossibleLookups
 pub mod PossibleWrites
 pub mod Numbers
+-- What a found answer's length and place say.
+pub mod FoundEntry
 -- The directory machine, and demand 3.
 pub mod Directory
 pub mod Stopped

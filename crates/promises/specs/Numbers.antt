@@ -16,7 +16,7 @@ use Rattle.format.specs.Lookup.{getsliceOf, getOf, getinfoOf, getgstateOf}
 use Rattle.format.specs.Writer.{commitOf, commitStoresOf}
 use Rattle.format.specs.Compaction.{compactOf, compactStoresOf}
 use Rattle.format.specs.Answer.{zeroMdir, refusalNumber, refusalMdir, refusalSeed, refusalIndex, wordResult, wordValue}
-use Rattle.format.specs.Answer.{alteredResult, fetchedResult, fetchedMdir, fetchedSeed, gotResult, gotTag}
+use Rattle.format.specs.Answer.{alteredResult, fetchedResult, fetchedMdir, fetchedSeed, gotResult, noneFound, gotFound}
 use Rattle.format.specs.Answer.{committedResult, committedMdir, committedSeed, committedIndex}
 use Rattle.format.specs.Answer.{storedResult, storedMade, storedIndex}
 use Rattle.format.specs.declared.Geometry.{Geometry}
@@ -29,6 +29,7 @@ use Rattle.format.specs.declared.Refusal.the-variants.{BadEntry, Irregular, NoS
 use Rattle.format.specs.declared.Refusal.the-variants.{Coincidence}
 use Rattle.format.specs.declared.Fetched.{Fetched}
 use Rattle.format.specs.declared.Fetched.the-variants as fetched
+use Rattle.format.specs.declared.Found.{Found}
 use Rattle.format.specs.declared.Got.{Got}
 use Rattle.format.specs.declared.Got.the-variants as got
 use Rattle.format.specs.declared.Altered.{Altered}
@@ -78,8 +79,8 @@ answerFrom done refuse two number index = cond (eqb (below number) 0) done (refu
 abbrev pub fetchedFrom : ℤ → LfsMdir → ℕ → Fetched
 fetchedFrom number m s = answerFrom (fetched.Found m s) fetched.Refused (TooMany m s) number 0
 
-abbrev pub gotFrom : ℤ → ℕ → Got
-gotFrom number tag = answerFrom (got.Found tag) got.Refused NoEntry number 0
+abbrev pub gotFrom : ℤ → Found → Got
+gotFrom number e = answerFrom (got.Found e) got.Refused NoEntry number 0
 
 abbrev pub alteredFrom : ℤ → Altered
 alteredFrom number = answerFrom altered.Done altered.Refused NoEntry number 0
@@ -159,7 +160,7 @@ fetched-determined seed (fetched.Refused r) h =
     (TooMany (refusalMdir r) (refusalSeed seed r)) seed 0 (λ e. refl) h
 
 abbrev pub GotTold : Got → Type 0
-GotTold f = gotFrom (gotResult f) (gotTag f) ≡ f
+GotTold f = gotFrom (gotResult f) (gotFound f) ≡ f
 
 abbrev pub WordTold : Word → Type 0
 WordTold f = wordFrom (wordResult f) (wordValue f) ≡ f
@@ -173,8 +174,8 @@ InformedTold f = _≡_ {A = Informed} (record { answer = alteredFrom (alteredRes
 
 module _ (R : Refusal → Type 0) (plain : Within R SliceRefuses) where
   pub got-determined : (f : Got) → GotOr R f → GotTold f
-  got-determined (got.Found t) h = refl
-  got-determined (got.Refused r) h = plain-back (got.Found 0) got.Refused (plain r h)
+  got-determined (got.Found e) h = refl
+  got-determined (got.Refused r) h = plain-back (got.Found noneFound) got.Refused (plain r h)
 
   pub word-determined : (f : Word) → WordOr R f → WordTold f
   word-determined (word.Is v) h = refl

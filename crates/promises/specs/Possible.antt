@@ -89,7 +89,7 @@ FetchedOr R (fetched.Found m s) = Unit {0}
 FetchedOr R (fetched.Refused r) = R r
 
 abbrev pub GotOr : (Refusal → Type 0) → Got → Type 0
-GotOr R (got.Found t) = Unit {0}
+GotOr R (got.Found e) = Unit {0}
 GotOr R (got.Refused r) = R r
 
 abbrev pub AlteredOr : (Refusal → Type 0) → Altered → Type 0

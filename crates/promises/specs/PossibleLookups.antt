@@ -8,12 +8,12 @@ use native.Mathlib.Nat.{min-le-left}
 use native.Mathlib.Omega.{arith}
 use lib.ListN.{length, take}
 use lib.Dec.{eqb, leb}
-use borrow.Author.Tests.{leb-true, le-leb, eqb-true, eqb-false}
+use borrow.Author.Tests.{leb-true, le-leb, eqb-true}
 use Rattle.format.specs.Pair.{pairSync}
 use Rattle.format.specs.Fetch.{geometryFits, pairFits}
-use Rattle.format.specs.Tag.{tagSize, tagLength}
+use Rattle.format.specs.Tag.{tagSize}
 use Rattle.format.specs.Kind.{noSlot}
-use Rattle.format.specs.Look.{Found, noEntry, found}
+use Rattle.format.specs.Look.{dataSize, HitIn}
 use Rattle.format.specs.Lookup.{recordFits, blockOf, searched, sliceEnd, sliceAnswer}
 use Rattle.format.specs.Lookup.{longestBuffer, getsliceFits, getsliceOf, getFits, getOf, nameMask, nameKey, structMask}
 use Rattle.format.specs.Lookup.{structKey, readAnswer, readBuffer, infoFrom, infoOf, getinfoFits, getinfoOf}
@@ -21,35 +21,35 @@ use Rattle.format.specs.Lookup.{moveMask, moveKey, moveAnswer, getgstateOf}
 use Rattle.format.specs.declared.Geometry.{Geometry}
 use Rattle.format.specs.declared.LfsMdir.{LfsMdir}
 use Rattle.format.specs.declared.LfsGstate.{LfsGstate}
+use Rattle.format.specs.declared.Found.{Found}
+use Rattle.format.specs.declared.Hit.{Hit}
+use Rattle.format.specs.declared.Hit.the-variants as hit
 use Rattle.format.specs.declared.Got.{Got}
 use Rattle.format.specs.declared.Got.the-variants as got
 use Rattle.format.specs.declared.Informed.{Informed}
-use Rattle.format.proofs.Tags.{length-size}
 use Rattle.theory.specs.Walk.Step.{both-true}
-use Rattle.theory.specs.Lookup.AtStart.{FoundIn, searched-in}
+use Rattle.theory.specs.Lookup.AtStart.{searched-in}
 use Rattle.promises.specs.Possible.{SliceRefuses, slice22, slice84, slice2, GetRefuses, get22, get2}
 use Rattle.promises.specs.Possible.{GstateRefuses, gstate22, GotOr, AlteredOr, behind, through}
 
 -- ---- what was found is read
-slice-possible : (b : List ℕ) (offset size : ℕ) (f : Found) → GotOr SliceRefuses (sliceAnswer b offset size f)
-slice-possible b offset size noEntry = slice2
-slice-possible b offset size (found t off diff) =
-    through (GotOr SliceRefuses) (leb (sliceEnd t off offset size) (length b)) tt slice84
+slice-possible : (b : List ℕ) (offset size : ℕ) (f : Hit) → GotOr SliceRefuses (sliceAnswer b offset size f)
+slice-possible b offset size hit.Nothing = slice2
+slice-possible b offset size (hit.Found e) =
+    through (GotOr SliceRefuses) (leb (sliceEnd e offset size) (length b)) tt slice84
 
 -- at offset 0, what was found before the block's end is read before it
-start-fits : (b : List ℕ) (size t off diff : ℕ) → FoundIn (length b) (found t off diff)
-    → leb (sliceEnd t off 0 size) (length b) ≡ true
-start-fits b size t off diff h =
-    let z : tagLength t ≡ 4 + tagSize t = length-size t (eqb-false (tagSize t) 0x3ff (h .1)) in
-    le-leb (sliceEnd t off 0 size) (length b) (omega (arith, h .0, min-le-left (tagSize t) size))
+start-fits : (b : List ℕ) (size : ℕ) (e : Found) → HitIn (length b) (hit.Found e)
+    → leb (sliceEnd e 0 size) (length b) ≡ true
+start-fits b size e h = le-leb (sliceEnd e 0 size) (length b) (omega (arith, h .1, min-le-left (dataSize e) size))
 
-start-possible : (b : List ℕ) (size : ℕ) (f : Found) → FoundIn (length b) f → GotOr GetRefuses (sliceAnswer b 0 size f)
-start-possible b size noEntry h = get2
-start-possible b size (found t off diff) h = rw (start-fits b size t off diff h) tt
+start-possible : (b : List ℕ) (size : ℕ) (f : Hit) → HitIn (length b) f → GotOr GetRefuses (sliceAnswer b 0 size f)
+start-possible b size hit.Nothing h = get2
+start-possible b size (hit.Found e) h = rw (start-fits b size e h) tt
 
-move-possible : (b : List ℕ) (f : Found) → FoundIn (length b) f → AlteredOr GstateRefuses (moveAnswer b f)
-move-possible b noEntry h = tt
-move-possible b (found t off diff) h = rw (start-fits b 12 t off diff h) tt
+move-possible : (b : List ℕ) (f : Hit) → HitIn (length b) f → AlteredOr GstateRefuses (moveAnswer b f)
+move-possible b hit.Nothing h = tt
+move-possible b (hit.Found e) h = rw (start-fits b 12 e h) tt
 
 -- an info is refused as the first of its two lookups that is
 abbrev Informs : Informed → Type 0
@@ -61,7 +61,7 @@ info-from (got.Refused r) y name struct h k = h
 info-from (got.Found t) (got.Refused r) name struct h k = k
 info-from (got.Found t) (got.Found u) name struct h k = tt
 
-info-possible : (b : List ℕ) (nameMax : ℕ) (name struct : Found) → FoundIn (length b) name → FoundIn (length b) struct
+info-possible : (b : List ℕ) (nameMax : ℕ) (name struct : Hit) → HitIn (length b) name → HitIn (length b) struct
     → Informs (infoOf b nameMax name struct)
 info-possible b nameMax name struct h k =
     info-from (readAnswer b (nameMax + 1) name) (readAnswer b 8 struct)
@@ -76,7 +76,7 @@ module _ (g : Geometry) (b0 b1 : List ℕ) (n0 n1 : ℕ) (dir : LfsMdir) (gdisk 
   abbrev block : List ℕ
   block = blockOf b0 b1 n0 dir
 
-  abbrev search : ℕ → ℕ → Found
+  abbrev search : ℕ → ℕ → Hit
   search mask key = searched block dir gdisk mask key
 
   -- the record's end is in the block that it was read from
@@ -95,7 +95,7 @@ module _ (g : Geometry) (b0 b1 : List ℕ) (n0 n1 : ℕ) (dir : LfsMdir) (gdisk 
       (rw (eqb-true (length b0) size (first .1)) inside) (rw (eqb-true (length b1) size (second .1)) inside)
 
   -- a search finds nothing behind the record's end
-  search-inside : (mask key : ℕ) → fits ≡ true → FoundIn (length block) (search mask key)
+  search-inside : (mask key : ℕ) → fits ≡ true → HitIn (length block) (search mask key)
   search-inside mask key h = searched-in (length block) block dir gdisk mask key (end-inside h)
 
   pub getslice-possible : (mask key offset : ℕ) (buffer : List ℕ)
@@ -132,10 +132,10 @@ module _ (g : Geometry) (b0 b1 : List ℕ) (n0 n1 : ℕ) (dir : LfsMdir) (gdisk 
       behind Informs (fits && leb 1 nameMax && leb nameMax 255 && leb id noSlot)
       (λ e. through Informs (eqb id noSlot) tt (read (both-true _ _ (both-true _ _ (both-true _ _ e .0) .0) .0))) get22
     where
-      name : Found
+      name : Hit
       name = search nameMask (nameKey id nameMax)
 
-      struct : Found
+      struct : Hit
       struct = search structMask (structKey id)
 
       read : fits ≡ true → Informs (infoOf block nameMax name struct)

@@ -9,10 +9,10 @@ use lib.ListN.{length, take, drop, replicate, take-append-drop}
 use lib.Dec.{leb}
 use lib.Seq.{sets}
 use Rattle.format.specs.Bytes.{inside, putAnswer, putLe32, putBe32}
-use Rattle.format.specs.Word.{plus32, toLe32, toBe32}
+use Rattle.format.specs.Word.{toLe32, toBe32}
 use Rattle.format.specs.Tag.{tagSize}
 use Rattle.format.specs.Gstate.{gstateXor}
-use Rattle.format.specs.Look.{Found, noEntry, found}
+use Rattle.format.specs.Look.{dataSize}
 use Rattle.format.specs.Lookup.{recordFits, blockOf, searched, sliceStart, sliceEnd, sliceAnswer, sliceBuffer}
 use Rattle.format.specs.Lookup.{getsliceFits, getsliceOf, getsliceBuffer, getFits, getOf, getBuffer, moveMask, moveKey}
 use Rattle.format.specs.Lookup.{gstateIn, blankBuffer, moveAnswer, moveState, getgstateOf, getgstateState}
@@ -21,14 +21,17 @@ use Rattle.format.specs.declared.LfsMdir.{LfsMdir}
 use Rattle.format.specs.declared.LfsGstate.{LfsGstate}
 use Rattle.format.specs.declared.Refusal.{Refusal}
 use Rattle.format.specs.declared.Refusal.the-variants.{Invalid, Corrupt}
+use Rattle.format.specs.declared.Found.{Found}
+use Rattle.format.specs.declared.Hit.{Hit}
+use Rattle.format.specs.declared.Hit.the-variants as hit
 use Rattle.format.specs.declared.Got.the-variants as got
 use Rattle.format.specs.declared.Altered.the-variants as altered
 
 -- ---- three ways through a test: its answer and what it leaves are decided together
-got-kept : {S : Type 0} (test : Bool) (t : ℕ) (q r : Refusal) (new old : S)
-    → cond test (got.Found t) (got.Refused q) ≡ got.Refused r → cond test new old ≡ old
-got-kept true t q r new old h = cc
-got-kept false t q r new old h = refl
+got-kept : {S : Type 0} (test : Bool) (e : Found) (q r : Refusal) (new old : S)
+    → cond test (got.Found e) (got.Refused q) ≡ got.Refused r → cond test new old ≡ old
+got-kept true e q r new old h = cc
+got-kept false e q r new old h = refl
 
 altered-kept : {S : Type 0} (test : Bool) (q r : Refusal) (new old : S)
     → cond test altered.Done (altered.Refused q) ≡ altered.Refused r → cond test new old ≡ old
@@ -41,13 +44,13 @@ behind true x q a new old f h = f h
 behind false x q a new old f h = refl
 
 -- ---- lfs_dir_getslice, lfs_dir_get
-slice-refused : (b : List ℕ) (offset : ℕ) (buffer : List ℕ) (f : Found) (r : Refusal)
+slice-refused : (b : List ℕ) (offset : ℕ) (buffer : List ℕ) (f : Hit) (r : Refusal)
     → sliceAnswer b offset (length buffer) f ≡ got.Refused r → sliceBuffer b offset buffer f ≡ buffer
-slice-refused b offset buffer noEntry r h = refl
-slice-refused b offset buffer (found t tagOff diff) r h =
-    got-kept (leb (sliceEnd t tagOff offset (length buffer)) (length b)) (plus32 t diff) Corrupt r
-    (take (min (tagSize t) (length buffer)) (drop (sliceStart tagOff offset) b)
-    ++ replicate (length buffer - tagSize t) 0) buffer h
+slice-refused b offset buffer hit.Nothing r h = refl
+slice-refused b offset buffer (hit.Found e) r h =
+    got-kept (leb (sliceEnd e offset (length buffer)) (length b)) e Corrupt r
+    (take (min (dataSize e) (length buffer)) (drop (sliceStart e offset) b)
+    ++ replicate (length buffer - dataSize e) 0) buffer h
 
 module _ (g : Geometry) (b0 b1 : List ℕ) (n0 n1 : ℕ) (dir : LfsMdir) (gdisk : LfsGstate) (mask key : ℕ) where
   pub getslice-refused : (offset : ℕ) (buffer : List ℕ) (r : Refusal)
@@ -56,7 +59,7 @@ module _ (g : Geometry) (b0 b1 : List ℕ) (n0 n1 : ℕ) (dir : LfsMdir) (gdisk 
   unfolding getsliceOf getsliceBuffer
   getslice-refused offset buffer r h =
       let b : List ℕ = blockOf b0 b1 n0 dir in
-      let f : Found = searched b dir gdisk mask key in
+      let f : Hit = searched b dir gdisk mask key in
       behind (getsliceFits g b0 b1 n0 n1 dir buffer) (sliceAnswer b offset (length buffer) f) (got.Refused Invalid)
       (got.Refused r)
       (sliceBuffer b offset buffer f) buffer (slice-refused b offset buffer f r) h
@@ -73,12 +76,12 @@ module _ (g : Geometry) (b0 b1 : List ℕ) (n0 n1 : ℕ) (dir : LfsMdir) (gdisk 
       ∙ take-append-drop (tagSize key) buffer) h
 
 -- ---- lfs_dir_getgstate
-move-refused : (b : List ℕ) (gstate : LfsGstate) (f : Found) (r : Refusal) → moveAnswer b f ≡ altered.Refused r
+move-refused : (b : List ℕ) (gstate : LfsGstate) (f : Hit) (r : Refusal) → moveAnswer b f ≡ altered.Refused r
     → moveState b gstate f ≡ gstate
-move-refused b gstate noEntry r h = refl
-move-refused b gstate (found t tagOff diff) r h =
-    altered-kept (leb (sliceEnd t tagOff 0 12) (length b)) Corrupt r
-    (gstateXor gstate (gstateIn (sliceBuffer b 0 (blankBuffer 12) (found t tagOff diff)))) gstate h
+move-refused b gstate hit.Nothing r h = refl
+move-refused b gstate (hit.Found e) r h =
+    altered-kept (leb (sliceEnd e 0 12) (length b)) Corrupt r
+    (gstateXor gstate (gstateIn (sliceBuffer b 0 (blankBuffer 12) (hit.Found e)))) gstate h
 
 pub getgstate-refused : (g : Geometry) (b0 b1 : List ℕ) (n0 n1 : ℕ) (dir : LfsMdir) (gdisk gstate : LfsGstate)
     (r : Refusal)
@@ -86,7 +89,7 @@ pub getgstate-refused : (g : Geometry) (b0 b1 : List ℕ) (n0 n1 : ℕ) (dir : L
 unfolding getgstateOf getgstateState
 getgstate-refused g b0 b1 n0 n1 dir gdisk gstate r h =
     let b : List ℕ = blockOf b0 b1 n0 dir in
-    let f : Found = searched b dir gdisk moveMask moveKey in
+    let f : Hit = searched b dir gdisk moveMask moveKey in
     behind (recordFits g (length b0) (length b1) n0 n1 dir) (moveAnswer b f) (altered.Refused Invalid)
     (altered.Refused r) (moveState b gstate f) gstate
     (move-refused b gstate f r) h

@@ -7,15 +7,16 @@ ghost use lib.ListN.{length};
 ghost use Rattle.format.specs.Log.{log};
 ghost use Rattle.format.specs.Directory.{dirOf};
 ghost use Rattle.format.specs.Listing.{writtenTo};
-ghost use Rattle.format.specs.Audit.{isInstruction, isPayload, isDeadline, lackLine, nameOrDash, totalLines};
-ghost use Rattle.format.specs.Audit.{blockAudit, auditAs, auditOf};
+ghost use Rattle.format.specs.Audit.{isInstruction, isPayload, isDeadline, isThere, nameOrDash, lackLine};
+ghost use Rattle.format.specs.Audit.{deadlineLine, totalLines, blockAudit, auditAs, auditOf};
+ghost use Rattle.format.specs.Look.{HitIn};
+ghost use Rattle.theory.specs.Lookup.ByMask.{holds};
 ghost use Rattle.text.specs.Put.{text, putsOf};
-ghost use Rattle.compact_slot.specs.Seat.{loadIn, Inside};
-ghost use Rattle.compact_slot.specs.Slots.{Slots, slotIn};
-ghost use Rattle.compact_slot.specs.Held.{AllInside};
+ghost use Rattle.compact_slot.specs.Slots.{Slots, slotIn, AllInside};
 ghost use Rattle.text_input.specs.Input.{Listable};
 ghost use Rattle.text_audit.specs.Audited.{Told, Few, SlotAudited, SlotsAudited};
 use format::Fetched;
+use format::Hit;
 use format::LfsMdir;
 use format::LfsPair;
 use format::Refusal;
@@ -35,55 +36,66 @@ pub struct Audit {
 }
 
 // "A slot is an instruction unless its name says directory or superblock": with no name it is one.
-fn is_instruction(name: u64) -> bool
+fn is_instruction(name: Hit) -> bool
     ensures { λ r. ⌜ Told isInstruction name r ⌝ }
 {
-    let p = compact_slot::held_at(name);
-    if !p.held {
+    let Hit::Found(e) = name else {
         return true;
-    }
-    (p.kind != LFS_TYPE_DIR) & (p.kind != LFS_TYPE_SUPERBLOCK)
+    };
+    let kind = tag::lfs_tag_type3(e.tag);
+    (kind != LFS_TYPE_DIR) & (kind != LFS_TYPE_SUPERBLOCK)
 }
 
 // "It has a payload if its struct is CTZ, or inline of one byte or more."
-fn is_payload(content: u64) -> bool
+fn is_payload(content: Hit) -> bool
     ensures { λ r. ⌜ Told isPayload content r ⌝ }
 {
-    let p = compact_slot::held_at(content);
-    if !p.held {
+    let Hit::Found(e) = content else {
         return false;
-    }
-    (p.kind == LFS_TYPE_CTZSTRUCT) | ((p.kind == LFS_TYPE_INLINESTRUCT) & (p.from < p.to))
+    };
+    let kind = tag::lfs_tag_type3(e.tag);
+    (kind == LFS_TYPE_CTZSTRUCT) | ((kind == LFS_TYPE_INLINESTRUCT) & (4 < e.length))
 }
 
-// "It has a deadline if the user attribute 0x74 is there": a removed one isn't.
-fn is_deadline(attribute: u64) -> bool
+// "Its deadline is the user attribute 0x74, of four bytes."
+fn is_deadline(attribute: Hit) -> bool
     ensures { λ r. ⌜ Told isDeadline attribute r ⌝ }
 {
-    let p = compact_slot::held_at(attribute);
-    p.held
+    match attribute {
+        Hit::Nothing => false,
+        Hit::Found(e) => e.length == 8,
+    }
+}
+
+// "Of any other length it can't be read: it is there": a removed one isn't.
+fn is_there(attribute: Hit) -> bool
+    ensures { λ r. ⌜ Told isThere attribute r ⌝ }
+{
+    match attribute {
+        Hit::Nothing => false,
+        Hit::Found(_) => true,
+    }
 }
 
 // "The name as in the listing; `-` where there is none."
-fn name_or_dash(out: &mut [u8], at: u32, b: &[u8], name: u64) -> u32
-    requires { ⌜ Inside (now b) name ⌝ }
+fn name_or_dash(out: &mut [u8], at: u32, b: &[u8], name: Hit) -> u32
+    requires { ⌜ HitIn (length (now b)) name ⌝ }
     ensures { λ r. ⌜ text r (now (out .exit)) ≡ putsOf (text at (now (out .entry)))
-        (nameOrDash (loadIn (now (b .entry)) name)) ⌝ }
+        (nameOrDash (holds (now (b .entry)) name)) ⌝ }
 {
-    let p = compact_slot::held_at(name);
-    if !p.held {
+    let Hit::Found(e) = name else {
         return text::puts(out, at, b"-");
-    }
-    let from = p.from;
-    let to = p.to;
+    };
+    let from = e.off as usize;
+    let to = from + (e.length - 4) as usize;
     text::name_bytes(out, at, &b[from..to])
 }
 
 // The line of a slot: its id, its name, and what it lacks.
-fn lack_line(out: &mut [u8], at: u32, b: &[u8], id: u32, name: u64, what: &[u8]) -> u32
-    requires { ⌜ Inside (now b) name ⌝ }
+fn lack_line(out: &mut [u8], at: u32, b: &[u8], id: u32, name: Hit, what: &[u8]) -> u32
+    requires { ⌜ HitIn (length (now b)) name ⌝ }
     ensures { λ r. ⌜ text r (now (out .exit)) ≡ putsOf (text at (now (out .entry)))
-        (lackLine id (loadIn (now (b .entry)) name) (now (what .entry))) ⌝ }
+        (lackLine id (holds (now (b .entry)) name) (now (what .entry))) ⌝ }
 {
     let n = text::puts(out, at, b"slot ");
     let n = text::decimal(out, n, id);
@@ -92,8 +104,23 @@ fn lack_line(out: &mut [u8], at: u32, b: &[u8], id: u32, name: u64, what: &[u8])
     text::puts(out, n, what)
 }
 
-// A slot: one of the two lines, or none, and the count that goes with it.
-fn slot_audit(out: &mut [u8], a: Audit, b: &[u8], id: u32, seats: &[u64; 258]) -> Audit
+// "A deadline that can't be read is told apart from a missing one": by its length.
+fn deadline_line(out: &mut [u8], at: u32, b: &[u8], id: u32, name: Hit, attribute: Hit) -> u32
+    requires { ⌜ HitIn (length (now b)) name ⌝ }
+    requires { ⌜ HitIn (length (now b)) attribute ⌝ }
+    ensures { λ r. ⌜ text r (now (out .exit)) ≡ putsOf (text at (now (out .entry)))
+        (deadlineLine id (holds (now (b .entry)) name) (holds (now (b .entry)) attribute)) ⌝ }
+{
+    let Hit::Found(e) = attribute else {
+        return lack_line(out, at, b, id, name, b" no deadline\n");
+    };
+    let n = lack_line(out, at, b, id, name, b" deadline of ");
+    let n = text::decimal(out, n, e.length - 4);
+    text::puts(out, n, b" bytes\n")
+}
+
+// A slot: one of the lines, or none, and the count that goes with it.
+fn slot_audit(out: &mut [u8], a: Audit, b: &[u8], id: u32, seats: &[u32; 516]) -> Audit
     requires { ⌜ AllInside (now b) (now seats) ⌝ }
     requires { ⌜ Few a ⌝ }
     ensures { λ r. ⌜ SlotAudited a (now (out .entry)) r (now (out .exit)) id
@@ -102,19 +129,20 @@ fn slot_audit(out: &mut [u8], a: Audit, b: &[u8], id: u32, seats: &[u64; 258]) -
     let at = a.at;
     let no_deadline = a.no_deadline;
     let no_payload = a.no_payload;
-    let instruction = is_instruction(seats[0]);
-    let payload = is_payload(seats[1]);
-    let deadline = is_deadline(seats[DEADLINE]);
-    if instruction & (payload & !deadline) {
-        let n = lack_line(out, at, b, id, seats[0], b" no deadline\n");
+    let name = compact_slot::found(seats, 0);
+    let attribute = compact_slot::found(seats, DEADLINE);
+    let instruction = is_instruction(name);
+    let payload = is_payload(compact_slot::found(seats, 1));
+    if instruction & (payload & !is_deadline(attribute)) {
+        let n = deadline_line(out, at, b, id, name, attribute);
         return Audit {
             at: n,
             no_deadline: no_deadline + 1,
             no_payload,
         };
     }
-    if instruction & (deadline & !payload) {
-        let n = lack_line(out, at, b, id, seats[0], b" no payload\n");
+    if instruction & (is_there(attribute) & !payload) {
+        let n = lack_line(out, at, b, id, name, b" no payload\n");
         return Audit {
             at: n,
             no_deadline,
@@ -136,7 +164,7 @@ fn slot_audits(out: &mut [u8], b: &[u8], end: usize, etag: u32, count: u32) -> A
     };
     let mut id: u32 = 0;
     while id < count {
-        let seats = compact_slot::gather(b, end, etag, id as usize);
+        let seats = compact_slot::gather(b, end, etag, id);
         a = slot_audit(out, a, b, id, &seats);
         id += 1;
     }

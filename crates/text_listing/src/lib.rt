@@ -10,12 +10,13 @@ ghost use Rattle.format.specs.Listing.{tailKind, tailLine, erasedLine, recordLi
 ghost use Rattle.format.specs.Listing.{attrLine, attrLines, slotLines, refusedLine, blockText, fetchInput, listingOf};
 ghost use Rattle.format.specs.Listing.{listingAs, writtenTo};
 ghost use Rattle.text.specs.Put.{text, putsOf};
-ghost use Rattle.compact_slot.specs.Seat.{loadIn, Inside};
-ghost use Rattle.compact_slot.specs.Slots.{Slots, slotIn};
+ghost use Rattle.format.specs.Look.{HitIn};
+ghost use Rattle.theory.specs.Lookup.ByMask.{holds};
+ghost use Rattle.compact_slot.specs.Slots.{Slots, slotIn, AllInside};
 ghost use Rattle.text_listing.specs.Listed.{slotText};
-ghost use Rattle.compact_slot.specs.Held.{AllInside};
 ghost use Rattle.text_input.specs.Input.{Listable};
 use format::Fetched;
+use format::Hit;
 use format::LfsMdir;
 use format::LfsPair;
 use format::Refusal;
@@ -27,37 +28,34 @@ use text_input::INPUT_PROG_SIZE;
 const ATTRIBUTES: usize = 2;
 
 // "id, name type, name, ..; a missing part prints `-` per field"
-fn name_fields(out: &mut [u8], at: u32, b: &[u8], seat: u64) -> u32
-    requires { ⌜ Inside (now b) seat ⌝ }
+fn name_fields(out: &mut [u8], at: u32, b: &[u8], name: Hit) -> u32
+    requires { ⌜ HitIn (length (now b)) name ⌝ }
     ensures { λ r. ⌜ text r (now (out .exit)) ≡ putsOf (text at (now (out .entry)))
-        (nameFields (loadIn (now (b .entry)) seat)) ⌝ }
+        (nameFields (holds (now (b .entry)) name)) ⌝ }
 {
-    let p = compact_slot::held_at(seat);
-    if !p.held {
+    let Hit::Found(e) = name else {
         return text::puts(out, at, b" - -");
-    }
-    let from = p.from;
-    let to = p.to;
+    };
+    let from = e.off as usize;
+    let to = from + (e.length - 4) as usize;
     let n = text::puts(out, at, b" ");
-    let n = text::hex_type(out, n, p.kind as u32);
+    let n = text::hex_type(out, n, tag::lfs_tag_type3(e.tag) as u32);
     let n = text::puts(out, n, b" ");
     text::name_bytes(out, n, &b[from..to])
 }
 
 // ".. struct type, struct length"
-fn struct_fields(out: &mut [u8], at: u32, b: &[u8], seat: u64) -> u32
-    requires { ⌜ Inside (now b) seat ⌝ }
+fn struct_fields(out: &mut [u8], at: u32, b: &[u8], content: Hit) -> u32
+    requires { ⌜ HitIn (length (now b)) content ⌝ }
     ensures { λ r. ⌜ text r (now (out .exit)) ≡ putsOf (text at (now (out .entry)))
-        (structFields (loadIn (now (b .entry)) seat)) ⌝ }
+        (structFields (holds (now (b .entry)) content)) ⌝ }
 {
-    let p = compact_slot::held_at(seat);
-    if !p.held {
+    let Hit::Found(e) = content else {
         return text::puts(out, at, b" - -\n");
-    }
-    let size = (p.to - p.from) as u32;
+    };
     let n = text::puts(out, at, b" ");
-    let n = text::hex_type(out, n, p.kind as u32);
-    text::number_line(out, n, b" ", size)
+    let n = text::hex_type(out, n, tag::lfs_tag_type3(e.tag) as u32);
+    text::number_line(out, n, b" ", e.length - 4)
 }
 
 // ".. data hex, ..; an empty one prints `-`"
@@ -70,29 +68,28 @@ fn attr_data(out: &mut [u8], at: u32, bytes: &[u8]) -> u32
     text::hex_bytes(out, at, bytes)
 }
 
-// "Attr, behind its slot: id, type, data hex"; nothing where nothing stands at the seat.
-fn attr_line(out: &mut [u8], at: u32, b: &[u8], id: u32, seat: u64) -> u32
-    requires { ⌜ Inside (now b) seat ⌝ }
+// "Attr, behind its slot: id, type, data hex"; nothing where nothing was found.
+fn attr_line(out: &mut [u8], at: u32, b: &[u8], id: u32, attribute: Hit) -> u32
+    requires { ⌜ HitIn (length (now b)) attribute ⌝ }
     ensures { λ r. ⌜ text r (now (out .exit)) ≡ putsOf (text at (now (out .entry)))
-        (attrLine id (loadIn (now (b .entry)) seat)) ⌝ }
+        (attrLine id (holds (now (b .entry)) attribute)) ⌝ }
 {
-    let p = compact_slot::held_at(seat);
-    if !p.held {
+    let Hit::Found(e) = attribute else {
         return at;
-    }
-    let from = p.from;
-    let to = p.to;
+    };
+    let from = e.off as usize;
+    let to = from + (e.length - 4) as usize;
     let n = text::puts(out, at, b"attr ");
     let n = text::decimal(out, n, id);
     let n = text::puts(out, n, b" ");
-    let n = text::hex_type(out, n, p.kind as u32);
+    let n = text::hex_type(out, n, tag::lfs_tag_type3(e.tag) as u32);
     let n = text::puts(out, n, b" ");
     let n = attr_data(out, n, &b[from..to]);
     text::puts(out, n, b"\n")
 }
 
 // The user attributes of a slot, ".. rising".
-fn attr_lines(out: &mut [u8], at: u32, b: &[u8], id: u32, seats: &[u64; 258]) -> u32
+fn attr_lines(out: &mut [u8], at: u32, b: &[u8], id: u32, seats: &[u32; 516]) -> u32
     requires { ⌜ AllInside (now b) (now seats) ⌝ }
     ensures { λ r. ⌜ text r (now (out .exit)) ≡ putsOf (text at (now (out .entry)))
         (attrLines (2 ^ 8) 2 id (slotIn (now (b .entry)) (now (seats .entry)))) ⌝ }
@@ -100,22 +97,22 @@ fn attr_lines(out: &mut [u8], at: u32, b: &[u8], id: u32, seats: &[u64; 258]) ->
     let mut n = at;
     let mut class = ATTRIBUTES;
     while class < compact_slot::CLASSES {
-        n = attr_line(out, n, b, id, seats[class]);
+        n = attr_line(out, n, b, id, compact_slot::found(seats, class));
         class += 1;
     }
     n
 }
 
 // A slot: its line, and its user attributes behind it.
-fn slot_text(out: &mut [u8], at: u32, b: &[u8], id: u32, seats: &[u64; 258]) -> u32
+fn slot_text(out: &mut [u8], at: u32, b: &[u8], id: u32, seats: &[u32; 516]) -> u32
     requires { ⌜ AllInside (now b) (now seats) ⌝ }
     ensures { λ r. ⌜ text r (now (out .exit)) ≡ putsOf (text at (now (out .entry)))
         (slotText id (slotIn (now (b .entry)) (now (seats .entry)))) ⌝ }
 {
     let n = text::puts(out, at, b"slot ");
     let n = text::decimal(out, n, id);
-    let n = name_fields(out, n, b, seats[0]);
-    let n = struct_fields(out, n, b, seats[1]);
+    let n = name_fields(out, n, b, compact_slot::found(seats, 0));
+    let n = struct_fields(out, n, b, compact_slot::found(seats, 1));
     attr_lines(out, n, b, id, seats)
 }
 
@@ -128,7 +125,7 @@ fn slot_lines(out: &mut [u8], at: u32, b: &[u8], end: usize, etag: u32, count: u
     let mut n = at;
     let mut id: u32 = 0;
     while id < count {
-        let seats = compact_slot::gather(b, end, etag, id as usize);
+        let seats = compact_slot::gather(b, end, etag, id);
         n = slot_text(out, n, b, id, &seats);
         id += 1;
     }

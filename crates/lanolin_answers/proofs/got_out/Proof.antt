@@ -1,15 +1,16 @@
--- `lanolin_answers::got_out` meets its contract: the tag with 0, or the refusal's number. Assumes nothing.
+-- `lanolin_answers::got_out` meets its contract: the entry with 0, or the refusal's number. Assumes nothing.
 use mathlib.Core.Path.{sym, ap, _∙_}
 use lib.IntN.{ℤ}
 use mir.Facts.{toZ-ofZ}
 use borrow.Author.Needs.{needs, sfits-of}
+use Rattle.format.specs.Answer.{noneFound}
 use Rattle.lanolin_answers.specs.Values.{gotOut}
-use Rattle.lanolin_answers.specs.declared.Value.{Value}
+use Rattle.lanolin_answers.specs.declared.GotOut.{GotOut}
 use Rattle.lanolin_answers.proofs.got_out.Statement.{statement}
 use Rattle.lanolin_answers.proofs.got_out.Tie as tie
 
-refused : ℤ → Value
-refused n = record { result = n; value = 0 }
+refused : ℤ → GotOut
+refused n = record { result = n; found = noneFound }
 
 returns : tie.Need-returns
 returns c = sym (ap gotOut (c .before .g .given .1))

@@ -9,7 +9,7 @@ use Rattle.format.specs.Back.{back}
 use Rattle.format.specs.Look.{wlook}
 use Rattle.format.specs.Lookup.{hasIds}
 use Rattle.lookup_back.proofs.Step.{back-word, placed-at, placed-over}
-use Rattle.lookup_search.proofs.Turn.{walk-over, turn-created, turn-removed, turn-found, turn-on}
+use Rattle.lookup_search.proofs.Turn.{walk-over, turn-created, turn-removed, turn-found, turn-on, turn-inside}
 use Rattle.lookup_search.proofs.find_back.Statement.{statement}
 use Rattle.lookup_search.proofs.find_back.Tie as tie
 
@@ -54,22 +54,30 @@ returns-3 c =
       tt,
     )
 
+found-at-requires : tie.Need-found-at-requires Inv-loop μ-loop
+found-at-requires c κs =
+    let d = c .before .before .before .before .before .before in
+    omega (
+      arith,
+      back-word _ _ _
+          (placed-at _ _ _ _ (d .before .before .before .before .before .before .place .ensures)
+          (d .before .before .before .before .at .given .1)),
+    )
+
 returns-4 : tie.Need-returns-4 Inv-loop μ-loop
 returns-4 c =
-    let d = c .before .before .before .before .before .before in (
-      turn-found _ _ _ _ _ _ _ _ (d .before .before .before .before .before .before .before .loop .inv .1) _
-          (placed-at _ _ _ _ (d .before .before .before .before .before .before .place .ensures)
-          (d .before .before .before .before .at .given .1)) _ (d .before .before .key-at .ensures) _
+    let f = c .before in
+    let d = f .before .before .before .before .before .before in
+    let ends = placed-at _ _ _ _ (d .before .before .before .before .before .before .place .ensures)
+    (d .before .before .before .before .at .given .1) in
+    let inv = d .before .before .before .before .before .before .before .loop .inv in (
+      turn-found _ _ _ _ _ _ _ _ (inv .1) _ ends _ (d .before .before .key-at .ensures) _
           (d .before .splices .ensures) _ (d .create-at .ensures)
-          (c .before .before .before .before .before .if1 .left) _
-          (c .before .before .before .before .diff-after .ensures) _ (c .before .before .before .key-at2 .ensures)
-          (c .before .before .if2 .taken) (sym (c .before .lfs-tag-isdelete .ensures) ∙ c .if3 .left),
-      omega (
-        arith,
-        back-word _ _ _
-            (placed-at _ _ _ _ (d .before .before .before .before .before .before .place .ensures)
-            (d .before .before .before .before .at .given .1)),
-      ),
+          (f .before .before .before .before .before .if1 .left) _
+          (f .before .before .before .before .diff-after .ensures) _ (f .before .before .before .key-at2 .ensures)
+          (f .before .before .if2 .taken) (sym (f .before .lfs-tag-isdelete .ensures) ∙ f .if3 .left) _
+          (c .found-at .ensures),
+      turn-inside _ _ _ _ _ ends (inv .0) _ (c .found-at .ensures),
     )
 
 tag-before-requires : tie.Need-tag-before-requires Inv-loop μ-loop
@@ -111,5 +119,6 @@ find-back-spec =
     tie.close
     (tie.spec Inv-loop μ-loop (λ c κs. search needs) loop-holds (λ c κs. search needs) (λ c. search needs)
     (λ c. search needs) returns (λ c κs. search needs) (λ c κs. search needs) (λ c κs. search needs) returns-2
-    (λ c κs. search needs) (λ c κs. search needs) (λ c κs. search needs) returns-3 returns-4 tag-before-requires
+    (λ c κs. search needs) (λ c κs. search needs) (λ c κs. search needs) returns-3 found-at-requires returns-4
+    tag-before-requires
     loop-less loop-again)

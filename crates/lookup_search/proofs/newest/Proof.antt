@@ -15,10 +15,10 @@ returns c = (
 
 returns-2 : tie.Need-returns-2
 returns-2 c = (
-  start-from _ _ _ _ _ _ _ _ _ (c .before .before .before .before .before .before .before .lfs-tag-id
-      .ensures) (c .before .before .before .before .before .before .has-move-here .ensures)
-      (c .before .before .before .before .before .lfs-tag-id2 .ensures)
-      (c .before .before .before .before .lfs-tag-id3 .ensures) (c .before .before .before .if1 .left) _
+  start-from _ _ _ _ _ _ _ _ _ (c .before .before .before .before .before .before .lfs-tag-id .ensures)
+      (c .before .before .before .before .before .has-move-here .ensures)
+      (c .before .before .before .before .lfs-tag-id2 .ensures)
+      (c .before .before .before .lfs-tag-id3 .ensures) (c .before .before .if1 .left) _
       (c .before .first-diff .ensures) _ (c .find-back .ensures .0),
   c .find-back .ensures .1,
 )
@@ -27,4 +27,4 @@ pub newest-spec : {M : Type 1} → statement M
 newest-spec =
     tie.close
     (tie.spec (λ c κs. search needs) (λ c κs. search needs) (λ c κs. search needs) (λ c κs. search needs) returns
-    (λ c. search needs) (λ c κs. search needs) (λ c κs. search needs) returns-2)
+    (λ c κs. search needs) (λ c κs. search needs) returns-2)

@@ -7,31 +7,31 @@ use Prim.Native.Nat.{ℕ, zero, suc, _+_, _-_, _%_, _^_, _≤_, _<_, min}
 use native.Mathlib.Omega.{arith}
 use native.Mathlib.Nat.{zero-add, add-zero, suc-add, min-zero, zero-min, suc-min-suc, min-le-left}
 use lib.ListN.{length, take, drop, getD, length-drop}
-use lib.Seq.{take-nil, take-take, drop-drop, getD-take, length-take-le}
+use lib.Seq.{take-nil, take-take, getD-take, length-take-le}
 use lib.Bits.{bitAnd}
 use lib.Dec.{leb, ltb, eqb}
-use borrow.Author.Tests.{leb-true, le-leb, eqb-false}
+use borrow.Author.Tests.{leb-true, le-leb}
 use Rattle.format.specs.Word.{be32, xor, minus32}
-use Rattle.format.specs.Tag.{tagId, tagSize, tagDelete, tagLength}
+use Rattle.format.specs.Tag.{tagId, tagDelete, tagLength}
 use Rattle.format.specs.Back.{Met, hop, backs, back}
-use Rattle.format.specs.Look.{Found, noEntry, found, splicedAt, createAt, diffAfter, wlook}
+use Rattle.format.specs.Look.{foundAt, dataSize, bytesOf, HitIn, splicedAt, createAt, diffAfter, wlook}
 use Rattle.format.specs.Gstate.{gstateHasMoveHere}
 use Rattle.format.specs.Lookup.{hasIds, searchedFrom, searched, sliceStart, sliceEnd, sliceAnswer, sliceBuffer}
+use Rattle.format.specs.Answer.{gotWord}
 use Rattle.format.specs.declared.LfsMdir.{LfsMdir}
+use Rattle.format.specs.declared.Hit.{Hit}
+use Rattle.format.specs.declared.Hit.the-variants as hit
+use Rattle.format.specs.declared.Word.the-variants as word
 use Rattle.format.specs.declared.LfsGstate.{LfsGstate}
-use Rattle.format.proofs.Tags.{length-size}
 use Rattle.format.proofs.Words.{be32-at, tagLength-ge}
+use Rattle.format.proofs.Searched.{found-in}
 use Rattle.theory.specs.Lookup.ByMask.{holds, Answers}
-use Rattle.format.specs.Machine.{heldGot, heldBuffer}
+use Rattle.format.specs.Machine.{heldWord, heldBuffer}
 
--- ---- what the walk back meets, and what the search finds there, stands whole before n
+-- ---- what the walk back meets stands whole before n, and so does what the search finds there
 abbrev pub MetIn : ℕ → List Met → Type 0
 MetIn n [] = Unit {0}
 MetIn n (m ∷ ms) = (m .off + tagLength (m .tag) ≤ n) × MetIn n ms
-
-abbrev pub FoundIn : ℕ → Found → Type 0
-FoundIn n noEntry = Unit {0}
-FoundIn n (found t off d) = (off + tagLength t ≤ n) × (tagDelete t ≡ false)
 
 backs-in : (k : ℕ) (b : List ℕ) (off t n : ℕ) → off ≤ n → MetIn n (backs k b off t)
 unfolding backs
@@ -50,36 +50,37 @@ pub back-in : (b : List ℕ) (off t n : ℕ) → off ≤ n → MetIn n (back b o
 unfolding back
 back-in b off t n h = backs-in (suc off) b off t n h
 
-pub wlook-in : (n : ℕ) (ids : Bool) (mask key d : ℕ) (ms : List Met) → MetIn n ms → FoundIn n (wlook ids mask key d ms)
+pub wlook-in : (n : ℕ) (ids : Bool) (mask key d : ℕ) (ms : List Met) → MetIn n ms → HitIn n (wlook ids mask key d ms)
 unfolding wlook
 wlook-in n ids mask key d [] h = tt
 wlook-in n ids mask key d (m ∷ ms) h =
     go (splicedAt ids (m .tag) (minus32 key d) && eqb (m .tag) (createAt (minus32 key d)))
-    (eqb (bitAnd (m .tag) mask) (bitAnd (minus32 key (diffAfter ids (m .tag) key d)) mask)) (tagDelete (m .tag)) refl
+    (eqb (bitAnd (m .tag) mask) (bitAnd (minus32 key (diffAfter ids (m .tag) key d)) mask)) (tagDelete (m .tag))
     (wlook-in n ids mask key (diffAfter ids (m .tag) key d) ms (h .1))
   where
-    go : (a b c : Bool) → tagDelete (m .tag) ≡ c → FoundIn n (wlook ids mask key (diffAfter ids (m .tag) key d) ms)
-        → FoundIn n (cond a noEntry (cond b (cond c noEntry (found (m .tag) (m .off) (diffAfter ids (m .tag) key d)))
+    go : (a b c : Bool) → HitIn n (wlook ids mask key (diffAfter ids (m .tag) key d) ms)
+        → HitIn n (cond a hit.Nothing
+        (cond b (cond c hit.Nothing (hit.Found (foundAt (m .tag) (m .off) (diffAfter ids (m .tag) key d))))
         (wlook ids mask key (diffAfter ids (m .tag) key d) ms)))
-    go true b c e k = tt
-    go false true true e k = tt
-    go false true false e k = (h .0, e)
-    go false false c e k = k
+    go true b c k = tt
+    go false true true k = tt
+    go false true false k = found-in (m .tag) (m .off) (diffAfter ids (m .tag) key d) n (h .0)
+    go false false c k = k
 
 -- so a lookup whose record ends before n finds nothing behind n, with a pending move or without
 pub searched-in : (n : ℕ) (b : List ℕ) (dir : LfsMdir) (gdisk : LfsGstate) (mask key : ℕ) → dir .off ≤ n
-    → FoundIn n (searched b dir gdisk mask key)
+    → HitIn n (searched b dir gdisk mask key)
 unfolding searched
 searched-in n b dir gdisk mask key h =
     go (hasIds mask && gstateHasMoveHere gdisk (dir .pair)) (eqb (tagId (gdisk .tag)) (tagId key))
     (ltb (tagId (gdisk .tag)) (tagId key)) (from (minus32 0 (2 ^ 10))) (from 0)
   where
-    from : (d : ℕ) → FoundIn n (searchedFrom b dir mask key d)
+    from : (d : ℕ) → HitIn n (searchedFrom b dir mask key d)
     from d = wlook-in n (hasIds mask) mask key d (back b (dir .off) (dir .etag)) (back-in b (dir .off) (dir .etag) n h)
 
-    go : (p q r : Bool) → FoundIn n (searchedFrom b dir mask key (minus32 0 (2 ^ 10)))
-        → FoundIn n (searchedFrom b dir mask key 0)
-        → FoundIn n (cond p (cond q noEntry (cond r (searchedFrom b dir mask key (minus32 0 (2 ^ 10)))
+    go : (p q r : Bool) → HitIn n (searchedFrom b dir mask key (minus32 0 (2 ^ 10)))
+        → HitIn n (searchedFrom b dir mask key 0)
+        → HitIn n (cond p (cond q hit.Nothing (cond r (searchedFrom b dir mask key (minus32 0 (2 ^ 10)))
         (searchedFrom b dir mask key 0))) (searchedFrom b dir mask key 0))
     go true true r h k = tt
     go true false true h k = h
@@ -132,26 +133,18 @@ module _ (e : ℕ) (x y : List ℕ) (same : take e x ≡ take e y) where
   back-same off t h = backs-same (suc off) off t h
 
   -- what was found before e is read alike
-  pub slice-same : (buffer : List ℕ) (f : Found) → FoundIn e f → length x ≡ length y
+  pub slice-same : (buffer : List ℕ) (f : Hit) → HitIn e f → length x ≡ length y
       → (sliceAnswer x 0 (length buffer) f ≡ sliceAnswer y 0 (length buffer) f)
       × (sliceBuffer x 0 buffer f ≡ sliceBuffer y 0 buffer f)
-  slice-same buffer noEntry h long = (refl, refl)
-  slice-same buffer (found t off d) h long =
-      let z : tagLength t ≡ 4 + tagSize t = length-size t (eqb-false (tagSize t) 0x3ff (h .1)) in
-      let s : take (min (tagSize t) (length buffer)) (drop (sliceStart off 0) x)
-      ≡ take (min (tagSize t) (length buffer)) (drop (sliceStart off 0) y)
-      = same-piece (sliceStart off 0) (min (tagSize t) (length buffer))
-      (omega (arith, h .0, min-le-left (tagSize t) (length buffer))) in
+  slice-same buffer hit.Nothing h long = (refl, refl)
+  slice-same buffer (hit.Found u) h long =
+      let s : take (min (dataSize u) (length buffer)) (drop (sliceStart u 0) x)
+      ≡ take (min (dataSize u) (length buffer)) (drop (sliceStart u 0) y)
+      = same-piece (sliceStart u 0) (min (dataSize u) (length buffer))
+      (omega (arith, h .1, min-le-left (dataSize u) (length buffer))) in
       rw (long, s) (refl, refl)
 
--- ---- a place that was found holds this
-size-min : (b : List ℕ) (t off : ℕ) → off + tagLength t ≤ length b → tagLength t ≡ 4 + tagSize t
-    → length (take (tagLength t - 4) (drop 4 (drop off b))) ≡ tagSize t
-size-min b t off h z =
-    let l : length (drop 4 (drop off b)) ≡ length b - off - 4 = length-drop 4 (drop off b)
-    ∙ ap (λ (n : ℕ). n - 4) (length-drop off b) in
-    length-take-le (tagLength t - 4) (drop 4 (drop off b)) (omega arith) ∙ omega arith
-
+-- ---- an entry that was found holds this
 take-both : (n k : ℕ) (l : List ℕ) → take n (take k l) ≡ take (min k n) l
 take-both zero k l = ap (λ (n : ℕ). take n l) (sym (min-zero k))
 take-both (suc n) zero l = ap (λ (n : ℕ). take n l) (sym (zero-min (suc n)))
@@ -159,21 +152,19 @@ take-both (suc n) (suc k) [] = sym (take-nil (min (suc k) (suc n)))
 take-both (suc n) (suc k) (x ∷ l) = ap (λ (z : List ℕ). x ∷ z) (take-both n k l)
     ∙ ap (λ (m : ℕ). take m (x ∷ l)) (sym (suc-min-suc k n))
 
-pub slice-held : (b buffer : List ℕ) (i : ℕ) (f : Found) → FoundIn (length b) f → Answers i f
-    → (sliceAnswer b 0 (length buffer) f ≡ heldGot i (holds b f))
+pub slice-held : (b buffer : List ℕ) (i : ℕ) (f : Hit) → HitIn (length b) f → Answers i f
+    → (gotWord (sliceAnswer b 0 (length buffer) f) ≡ heldWord i (holds b f))
     × (sliceBuffer b 0 buffer f ≡ heldBuffer buffer (holds b f))
 unfolding holds
-slice-held b buffer i noEntry h a = (refl, refl)
-slice-held b buffer i (found t off d) h a =
-    let z : tagLength t ≡ 4 + tagSize t = length-size t (eqb-false (tagSize t) 0x3ff (h .1)) in
-    let n : length (take (tagLength t - 4) (drop 4 (drop off b))) ≡ tagSize t = size-min b t off (h .0) z in
-    let fits : leb (sliceEnd t off 0 (length buffer)) (length b) ≡ true
-    = le-leb (sliceEnd t off 0 (length buffer)) (length b)
-    (omega (arith, h .0, min-le-left (tagSize t) (length buffer))) in
-    let four : tagLength t - 4 ≡ tagSize t = omega arith in
-    let at : drop 4 (drop off b) ≡ drop (sliceStart off 0) b = drop-drop 4 off b
-    ∙ ap (λ (n : ℕ). drop n b) (sym (add-zero (off + 4))) in
-    let bytes : take (length buffer) (take (tagLength t - 4) (drop 4 (drop off b)))
-    ≡ take (min (tagSize t) (length buffer)) (drop (sliceStart off 0) b)
-    = rw (four, at) (take-both (length buffer) (tagSize t) (drop (sliceStart off 0) b)) in
-    rw (fits, n, bytes, a) (refl, refl)
+slice-held b buffer i hit.Nothing h a = (refl, refl)
+slice-held b buffer i (hit.Found e) h a =
+    let n : length (bytesOf b e) ≡ dataSize e
+    = length-take-le (dataSize e) (drop (e .off) b) (omega (arith, h .1, length-drop (e .off) b)) in
+    let fits : leb (sliceEnd e 0 (length buffer)) (length b) ≡ true
+    = le-leb (sliceEnd e 0 (length buffer)) (length b) (omega (arith, h .1, min-le-left (dataSize e) (length buffer)))
+    in
+    let at : drop (e .off) b ≡ drop (sliceStart e 0) b = ap (λ (n : ℕ). drop n b) (sym (add-zero (e .off))) in
+    let bytes : take (length buffer) (bytesOf b e)
+    ≡ take (min (dataSize e) (length buffer)) (drop (sliceStart e 0) b)
+    = rw at (take-both (length buffer) (dataSize e) (drop (sliceStart e 0) b)) in
+    rw (fits, n, bytes) (ap word.Is a, refl)

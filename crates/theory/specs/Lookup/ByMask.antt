@@ -12,26 +12,29 @@ use lib.Bits.{bitAnd}
 use lib.Dec.{eqb, leb}
 use borrow.Author.Tests.{eqb-true, eq-eqb, eqb-false, ne-eqb, leb-true, leb-false}
 use Rattle.format.specs.Word.{plus32, minus32}
-use Rattle.format.specs.Tag.{tagType1, tagType3, tagSplice, tagId, tagSize, tagDelete, tagLength, tagOf}
+use Rattle.format.specs.Tag.{tagType1, tagType3, tagSplice, tagId, tagSize, removalSize, tagDelete, tagLength, tagOf}
 use Rattle.format.specs.Kind.{typeSplice, typeCreate, typeDelete, isSplice}
 use Rattle.format.specs.Back.{Met}
-use Rattle.format.specs.Look.{Found, asIds, splicedAt, wlook, noEntry, found}
+use Rattle.format.specs.Look.{foundAt, dataSize, bytesOf, asIds, splicedAt, wlook}
 use Rattle.format.specs.Directory.{Load, Act, mk, rm, put, skip, dir, apply, empty, upd, loadOf, act}
-use Rattle.format.proofs.Tags.{of-chunk, of-fields, of-valid, of-type1, of-id}
+use Rattle.format.specs.declared.Hit.{Hit}
+use Rattle.format.specs.declared.Hit.the-variants as hit
+use Rattle.format.proofs.Tags.{of-chunk, of-fields, of-valid, of-type1, of-type3, of-id, length-size}
+use Rattle.format.proofs.Searched.{found-bytes}
 use Rattle.theory.specs.Walk.Step.{both-true}
 use Rattle.theory.specs.Directory.Machine.{mostSlots, find, AllAllowed, Allowed, length-ins, length-del}
 use Rattle.theory.specs.Back.BackActs.{seen}
 use Rattle.theory.specs.Lookup.Masks.{Query, hitAct}
 
--- what a found place holds
-unfoldable pub holds : List ℕ → Found → Option Load
-holds b noEntry = none
-holds b (found t off d) = some (record { type = tagType3 t; bytes = take (tagLength t - 4) (drop 4 (drop off b)) })
+-- what an entry that was found holds
+unfoldable pub holds : List ℕ → Hit → Option Load
+holds b hit.Nothing = none
+holds b (hit.Found e) = some (record { type = tagType3 (e .tag); bytes = bytesOf b e })
 
--- the answer, "the tag plus the difference", has the id that was asked for
-abbrev pub Answers : ℕ → Found → Type 0
-Answers i noEntry = Unit {0}
-Answers i (found t off d) = plus32 t d ≡ tagOf (tagType3 t) i (tagSize t)
+-- its tag, "the tag plus the difference", has the id that was asked for
+abbrev pub Answers : ℕ → Hit → Type 0
+Answers i hit.Nothing = Unit {0}
+Answers i (hit.Found e) = e .tag ≡ tagOf (tagType3 (e .tag)) i (dataSize e)
 
 -- the shapes of a regular log's tags
 abbrev pub Shape : ℕ → List ℕ → Act → Type 0
@@ -110,6 +113,23 @@ answers : (t diff T asked i s : ℕ) → diff < 2 ^ 32 → asked < 2 ^ 10 → mi
 answers t diff T asked i s hd ha e is small =
     ap (λ (x : ℕ). plus32 x diff) (sym (of-fields t small) ∙ ap (λ (x : ℕ). tagOf (tagType3 t) x (tagSize t)) (sym is))
     ∙ answer-word (tagType3 t) (tagSize t) diff T asked i s hd (omega arith) ha (omega arith) e
+
+-- so the entry found has the tag's own type, size and bytes
+found-held : (b : List ℕ) (m : Met) (diff T asked i s : ℕ) → diff < 2 ^ 32 → asked < 2 ^ 10
+    → minus32 (tagOf T asked s) diff ≡ tagOf T i s → i ≡ tagId (m .tag) → m .tag < 2 ^ 31
+    → tagDelete (m .tag) ≡ false
+    → (holds b (hit.Found (foundAt (m .tag) (m .off) diff))
+    ≡ some (record { type = tagType3 (m .tag); bytes = bytesAt b m }))
+    × Answers asked (hit.Found (foundAt (m .tag) (m .off) diff))
+unfolding holds
+found-held b m diff T asked i s hd ha e is small kept =
+    let t : ℕ = m .tag in
+    let w : plus32 t diff ≡ tagOf (tagType3 t) asked (tagSize t) = answers t diff T asked i s hd ha e is small in
+    let k : tagType3 (plus32 t diff) ≡ tagType3 t
+    = ap tagType3 w ∙ of-type3 (tagType3 t) asked (tagSize t) (omega arith) ha (omega arith) in
+    let z : tagLength t ≡ 4 + tagSize t = length-size t (eqb-false (tagSize t) removalSize kept) in
+    let n : tagLength t - 4 ≡ tagSize t = omega arith in
+    (rw (k, found-bytes t (m .off) diff b), w ∙ rw (k, n))
 
 seen-act : (b : List ℕ) (m : Met) → seen b m ≡ act (m .tag) (bytesAt b m)
 unfolding seen
@@ -239,7 +259,7 @@ module _ (b : List ℕ) (mask T c s asked : ℕ) (q : Query mask T c) (hs : s < 
           sub true eh false er =
               let is : j ≡ i = eqb-true j i (both-true (eqb j i) (eqb c k) eh .0) in
               rw (sp .0, e, miss (put j k v) ea i (omega (arith, i-low)), eh, er, sp .1, er)
-              (refl, answers (m .tag) d T asked i s hd ha e (sym is ∙ sp .2) (sp .3))
+              (found-held b m d T asked i s hd ha e (sym is ∙ sp .2) (sp .3) er)
           sub false eh rb er = rw (sp .0, e, miss (put j k v) ea i (omega (arith, i-low)), eh)
               (ih d i hd (omega (arith, len)) e)
       go skip ea sp ru h ih = rw (sp, e, miss skip ea i (omega (arith, i-low))) (ih d i hd (rw ea at h) e)

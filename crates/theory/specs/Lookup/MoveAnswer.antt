@@ -16,8 +16,9 @@ use Rattle.format.specs.Walk.{Event, walkFrom, walk, ent, chk, inv}
 use Rattle.format.specs.Log.{committed, log, logEnd, logEndTag}
 use Rattle.format.specs.Regular.{Rule, between, ruleOf, ruleHolds, countAfter, regularFrom, Regular}
 use Rattle.format.specs.Back.{Met, hop, back, places}
-use Rattle.format.specs.Look.{maskMove, splicedAt, wlook, noEntry, found}
+use Rattle.format.specs.Look.{maskMove, foundAt, splicedAt, wlook}
 use Rattle.format.specs.Directory.{isMove}
+use Rattle.format.specs.declared.Hit.the-variants as hit
 use Rattle.format.proofs.Tags.{low-length, low-type3, xor-low, of-fields}
 use Rattle.format.proofs.Back.{back-step}
 use Rattle.theory.specs.Walk.Step.{both-true}
@@ -80,7 +81,7 @@ moves-top b off t c = rw (back-step b off t, back-step b off (t % 2 ^ 31), low-l
 
 pub wlook-moved : (low : ℕ) (ms : List Met) → low < 2 ^ 20 → MoveTags ms
     → Answers noSlot (wlook false maskMove (maskMove + low) 0 ms)
-unfolding wlook splicedAt tagOf
+unfolding wlook splicedAt tagOf tagLength
 wlook-moved low [] h k = tt
 wlook-moved low (m ∷ ms) h k =
     let key : minus32 (maskMove + low) 0 ≡ maskMove + low = omega arith in
@@ -90,7 +91,7 @@ wlook-moved low (m ∷ ms) h k =
     go : (is : Bool) → isMove (m .tag) ≡ is → (gone : Bool)
         → (isMove (m .tag) ≡ true → m .tag ≡ tagOf typeMove noSlot 12)
         → Answers noSlot (wlook false maskMove (maskMove + low) 0 ms)
-        → Answers noSlot (cond is (cond gone noEntry (found (m .tag) (m .off) 0))
+        → Answers noSlot (cond is (cond gone hit.Nothing (hit.Found (foundAt (m .tag) (m .off) 0)))
         (wlook false maskMove (maskMove + low) 0 ms))
     go true e true f ih = tt
     go true e false f ih = rw (f e)

@@ -10,17 +10,19 @@ use lib.ListN.{drop, take}
 use lib.Bits.{bitAnd, and-high}
 use lib.Dec.{eqb, leb}
 use borrow.Author.Tests.{eqb-true, eq-eqb, eqb-false, ne-eqb}
-use Rattle.format.specs.Word.{be32, allOnes, minus32}
+use Rattle.format.specs.Word.{be32, allOnes, plus32, minus32}
 use Rattle.format.specs.Tag.{tagType3, tagDelete, tagLength}
 use Rattle.format.specs.Kind.{typeCheck, typeMove, isCheck}
 use Rattle.format.specs.Crc.{crc}
 use Rattle.format.specs.Walk.{Event, walkFrom, walk, ent, chk, inv}
 use Rattle.format.specs.Log.{committed, log, logEnd, logEndTag}
 use Rattle.format.specs.Back.{Met, hop, back, places}
-use Rattle.format.specs.Look.{maskMove, splicedAt, wlook, noEntry, found}
+use Rattle.format.specs.Look.{maskMove, foundAt, splicedAt, wlook}
 use Rattle.format.specs.Directory.{Load, loadOf, isMove, moveOf}
+use Rattle.format.specs.declared.Hit.the-variants as hit
 use Rattle.format.proofs.Tags.{low-length, low-type3, xor-low}
 use Rattle.format.proofs.Back.{back-step}
+use Rattle.format.proofs.Searched.{found-bytes}
 use Rattle.theory.specs.Walk.Locality.{AllContained}
 use Rattle.theory.specs.Log.Committed.{committed-split, committed-twice}
 use Rattle.theory.specs.Back.WalkBack.{back-log}
@@ -44,6 +46,10 @@ move-hit t low h = rw (and-high t 11 20, and-high (maskMove + low) 11 20, move-t
         let q : tagType3 t ≢ typeMove = eqb-false (tagType3 t) typeMove e in
         ne-eqb (tagType3 t * 2 ^ 20) (typeMove * 2 ^ 20) (λ z. q (omega arith))
 
+-- nothing added, the type stays
+same-type : (t : ℕ) → tagType3 (plus32 t 0) ≡ tagType3 t
+same-type t = omega arith
+
 -- newest first over the tags met
 unfoldable pub lastMove : List ℕ → List Met → Option Load
 lastMove b [] = none
@@ -60,11 +66,11 @@ wlook-move b low (m ∷ ms) h =
   where
     go : (is gone : Bool) → tagDelete (m .tag) ≡ gone → holds b (wlook false maskMove (maskMove + low) 0 ms)
         ≡ lastMove b ms
-        → holds b (cond is (cond (tagDelete (m .tag)) noEntry (found (m .tag) (m .off) 0))
+        → holds b (cond is (cond (tagDelete (m .tag)) hit.Nothing (hit.Found (foundAt (m .tag) (m .off) 0)))
         (wlook false maskMove (maskMove + low) 0 ms))
         ≡ cond is (loadOf (m .tag) (bytesAt b m)) (lastMove b ms)
     go true true e ih = rw e
-    go true false e ih = rw e
+    go true false e ih = rw (e, same-type (m .tag), found-bytes (m .tag) (m .off) 0 b)
     go false gone e ih = ih
 
 pub moveOf-app : (es more : List Event) (v : Option Load) → moveOf v (es ++ more) ≡ moveOf (moveOf v es) more

@@ -23,7 +23,8 @@ use Rattle.format.specs.declared.Refusal.the-variants.{TooMany}
 use Rattle.format.specs.declared.Fetched.the-variants as fetched
 use Rattle.theory.specs.Walk.Step.{both-true}
 use Rattle.theory.specs.Log.TwoBlocks.{viewAt}
-use Rattle.theory.specs.Lookup.AtStart.{FoundIn, searched-in, back-same, slice-same}
+use Rattle.format.specs.Look.{HitIn}
+use Rattle.theory.specs.Lookup.AtStart.{searched-in, back-same, slice-same}
 use Rattle.theory.specs.Stopped.Shown.{found-tested, fetch-viewed}
 use Rattle.format.specs.Stopped.{unmarked, Finds, ReadsAs}
 
@@ -35,7 +36,7 @@ module _ (prog n k v : ℕ) (es : List Event) (x y : List ℕ) (same : take (log
   unfolding searched mdirOf
   searched-same gdisk mask key = rw (back-same (logEnd es) y x same (logEnd es) (logEndTag es) (le-refl (logEnd es)))
 
-  inside : (gdisk : LfsGstate) (mask key : ℕ) → FoundIn (logEnd es) (searched x (mdirOf prog n k x v es) gdisk mask key)
+  inside : (gdisk : LfsGstate) (mask key : ℕ) → HitIn (logEnd es) (searched x (mdirOf prog n k x v es) gdisk mask key)
   unfolding mdirOf
   inside gdisk mask key = searched-in (logEnd es) x (mdirOf prog n k x v es) gdisk mask key (le-refl (logEnd es))
 

@@ -39,7 +39,8 @@ use Rattle.theory.specs.Fetch.FoundRecord.{few-found, past-test}
 use Rattle.theory.specs.Fetch.FoundBlock.{Reads, found-sized, found-reads}
 use Rattle.theory.specs.Compact.AcceptedVerdict.{slots-counted}
 use Rattle.format.specs.Machine.{machineOf, Ask, name, struct, attribute, move, askMask, askKey, askFits, askId, asked}
-use Rattle.format.specs.Machine.{heldGot, heldBuffer}
+use Rattle.format.specs.Machine.{heldWord, heldBuffer}
+use Rattle.format.specs.Answer.{gotWord}
 use Rattle.theory.specs.Fetch.Places.{block-length}
 use Rattle.theory.specs.Lookup.AtStart.{back-in, wlook-in, slice-held}
 use Rattle.theory.specs.Lookup.MoveAnswer.{move-answer}
@@ -214,8 +215,8 @@ module _ (g : Geometry) (b0 b1 : List ℕ) (n0 n1 count seed : ℕ) (m : LfsMdir
     pub ask-answered : (a : Ask) (gdisk : LfsGstate) (size : ℕ) (buffer : List ℕ)
         → askFits (machineOf (log (blockAt w b0 b1))) a ≡ true → gstateHasMoveHere gdisk (m .pair) ≡ false
         → size < 2 ^ 10 → length buffer ≤ longestBuffer
-        → (getsliceOf g b0 b1 n0 n1 m gdisk (askMask a) (askKey a size) 0 buffer
-        ≡ heldGot (askId a) (asked (machineOf (log (blockAt w b0 b1))) a))
+        → (gotWord (getsliceOf g b0 b1 n0 n1 m gdisk (askMask a) (askKey a size) 0 buffer)
+        ≡ heldWord (askId a) (asked (machineOf (log (blockAt w b0 b1))) a))
         × (getsliceBuffer g b0 b1 n0 n1 m gdisk (askMask a) (askKey a size) 0 buffer
         ≡ heldBuffer buffer (asked (machineOf (log (blockAt w b0 b1))) a))
     unfolding getsliceOf getsliceBuffer

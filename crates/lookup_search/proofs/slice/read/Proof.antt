@@ -1,30 +1,27 @@
 -- `lookup_search::slice::read` meets its contract: what was found is what should be (`Slices.antt`). Assumes nothing.
 use mathlib.Core.Path.{_∙_}
-use native.Mathlib.Omega.{arith}
 use lib.ListN.{length}
 use Rattle.format.specs.Lookup.{sliceAnswer, sliceBuffer}
-use Rattle.lookup_search.proofs.Slices.{of-nothing, of-hit, hit-inside}
+use Rattle.lookup_search.proofs.Slices.{of-hit, hit-inside}
 use borrow.Author.Needs.{needs}
 use Rattle.lookup_search.proofs.slice.read.Statement.{statement}
 use Rattle.lookup_search.proofs.slice.read.Tie as tie
 
 read-at-requires : tie.Need-read-at-requires
-read-at-requires c κs = let i = hit-inside _ _ (c .before .before .before .before .newest .ensures .1)
-    (c .before .before .t .given .1) in omega arith
+read-at-requires c κs = hit-inside _ _ (c .before .before .before .before .newest .ensures .1)
+    (c .before .before .e .given .1)
 
 returns : tie.Need-returns
 returns c = let a = c .before .before .before .before .before .args in let n = c .before .before .newest in let told =
     c .enum-told in (
-      of-nothing _ _ (n .ensures .0) (λ u. sliceAnswer (a .b .now) (a .goff) (length (a .buffer .now))
-          u) (told .given .1),
-      of-nothing _ _ (n .ensures .0) (λ u. sliceBuffer (a .b .now) (a .goff) (a .buffer .now) u)
-          (told .given .1),
+      of-hit _ _ (n .ensures .0) (λ u. sliceAnswer (a .b .now) (a .goff) (length (a .buffer .now)) u) (told .given .1),
+      of-hit _ _ (n .ensures .0) (λ u. sliceBuffer (a .b .now) (a .goff) (a .buffer .now) u) (told .given .1),
     )
 
 returns-2 : tie.Need-returns-2
 returns-2 c = let a = c .before .before .before .before .before .before .before .before .before .before .args in let n =
     c .before .before .before .before .before .before .before .newest in let t1 =
-    c .before .before .before .before .before .t in (
+    c .before .before .before .before .before .e in (
       c .before .before .read-at .ensures .0 ∙ of-hit _ _ (n .ensures .0) (λ u. sliceAnswer (a .b .now) (a .goff)
           (length (a .buffer .now)) u) (t1 .given .1),
       c .before .before .read-at .ensures .1

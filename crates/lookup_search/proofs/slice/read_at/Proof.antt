@@ -6,22 +6,19 @@ use Rattle.lookup_search.proofs.slice.read_at.Statement.{statement}
 use Rattle.lookup_search.proofs.slice.read_at.Tie as tie
 
 returns : tie.Need-returns
-returns c = let a = c .before .before .before .before .before .args in slice-past (a .b .now) (a .t) (a .at) (a .diff)
-    (a .goff) (a .buffer .now) _ _ (c .before .before .lfs-tag-size .ensures) (c .before .smaller .ensures)
-    (c .if1 .taken)
+returns c = let a = c .before .before .before .before .before .before .args in slice-past (a .b .now) (a .e) (a .goff)
+    (a .buffer .now) _ (c .before .before .smaller .ensures) (c .if1 .taken)
 
 returns-2 : tie.Need-returns-2
 returns-2 c = let a = c .before .before .before .before .before .before .before .before .before .before .before .before
-    .before .before .args in slice-in (a .b .now) (a .t) (a .at) (a .diff) (a .goff) (a .buffer .now) _ _
-    (c .before .before .before .before .before .before .before .before .before .before .before .lfs-tag-size .ensures)
+    .before .before .args in slice-in (a .b .now) (a .e) (a .goff) (a .buffer .now) _
     (c .before .before .before .before .before .before .before .before .before .before .smaller .ensures)
-    (c .before .before .before .before .before .before .before .before .before .if1 .left) _
-    (c .wrapping-add-u32 .ensures) _ _ (c .before .before .before .before .before .before .before .copy-in .ensures)
-    (c .before .before .before .zero-rest .ensures)
+    (c .before .before .before .before .before .before .before .before .if1 .left) _ _
+    (c .before .before .before .before .before .before .copy-in .ensures) (c .before .before .zero-rest .ensures)
 
 pub read-at-spec : {M : Type 1} → statement M
 read-at-spec =
     tie.close
-    (tie.spec (λ c κs. search needs) (λ c. search needs) (λ c κs. search needs) (λ c. search needs) (λ c. search needs)
-    (λ c. search needs) returns (λ c κs. search needs) (λ c κs. search needs) (λ c κs. search needs) (λ c. search needs)
+    (tie.spec (λ c. search needs) (λ c. search needs) (λ c κs. search needs) (λ c. search needs) (λ c. search needs)
+    (λ c. search needs) returns (λ c κs. search needs) (λ c κs. search needs) (λ c. search needs)
     returns-2)

@@ -1,0 +1,35 @@
+-- An entry that was found: what it holds stands behind its tag, whole where the entry does, and a lookup that finds it
+-- answers it as it is, whatever its offset and its buffer. Assumes nothing.
+use mathlib.Core.Path.{_≡_, sym, ap}
+use mathlib.Core.Bool.{Bool, true, false, cond}
+use mathlib.Core.List.{List}
+use Prim.Native.Nat.{ℕ, _+_, _-_, _≤_}
+use native.Mathlib.Omega.{arith}
+use lib.ListN.{length, take, drop}
+use lib.Seq.{drop-drop}
+use lib.Dec.{leb}
+use Rattle.format.specs.Tag.{tagLength}
+use Rattle.format.specs.Look.{foundAt, bytesOf, HitIn}
+use Rattle.format.specs.Lookup.{sliceEnd, sliceAnswer}
+use Rattle.format.specs.declared.Refusal.the-variants.{Corrupt}
+use Rattle.format.specs.declared.Found.{Found}
+use Rattle.format.specs.declared.Hit.{Hit}
+use Rattle.format.specs.declared.Hit.the-variants as hit
+use Rattle.format.specs.declared.Got.the-variants as got
+use Rattle.format.proofs.Words.{tagLength-ge}
+
+module _ (t off diff : ℕ) where
+  pub found-bytes : (b : List ℕ) → bytesOf b (foundAt t off diff) ≡ take (tagLength t - 4) (drop 4 (drop off b))
+  found-bytes b = ap (take (tagLength t - 4)) (sym (drop-drop 4 off b))
+
+  pub found-in : (n : ℕ) → off + tagLength t ≤ n → HitIn n (hit.Found (foundAt t off diff))
+  found-in n h = (tagLength-ge t, omega (arith, tagLength-ge t))
+
+pub slice-is : (b : List ℕ) (offset size : ℕ) (f : Hit) (e : Found) → sliceAnswer b offset size f ≡ got.Found e
+    → f ≡ hit.Found e
+slice-is b offset size hit.Nothing e h = cc
+slice-is b offset size (hit.Found u) e h = go (leb (sliceEnd u offset size) (length b)) h
+  where
+    go : (c : Bool) → cond c (got.Found u) (got.Refused Corrupt) ≡ got.Found e → hit.Found u ≡ hit.Found e
+    go true h = cc
+    go false h = cc
