@@ -1,16 +1,18 @@
 -- The small functions of a slot's walk, branch by branch: x, y, j and k are what the code read of the tag. Assumes
 -- nothing.
-use mathlib.Core.Path.{_≡_}
-use mathlib.Core.Bool.{_&&_}
+use mathlib.Core.Path.{_≡_, _∙_}
+use mathlib.Core.Bool.{Bool, true, false, _&&_}
 use mathlib.Core.List.{List}
-use Prim.Native.Nat.{ℕ, _+_, _-_, _≤_, _<_}
-use lib.ListN.{getD, set}
+use Prim.Native.Nat.{ℕ, _+_, _-_, _^_, _≤_, _<_}
+use native.Mathlib.Omega.{arith}
 use lib.Dec.{eqb}
 use borrow.Author.Tests.{eq-eqb, ne-eqb, lt-ltb, le-ltb, le-leb, lt-leb}
-use Rattle.format.specs.Tag.{tagType1, tagType3, tagChunk, tagId}
+use Rattle.format.specs.Tag.{tagType1, tagType3, tagChunk, tagId, tagSize, tagDelete, tagLength, mkTag, tagOf}
 use Rattle.format.specs.Kind.{typeName, typeDirStruct, typeUserAttr, typeCreate, typeDelete}
 use Rattle.format.specs.Directory.{classes}
-use Rattle.compact_slot.specs.Seat.{seatOf, seatClass, createdAt, idBefore, noted}
+use Rattle.format.specs.declared.Hit.the-variants as hit
+use Rattle.format.proofs.Words.{mkTag-sum}
+use Rattle.compact_slot.specs.Seat.{seatOff, hitOf, seatClass, createdAt, idBefore, seated, noted}
 
 module _ (t x : ℕ) (ex : x ≡ tagType1 t) where
   pub class-name : x ≡ typeName → 0 ≡ seatClass t
@@ -55,20 +57,41 @@ module _ (t id x j : ℕ) (ex : x ≡ tagType3 t) (ej : j ≡ tagId t) where
   unfolding idBefore
   before-other n h = rw (← ex, ne-eqb x typeCreate n, ne-eqb x typeDelete h)
 
-module _ (seats : List ℕ) (t at id j : ℕ) (ej : j ≡ tagId t) where
-  pub note-other : (j ≡ id → ⊥) → seats ≡ noted seats t at id
+module _ (seats : List ℕ) (t at slot id j : ℕ) (ej : j ≡ tagId t) where
+  pub note-other : (j ≡ slot → ⊥) → seats ≡ noted seats t at slot id
   unfolding noted
-  note-other n = rw (← ej, ne-eqb j id n)
+  note-other n = rw (← ej, ne-eqb j slot n)
 
-  module _ (k : ℕ) (ek : k ≡ seatClass t) (same : j ≡ id) where
-    pub note-none : classes ≤ k → seats ≡ noted seats t at id
+  module _ (k : ℕ) (ek : k ≡ seatClass t) (same : j ≡ slot) where
+    pub note-none : classes ≤ k → seats ≡ noted seats t at slot id
     unfolding noted
-    note-none h = rw (← ej, ← ek, eq-eqb j id same, le-ltb k classes h)
+    note-none h = rw (← ej, ← ek, eq-eqb j slot same, le-ltb k classes h)
 
-    pub note-taken : k < classes → (getD seats k 0 ≡ 0 → ⊥) → seats ≡ noted seats t at id
+    pub note-taken : k < classes → (seatOff seats k ≡ 0 → ⊥) → seats ≡ noted seats t at slot id
     unfolding noted
-    note-taken h n = rw (← ej, ← ek, eq-eqb j id same, lt-ltb k classes h, ne-eqb (getD seats k 0) 0 n)
+    note-taken h n = rw (← ej, ← ek, eq-eqb j slot same, lt-ltb k classes h, ne-eqb (seatOff seats k) 0 n)
 
-    pub note-free : k < classes → getD seats k 0 ≡ 0 → (s : ℕ) → s ≡ seatOf t at → set seats k s ≡ noted seats t at id
-    unfolding noted
-    note-free h n s es = rw (← ej, ← ek, eq-eqb j id same, lt-ltb k classes h, eq-eqb (getD seats k 0) 0 n, es)
+    pub note-free : k < classes → seatOff seats k ≡ 0 → (x s w : ℕ) → x ≡ tagType3 t → s ≡ tagSize t
+        → w ≡ mkTag x id s → id < 2 ^ 10
+        → seated seats k w (at + 4) ≡ noted seats t at slot id
+    unfolding noted tagOf
+    note-free h n x s w ex es ew low =
+        let made : w ≡ tagOf (tagType3 t) id (tagSize t)
+        = ew ∙ rw (ex, es) (mkTag-sum (tagType3 t) id (tagSize t) (omega arith) low (omega arith)) in
+        rw (made, ← ej, ← ek, eq-eqb j slot same, lt-ltb k classes h, eq-eqb (seatOff seats k) 0 n)
+
+-- ---- what a seat tells: d whether its tag is a removal's, n its length
+module _ (t off : ℕ) where
+  pub found-free : off ≡ 0 → hit.Nothing ≡ hitOf t off
+  unfolding hitOf
+  found-free h = rw (eq-eqb off 0 h)
+
+  module _ (d : Bool) (ed : d ≡ tagDelete t) (some : off ≡ 0 → ⊥) where
+    pub found-removed : d ≡ true → hit.Nothing ≡ hitOf t off
+    unfolding hitOf
+    found-removed h = rw (ne-eqb off 0 some, ← ed, h)
+
+    pub found-kept : d ≡ false → (n : ℕ) → n ≡ tagLength t
+        → hit.Found (record { tag = t; length = n; off = off }) ≡ hitOf t off
+    unfolding hitOf
+    found-kept h n en = rw (ne-eqb off 0 some, ← ed, h, en)

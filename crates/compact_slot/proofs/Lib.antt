@@ -1,7 +1,5 @@
--- What the walk of a slot rests on.
+-- What the walk of a slot rests on, and what its callers ask of an entry that it found.
 pub mod Turn
 pub mod Leaves
-pub mod Move
 pub mod Slots
-pub mod Loads
-pub mod Stands
+pub mod Entries

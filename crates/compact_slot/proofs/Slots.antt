@@ -28,7 +28,11 @@ module _ (b : List ℕ) (end etag count : ℕ) (s : Slots b end etag count) wher
   end-inside = rw (s .ends) (log-inside b (log b) refl (whole .base .reg) (s .word))
 
   pub slot-gathers : (id : ℕ) → id ≤ count → Gatherable b end id
-  slot-gathers id h = record { word = s .word; most = s .most; inside = end-inside; slot = omega (arith, slots-few) }
+  slot-gathers id h = record {
+    inside = end-inside;
+    small = omega (arith, end-inside, s .most);
+    slot = omega (arith, slots-few);
+  }
 
   pub slot-holds : (id : ℕ) (seats : List ℕ) → id < count → Gathered b (map (seen b) (back b end etag)) id seats
       → (c : ℕ) → c < classes → slotIn b seats c ≡ getD (dirOf (log b)) id empty c

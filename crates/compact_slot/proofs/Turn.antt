@@ -1,7 +1,7 @@
 -- A turn of a slot's walk back: what the search finds behind a tag, and the seats that it leaves. Assumes nothing.
 use mathlib.Core.Path.{_≡_, refl, sym, ap, _∙_}
 use mathlib.Core.Bool.{Bool, true, false, cond, _&&_}
-use mathlib.Core.Option.{Option, none}
+use mathlib.Core.Option.{Option, none, some}
 use mathlib.Core.List.{List, [], _∷_, map}
 use Prim.Native.Nat.{ℕ, _+_, _-_, _*_, _/_, _^_, _≤_, _<_}
 use native.Mathlib.Omega.{arith}
@@ -9,19 +9,23 @@ use lib.ListN.{length, length-set, length-replicate, getD, set, replicate, getD-
 use lib.Seq.{getD-set-same, getD-set-other}
 use lib.Dec.{eqb, leb, ltb}
 use borrow.Author.Tests.{eq-eqb, ne-eqb, eqb-true, eqb-false, lt-ltb, ltb-true, ltb-false, le-leb, lt-leb}
-use Rattle.format.specs.Tag.{tagType1, tagType3, tagChunk, tagId, tagLength}
+use Rattle.format.specs.Tag.{tagType1, tagType3, tagChunk, tagId, tagSize, removalSize, tagDelete, tagLength, tagOf}
 use Rattle.format.specs.Kind.{isName, typeName, typeDirStruct, typeUserAttr, typeCreate, typeDelete}
 use Rattle.format.specs.Back.{back}
 use Rattle.format.specs.Directory.{classes, Load, Act, mk, rm, put, skip, isStruct, isAttr, loadOf, act}
+use Rattle.format.specs.Look.{HitIn}
+use Rattle.format.specs.declared.Hit.the-variants as hit
+use Rattle.format.proofs.Tags.{of-type3, of-size, length-size}
+use Rattle.format.proofs.Searched.{found-bytes, found-in}
 use Rattle.theory.specs.Walk.Step.{both-true}
 use Rattle.theory.specs.Directory.Machine.{find}
 use Rattle.theory.specs.Directory.Types.{type1-of}
 use Rattle.theory.specs.Back.BackActs.{seen}
-use Rattle.theory.specs.Lookup.ByMask.{bytesAt}
+use Rattle.theory.specs.Lookup.ByMask.{bytesAt, holds, Answers}
 use Rattle.lookup_back.specs.Step.{Ends, tagBefore}
-use Rattle.lookup_back.proofs.Step.{back-over, back-on, back-first, back-word}
-use Rattle.compact_slot.specs.Seat.{seatOf, seatTag, seatPlace, loadIn, Inside, seatClass, createdAt, idBefore}
-use Rattle.compact_slot.specs.Seat.{noted, Gathered}
+use Rattle.lookup_back.proofs.Step.{back-over, back-on}
+use Rattle.compact_slot.specs.Seat.{seatTag, seatOff, hitOf, hitAt, seatClass, createdAt, idBefore, seated, noted}
+use Rattle.compact_slot.specs.Seat.{Gathered}
 
 -- ---- the search over one act more
 pub found-create : (t : ℕ) (d : List ℕ) (l : List Act) (c i : ℕ) → createdAt t i ≡ true → find c i (act t d ∷ l) ≡ none
@@ -83,45 +87,83 @@ found-on t d l c i low h = by (isName t) refl (isStruct t) refl (isAttr t) refl 
     by false en false es false ea false ek false er =
         sym (miss (eqb (tagId t) i) (loadOf t d) (find c (idBefore t i) l) ∙ rw (idBefore, ek, er))
 
--- ---- a seat that is taken
-seat-tag : (t at : ℕ) → t < 2 ^ 32 → at < 2 ^ 16 → seatTag (seatOf t at) ≡ t
-seat-tag t at h k = omega arith
+-- ---- a seat that is taken, by the tag t that stands at `at`
+abbrev pub named : ℕ → ℕ → ℕ
+named t id = tagOf (tagType3 t) id (tagSize t)
 
-seat-place : (t at : ℕ) → at < 2 ^ 16 → seatPlace (seatOf t at) ≡ at
-seat-place t at k = omega arith
+module _ (b : List ℕ) (t at id : ℕ) (low : id < 2 ^ 10) where
+  same-length : tagLength (named t id) ≡ tagLength t
+  unfolding tagLength
+  same-length = rw (of-size (tagType3 t) id (tagSize t) (omega arith))
 
-pub seat-load : (b : List ℕ) (t at : ℕ) → t < 2 ^ 32 → 0 < at → at < 2 ^ 16
-    → loadIn b (seatOf t at) ≡ loadOf t (bytesAt b (record { tag = t; off = at }))
-unfolding loadIn
-seat-load b t at h p k = rw (ne-eqb (seatOf t at) 0 (λ q. omega arith), seat-tag t at h k, seat-place t at k)
+  same-gone : tagDelete (named t id) ≡ tagDelete t
+  same-gone = rw (of-size (tagType3 t) id (tagSize t) (omega arith))
 
-pub seat-inside : (b : List ℕ) (t at : ℕ) → t < 2 ^ 32 → at < 2 ^ 16 → at + tagLength t ≤ length b
-    → Inside b (seatOf t at)
-seat-inside b t at h k f = rw (seat-tag t at h k, seat-place t at k) f
+  seat-is : hitOf (named t id) (at + 4) ≡ cond (tagDelete t) hit.Nothing
+      (hit.Found (record { tag = named t id; length = tagLength t; off = at + 4 }))
+  unfolding hitOf
+  seat-is = rw (ne-eqb (at + 4) 0 (λ q. omega arith), same-gone, same-length)
+
+  seat-load : holds b (hitOf (named t id) (at + 4)) ≡ loadOf t (bytesAt b (record { tag = t; off = at }))
+  unfolding holds
+  seat-load = rw seat-is (go (tagDelete t))
+    where
+      go : (gone : Bool) → holds b (cond gone hit.Nothing
+          (hit.Found (record { tag = named t id; length = tagLength t; off = at + 4 })))
+          ≡ cond gone none (some (record { type = tagType3 t; bytes = bytesAt b (record { tag = t; off = at }) }))
+      go true = refl
+      go false = rw (of-type3 (tagType3 t) id (tagSize t) (omega arith) low (omega arith), found-bytes t at 0 b)
+
+  seat-inside : at + tagLength t ≤ length b → HitIn (length b) (hitOf (named t id) (at + 4))
+  seat-inside h = rw seat-is (go (tagDelete t))
+    where
+      go : (gone : Bool) → HitIn (length b) (cond gone hit.Nothing
+          (hit.Found (record { tag = named t id; length = tagLength t; off = at + 4 })))
+      go true = tt
+      go false = found-in t at 0 (length b) h
+
+  seat-named : Answers id (hitOf (named t id) (at + 4))
+  seat-named = rw seat-is (go (tagDelete t) refl)
+    where
+      go : (gone : Bool) → tagDelete t ≡ gone → Answers id (cond gone hit.Nothing
+          (hit.Found (record { tag = named t id; length = tagLength t; off = at + 4 })))
+      go true e = tt
+      go false e =
+          let z : tagLength t ≡ 4 + tagSize t = length-size t (eqb-false (tagSize t) removalSize e) in
+          let n : tagLength t - 4 ≡ tagSize t = omega arith in
+          rw (n, of-type3 (tagType3 t) id (tagSize t) (omega arith) low (omega arith))
 
 -- ---- the walk so far: a seat that is taken holds what the search finds, and for one that is free the search goes on
+-- what is known of a seat, tag and offset
+pub record Kept (b : List ℕ) (id t off : ℕ) : Type 0 where
+  pub inside : HitIn (length b) (hitOf t off)
+  pub named′ : Answers id (hitOf t off)
+
 pub record Gathering (b : List ℕ) (all : List Act) (id : ℕ) (l : List Act) (slot : ℕ) (seats : List ℕ) : Type 0 where
-  pub loads : (c : ℕ) → c < classes → cond (eqb (getD seats c 0) 0) (find c slot l) (loadIn b (getD seats c 0))
+  pub loads : (c : ℕ) → c < classes → cond (eqb (seatOff seats c) 0) (find c slot l) (holds b (hitAt seats c))
       ≡ find c id all
-  pub inside : (c : ℕ) → c < classes → Inside b (getD seats c 0)
-  pub full : length seats ≡ classes
+  pub kept : (c : ℕ) → c < classes → Kept b id (seatTag seats c) (seatOff seats c)
+  pub full : length seats ≡ 2 * classes
 
-pub free-inside : (b : List ℕ) → 4 ≤ length b → Inside b 0
-unfolding tagLength
-free-inside b h = h
+free-kept : (b : List ℕ) (id : ℕ) → Kept b id 0 0
+unfolding hitOf
+free-kept b id = record { inside = tt; named′ = tt }
 
-pub starts : (b : List ℕ) (l : List Act) (id : ℕ) → 4 ≤ length b → Gathering b l id l id (replicate classes 0)
-starts b l id h =
+pub starts : (b : List ℕ) (l : List Act) (id : ℕ) → Gathering b l id l id (replicate (2 * classes) 0)
+starts b l id =
     record {
-      loads = λ c k. rw (getD-replicate {A = ℕ} classes c 0 0 k);
-      inside = λ c k. rw (getD-replicate {A = ℕ} classes c 0 0 k) (free-inside b h);
-      full = length-replicate {A = ℕ} classes 0;
+      loads = λ c k. rw (getD-replicate {A = ℕ} (2 * classes) (2 * c + 1) 0 0 (omega arith));
+      kept = λ c k. rw (
+        getD-replicate {A = ℕ} (2 * classes) (2 * c) 0 0 (omega arith),
+        getD-replicate {A = ℕ} (2 * classes) (2 * c + 1) 0 0 (omega arith),
+      ) (free-kept b id);
+      full = length-replicate {A = ℕ} (2 * classes) 0;
     }
 
 -- it ends where the search finds nothing more
-pub load-free : (b : List ℕ) (v : ℕ) → eqb v 0 ≡ true → loadIn b v ≡ none
-unfolding loadIn
-load-free b v e = rw e
+load-free : (b : List ℕ) (t off : ℕ) → eqb off 0 ≡ true → holds b (hitOf t off) ≡ none
+unfolding hitOf holds
+load-free b t off e = rw e
 
 picked : (z : Bool) (x y w : Option Load) → cond z x y ≡ w → (z ≡ true → x ≡ w) × (z ≡ false → y ≡ w)
 picked true x y w h = (λ e. h, λ e. cc)
@@ -130,13 +172,18 @@ picked false x y w h = (λ e. cc, λ e. h)
 ends : (b : List ℕ) (all : List Act) (id : ℕ) (l : List Act) (slot : ℕ) (seats : List ℕ)
     → ((c : ℕ) → find c slot l ≡ none) → Gathering b all id l slot seats → Gathered b all id seats
 ends b all id l slot seats none-left g =
-    record { loads = λ c k. go (getD seats c 0) (eqb (getD seats c 0) 0) refl c (g .loads c k); inside = g .inside }
+    record {
+      loads = λ c k. go (seatTag seats c) (seatOff seats c) (eqb (seatOff seats c) 0) refl c (g .loads c k);
+      inside = λ c k. g .kept c k .inside;
+      named = λ c k. g .kept c k .named′;
+    }
   where
-    go : (v : ℕ) (z : Bool) → eqb v 0 ≡ z → (c : ℕ) → cond (eqb v 0) (find c slot l) (loadIn b v) ≡ find c id all
-        → loadIn b v ≡ find c id all
-    go v true e c h = load-free b v e ∙ sym (none-left c) ∙ picked (eqb v 0) (find c slot l) (loadIn b v)
+    go : (t v : ℕ) (z : Bool) → eqb v 0 ≡ z → (c : ℕ)
+        → cond (eqb v 0) (find c slot l) (holds b (hitOf t v)) ≡ find c id all
+        → holds b (hitOf t v) ≡ find c id all
+    go t v true e c h = load-free b t v e ∙ sym (none-left c) ∙ picked (eqb v 0) (find c slot l) (holds b (hitOf t v))
         (find c id all) h .0 e
-    go v false e c h = picked (eqb v 0) (find c slot l) (loadIn b v) (find c id all) h .1 e
+    go t v false e c h = picked (eqb v 0) (find c slot l) (holds b (hitOf t v)) (find c id all) h .1 e
 
 pub ends-empty : (b : List ℕ) (all : List Act) (id slot : ℕ) (seats : List ℕ) → Gathering b all id [] slot seats
     → Gathered b all id seats
@@ -148,35 +195,59 @@ pub ends-created : (b : List ℕ) (all : List Act) (id t : ℕ) (d : List ℕ) (
     → Gathering b all id (act t d ∷ l) slot seats → Gathered b all id seats
 ends-created b all id t d l slot seats h g = ends b all id (act t d ∷ l) slot seats (λ c. found-create t d l c slot h) g
 
+-- ---- one seat taken: its two words, and those of the others
+module _ (seats : List ℕ) (k t off : ℕ) where
+  seated-length : length (seated seats k t off) ≡ length seats
+  seated-length = length-set (set seats (2 * k) t) (2 * k + 1) off ∙ length-set seats (2 * k) t
+
+  seated-other : (c : ℕ) → (c ≡ k → ⊥)
+      → (seatTag (seated seats k t off) c ≡ seatTag seats c) × (seatOff (seated seats k t off) c ≡ seatOff seats c)
+  seated-other c n = (
+    getD-set-other (set seats (2 * k) t) (2 * k + 1) (2 * c) off 0 (λ q. omega arith)
+        ∙ getD-set-other seats (2 * k) (2 * c) t 0 (λ q. n (omega arith)),
+    getD-set-other (set seats (2 * k) t) (2 * k + 1) (2 * c + 1) off 0 (λ q. n (omega arith))
+        ∙ getD-set-other seats (2 * k) (2 * c + 1) t 0 (λ q. omega arith),
+  )
+
+  seated-same : 2 * k + 1 < length seats
+      → (seatTag (seated seats k t off) k ≡ t) × (seatOff (seated seats k t off) k ≡ off)
+  seated-same h = (
+    getD-set-other (set seats (2 * k) t) (2 * k + 1) (2 * k) off 0 (λ q. omega arith)
+        ∙ getD-set-same seats (2 * k) t 0 (omega arith),
+    getD-set-same (set seats (2 * k) t) (2 * k + 1) off 0 (omega (arith, length-set seats (2 * k) t)),
+  )
+
 -- ---- one entry more
-module _ (seats : List ℕ) (t at id : ℕ) where
+module _ (seats : List ℕ) (t at slot id : ℕ) where
   abbrev k : ℕ
   k = seatClass t
 
-  noted-past : (m x z : Bool) → eqb (tagId t) id ≡ m → ltb k classes ≡ x → eqb (getD seats k 0) 0 ≡ z
-      → m && x && z ≡ false → noted seats t at id ≡ seats
+  noted-past : (m x z : Bool) → eqb (tagId t) slot ≡ m → ltb k classes ≡ x → eqb (seatOff seats k) 0 ≡ z
+      → m && x && z ≡ false → noted seats t at slot id ≡ seats
   unfolding noted
   noted-past m x z em ex ez h = rw (em, ex, ez, h)
 
-  noted-hit : eqb (tagId t) id ≡ true → k < classes → eqb (getD seats k 0) 0 ≡ true
-      → noted seats t at id ≡ set seats k (seatOf t at)
+  noted-hit : eqb (tagId t) slot ≡ true → k < classes → eqb (seatOff seats k) 0 ≡ true
+      → noted seats t at slot id ≡ seated seats k (named t id) (at + 4)
   unfolding noted
   noted-hit em low ez = rw (em, lt-ltb k classes low, ez)
 
-  noted-other : (c : ℕ) → (c ≡ k → ⊥) → getD (noted seats t at id) c 0 ≡ getD seats c 0
+  noted-other : (c : ℕ) → (c ≡ k → ⊥) → (seatTag (noted seats t at slot id) c ≡ seatTag seats c)
+      × (seatOff (noted seats t at slot id) c ≡ seatOff seats c)
   unfolding noted
-  noted-other c n = go (eqb (tagId t) id && ltb k classes && eqb (getD seats k 0) 0)
+  noted-other c n = go (eqb (tagId t) slot && ltb k classes && eqb (seatOff seats k) 0)
     where
-      go : (x : Bool) → getD (cond x (set seats k (seatOf t at)) seats) c 0 ≡ getD seats c 0
-      go true = getD-set-other seats k c (seatOf t at) 0 n
-      go false = refl
+      go : (x : Bool) → (seatTag (cond x (seated seats k (named t id) (at + 4)) seats) c ≡ seatTag seats c)
+          × (seatOff (cond x (seated seats k (named t id) (at + 4)) seats) c ≡ seatOff seats c)
+      go true = seated-other seats k (named t id) (at + 4) c n
+      go false = (refl, refl)
 
-  noted-length : length (noted seats t at id) ≡ length seats
+  noted-length : length (noted seats t at slot id) ≡ length seats
   unfolding noted
-  noted-length = go (eqb (tagId t) id && ltb k classes && eqb (getD seats k 0) 0)
+  noted-length = go (eqb (tagId t) slot && ltb k classes && eqb (seatOff seats k) 0)
     where
-      go : (x : Bool) → length (cond x (set seats k (seatOf t at)) seats) ≡ length seats
-      go true = length-set seats k (seatOf t at)
+      go : (x : Bool) → length (cond x (seated seats k (named t id) (at + 4)) seats) ≡ length seats
+      go true = seated-length seats k (named t id) (at + 4)
       go false = refl
 
 past-id : (x z : Bool) → false && x && z ≡ false
@@ -187,67 +258,71 @@ past-taken true true = refl
 past-taken true false = refl
 past-taken false x = refl
 
-module _ (b : List ℕ) (all : List Act) (id t at : ℕ) (l : List Act) (slot : ℕ) (seats : List ℕ) (word : t < 2 ^ 32)
-    (some : 0 < at) (low : at < 2 ^ 16)
-    (whole : at + tagLength t ≤ length b) (full : length seats ≡ classes) (not : createdAt t slot ≡ false) where
+module _ (b : List ℕ) (all : List Act) (id t at : ℕ) (l : List Act) (slot : ℕ) (seats : List ℕ) (low : id < 2 ^ 10)
+    (whole : at + tagLength t ≤ length b) (full : length seats ≡ 2 * classes) (not : createdAt t slot ≡ false) where
   abbrev d : List ℕ
   d = bytesAt b (record { tag = t; off = at })
 
+  abbrev next : List ℕ
+  next = noted seats t at slot id
+
   -- what the seat of class c says after the tag
-  after : (c : ℕ) → c < classes
-      → (cond (eqb (getD seats c 0) 0) (find c slot (act t d ∷ l)) (loadIn b (getD seats c 0))
-      ≡ cond (eqb (getD (noted seats t at slot) c 0) 0) (find c (idBefore t slot) l)
-      (loadIn b (getD (noted seats t at slot) c 0)))
-      × (Inside b (getD seats c 0) → Inside b (getD (noted seats t at slot) c 0))
-  after c h = go (eqb c (seatClass t)) refl (eqb (tagId t) slot) refl (eqb (getD seats c 0) 0) refl
+  abbrev Says : ℕ → Type 0
+  Says c =
+      (cond (eqb (seatOff seats c) 0) (find c slot (act t d ∷ l)) (holds b (hitAt seats c))
+      ≡ cond (eqb (seatOff next c) 0) (find c (idBefore t slot) l) (holds b (hitAt next c)))
+      × (Kept b id (seatTag seats c) (seatOff seats c) → Kept b id (seatTag next c) (seatOff next c))
+
+  after : (c : ℕ) → c < classes → Says c
+  after c h = go (eqb c (seatClass t)) refl (eqb (tagId t) slot) refl (eqb (seatOff seats c) 0) refl
     where
       on : find c slot (act t d ∷ l) ≡ cond (eqb (tagId t) slot && eqb c (seatClass t)) (loadOf t d)
           (find c (idBefore t slot) l)
       on = found-on t d l c slot h not
 
-      Says : Type 0
-      Says = (cond (eqb (getD seats c 0) 0) (find c slot (act t d ∷ l)) (loadIn b (getD seats c 0))
-          ≡ cond (eqb (getD (noted seats t at slot) c 0) 0) (find c (idBefore t slot) l)
-          (loadIn b (getD (noted seats t at slot) c 0)))
-          × (Inside b (getD seats c 0) → Inside b (getD (noted seats t at slot) c 0))
-
       -- the seat stays, and the search goes on
-      stay : getD (noted seats t at slot) c 0 ≡ getD seats c 0 → eqb (tagId t) slot && eqb c (seatClass t) ≡ false
-          → Says
-      stay e n = rw (e, on, n) (refl, λ i. i)
+      stay : (seatTag next c ≡ seatTag seats c) × (seatOff next c ≡ seatOff seats c)
+          → eqb (tagId t) slot && eqb c (seatClass t) ≡ false → Says c
+      stay e n = rw (e .0, e .1, on, n) (refl, λ i. i)
+
+      same-seats : next ≡ seats → (seatTag next c ≡ seatTag seats c) × (seatOff next c ≡ seatOff seats c)
+      same-seats e = (ap (λ (s : List ℕ). seatTag s c) e, ap (λ (s : List ℕ). seatOff s c) e)
 
       and-false : (x : Bool) → x && false ≡ false
       and-false true = refl
       and-false false = refl
 
       go : (q : Bool) → eqb c (seatClass t) ≡ q → (m : Bool) → eqb (tagId t) slot ≡ m → (z : Bool)
-          → eqb (getD seats c 0) 0 ≡ z → Says
-      go false eq m em z ez = stay (noted-other seats t at slot c (eqb-false c (seatClass t) eq))
+          → eqb (seatOff seats c) 0 ≡ z → Says c
+      go false eq m em z ez = stay (noted-other seats t at slot id c (eqb-false c (seatClass t) eq))
           (rw eq (and-false (eqb (tagId t) slot)))
       go true eq false em z ez =
-          stay (ap (λ (s : List ℕ). getD s c 0) (noted-past seats t at slot false (ltb (seatClass t) classes)
-          (eqb (getD seats (seatClass t) 0) 0) em refl refl
-          (past-id (ltb (seatClass t) classes) (eqb (getD seats (seatClass t) 0) 0)))) (rw em)
+          stay (same-seats (noted-past seats t at slot id false (ltb (seatClass t) classes)
+          (eqb (seatOff seats (seatClass t)) 0) em refl refl
+          (past-id (ltb (seatClass t) classes) (eqb (seatOff seats (seatClass t)) 0)))) (rw em)
       go true eq true em false ez =
           let same : c ≡ seatClass t = eqb-true c (seatClass t) eq in
-          let e : getD (noted seats t at slot) c 0 ≡ getD seats c 0 =
-          ap (λ (s : List ℕ). getD s c 0) (noted-past seats t at slot true (ltb (seatClass t) classes) false em refl
+          let e = same-seats (noted-past seats t at slot id true (ltb (seatClass t) classes) false em refl
           (rw same at ez) (past-taken true (ltb (seatClass t) classes))) in
-          rw (e, ez) (refl, λ i. i)
+          rw (e .0, e .1, ez) (refl, λ i. i)
       go true eq true em true ez =
           let same : c ≡ seatClass t = eqb-true c (seatClass t) eq in
-          let e : getD (noted seats t at slot) c 0 ≡ seatOf t at =
-          ap (λ (s : List ℕ). getD s c 0) (noted-hit seats t at slot em (rw (← same) h) (rw same at ez))
-          ∙ rw same (getD-set-same seats (seatClass t) (seatOf t at) 0 (rw (← same) (omega arith))) in
-          rw (e, ez, on, em, eq, ne-eqb (seatOf t at) 0 (λ q. omega arith))
-          (sym (seat-load b t at word some low), λ i. seat-inside b t at word low whole)
+          let room : 2 * seatClass t + 1 < length seats = omega (arith, h, same, full) in
+          let s = seated-same seats (seatClass t) (named t id) (at + 4) room in
+          let n : next ≡ seated seats (seatClass t) (named t id) (at + 4) =
+          noted-hit seats t at slot id em (rw (← same) h) (rw same at ez) in
+          let tag : seatTag next c ≡ named t id = ap (λ (s : List ℕ). seatTag s c) n ∙ rw same (s .0) in
+          let off : seatOff next c ≡ at + 4 = ap (λ (s : List ℕ). seatOff s c) n ∙ rw same (s .1) in
+          rw (tag, off, ez, on, em, eq, ne-eqb (at + 4) 0 (λ q. omega arith)) (
+            sym (seat-load b t at id low),
+            λ i. record { inside = seat-inside b t at id low whole; named′ = seat-named b t at id low },
+          )
 
-  pub turns : Gathering b all id (act t d ∷ l) slot seats
-      → Gathering b all id l (idBefore t slot) (noted seats t at slot)
+  pub turns : Gathering b all id (act t d ∷ l) slot seats → Gathering b all id l (idBefore t slot) next
   turns g = record {
     loads = λ c h. sym (after c h .0) ∙ g .loads c h;
-    inside = λ c h. after c h .1 (g .inside c h);
-    full = noted-length seats t at slot ∙ full;
+    kept = λ c h. after c h .1 (g .kept c h);
+    full = noted-length seats t at slot id ∙ full;
   }
 
 -- ---- the same on the bytes of a block: the tag t ends at `off`, and stands at `at`
@@ -282,10 +357,9 @@ module _ (b : List ℕ) (all : List Act) (id off t slot : ℕ) (seats : List ℕ
         here
 
     -- w is the tag before, `next` the seats and `before` the id behind the tag
-    pub walk-on : made ≡ false → t < 2 ^ 32 → off ≤ length b → length b ≤ 2 ^ 16 → (next : List ℕ)
-        → next ≡ noted seats t at slot → (before : ℕ) → before ≡ idBefore t slot
+    pub walk-on : made ≡ false → id < 2 ^ 10 → off ≤ length b → (next : List ℕ)
+        → next ≡ noted seats t at slot id → (before : ℕ) → before ≡ idBefore t slot
         → (w : ℕ) → w ≡ tagBefore b at t → Gathering b all id (map (seen b) (back b at w)) before next
-    walk-on q word fits most next enext before ebefore w ew =
+    walk-on q low fits next enext before ebefore w ew =
         rw (enext, ebefore, ew)
-        (turns b all id t at older slot seats word (back-first off t at e) (omega (arith, back-word off t at e))
-        (omega (arith, e .is, e .more)) (g .full) (sym em ∙ q) here)
+        (turns b all id t at older slot seats low (omega (arith, e .is, e .more)) (g .full) (sym em ∙ q) here)

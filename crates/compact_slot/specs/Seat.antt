@@ -55,10 +55,10 @@ noted seats t at slot id =
     cond (eqb (tagId t) slot && ltb (seatClass t) classes && eqb (seatOff seats (seatClass t)) 0)
     (seated seats (seatClass t) (tagOf (tagType3 t) id (tagSize t)) (at + 4)) seats
 
--- what the walk asks: a block with its end inside and below 2 ^ 32, and an id that a slot can have
+-- what the walk asks: an end inside the block and of at most 65,536, and an id that a slot can have
 pub record Gatherable (b : List ℕ) (end id : ℕ) : Type 0 where
   pub inside : end ≤ length b
-  pub small : end < 2 ^ 32
+  pub small : end ≤ 2 ^ 16
   pub slot : id ≤ mostSlots
 
 -- what it leaves: at each class's seat stands what the search back finds, whole in the block, its tag with the slot's id

@@ -8,7 +8,6 @@ use lib.Dec.{leb}
 use lib.ListN.{length, take, drop, length-replicate}
 use borrow.Author.Tests.{leb-true, eq-eqb, ne-eqb, not-true, not-false}
 use Rattle.format.specs.Tag.{tagType3, mkTag}
-use Rattle.format.specs.Look.{Found}
 use Rattle.format.specs.Lookup.{recordFits, blockOf, searched, sliceAnswer, sliceBuffer, blankBuffer, nameMask, nameKey}
 use Rattle.format.specs.Lookup.{structMask, structKey, infoRefused, infoRoot, infoSize, infoFrom, readAnswer}
 use Rattle.format.specs.Lookup.{readBuffer, infoOf, getinfoFits, getinfoOf}
@@ -17,6 +16,8 @@ use Rattle.format.specs.declared.LfsMdir.{LfsMdir}
 use Rattle.format.specs.declared.LfsGstate.{LfsGstate}
 use Rattle.format.specs.declared.Refusal.{Refusal}
 use Rattle.format.specs.declared.Refusal.the-variants.{Invalid}
+use Rattle.format.specs.declared.Found.{Found}
+use Rattle.format.specs.declared.Hit.{Hit}
 use Rattle.format.specs.declared.Got.{Got}
 use Rattle.format.specs.declared.Got.the-variants as got
 use Rattle.format.specs.declared.Altered.the-variants as altered
@@ -63,8 +64,8 @@ module _ (b : List ℕ) (dir : LfsMdir) (gdisk : LfsGstate) (id t : ℕ) (name :
       (sym q ∙ answers)
 
   -- d is the buffer, z the size in it, k the name's type
-  pub named-found : (u : ℕ) → a ≡ got.Found u → (d : List ℕ) → d ≡ readBuffer b 8 (searched b dir gdisk gm gt)
-      → (z k : ℕ) → z ≡ infoSize u d → k ≡ tagType3 t
+  pub named-found : (u : Found) → a ≡ got.Found u → (d : List ℕ) → d ≡ readBuffer b 8 (searched b dir gdisk gm gt)
+      → (z k : ℕ) → z ≡ infoSize (u .tag) d → k ≡ tagType3 t
       → record { answer = altered.Done; info = record { kind = k % 2 ^ 8; size = z; name = name } } ≡ promised
   named-found u q d ed z k ez ek =
       (λ i. record { answer = altered.Done; info = record { kind = ek i % 2 ^ 8; size = ez i; name = name } })
@@ -74,8 +75,8 @@ module _ (b : List ℕ) (dir : LfsMdir) (gdisk : LfsGstate) (id t : ℕ) (name :
 abbrev blank : ℕ → List ℕ
 blank nameMax = take (nameMax + 1) (blankBuffer 256)
 
-padded : (t : ℕ) (name : List ℕ) (u : Got) (d : List ℕ)
-    → infoNamed t (name ++ blankBuffer (256 - length name)) u d ≡ infoFrom (got.Found t) name u d
+padded : (t : Found) (name : List ℕ) (u : Got) (d : List ℕ)
+    → infoNamed (t .tag) (name ++ blankBuffer (256 - length name)) u d ≡ infoFrom (got.Found t) name u d
 padded t name (got.Refused r) d = refl
 padded t name (got.Found u) d = refl
 
@@ -83,10 +84,10 @@ module _ (b : List ℕ) (dir : LfsMdir) (gdisk : LfsGstate) (nameMax id : ℕ) (
     (gm gt : ℕ) (em : gm ≡ mkTag 0x780 1023 0)
     (et : gt ≡ mkTag 0x000 id (nameMax + 1)) (a : Got)
     (e : a ≡ sliceAnswer b 0 (length (blank nameMax)) (searched b dir gdisk gm gt)) where
-  abbrev u : Found
+  abbrev u : Hit
   u = searched b dir gdisk nameMask (nameKey id nameMax)
 
-  abbrev v : Found
+  abbrev v : Hit
   v = searched b dir gdisk structMask (structKey id)
 
   name-search : searched b dir gdisk gm gt ≡ u
@@ -108,9 +109,9 @@ module _ (b : List ℕ) (dir : LfsMdir) (gdisk : LfsGstate) (nameMax id : ℕ) (
       (sym q ∙ name-answer)
 
   -- l is the part that was lent, x the info with the buffer of which it is the front
-  pub info-found : (t : ℕ) → a ≡ got.Found t → (l : List ℕ)
+  pub info-found : (t : Found) → a ≡ got.Found t → (l : List ℕ)
       → l ≡ sliceBuffer b 0 (blank nameMax) (searched b dir gdisk gm gt) → (x : Informed)
-      → x ≡ infoNamed t (l ++ drop (nameMax + 1) (blankBuffer 256)) (readAnswer b 8 v) (readBuffer b 8 v)
+      → x ≡ infoNamed (t .tag) (l ++ drop (nameMax + 1) (blankBuffer 256)) (readAnswer b 8 v) (readBuffer b 8 v)
       → x ≡ infoOf b nameMax u v
   info-found t q l el x ex =
       let name : List ℕ = readBuffer b (nameMax + 1) u in
@@ -120,7 +121,7 @@ module _ (b : List ℕ) (dir : LfsMdir) (gdisk : LfsGstate) (nameMax id : ℕ) (
       ∙ length-replicate {A = ℕ} (nameMax + 1) 0 in
       let behind : drop (nameMax + 1) (blankBuffer 256) ≡ blankBuffer (256 - length name) =
       drop-blank (nameMax + 1) 256 (256 - length name) (omega arith) in
-      ex ∙ (λ i. infoNamed t (same i ++ behind i) (readAnswer b 8 v) (readBuffer b 8 v))
+      ex ∙ (λ i. infoNamed (t .tag) (same i ++ behind i) (readAnswer b 8 v) (readBuffer b 8 v))
       ∙ padded t name (readAnswer b 8 v) (readBuffer b 8 v)
       ∙ ap (λ y. infoFrom y name (readAnswer b 8 v) (readBuffer b 8 v)) (sym q ∙ name-answer)
 

@@ -13,29 +13,32 @@ use Rattle.compact_slot.proofs.gather.Tie as tie
 
 abbrev Inv-loop : tie.InvT-loop
 Inv-loop b end etag id seats₀ off₀ tag₀ slot₀ seats off tag slot =
-    (tag < 2 ^ 32) × (off ≤ end) × (slot + off ≤ id + end) × Gathering b (map (seen b) (back b end etag)) id
+    (off ≤ end) × (slot + off ≤ id + end) × Gathering b (map (seen b) (back b end etag)) id
     (map (seen b) (back b off tag)) slot seats
 
 abbrev μ-loop : tie.MeasureT-loop
 μ-loop b end etag id seats₀ off₀ tag₀ slot₀ seats off tag slot = off
 
 loop-holds : tie.Need-loop-holds Inv-loop μ-loop
-loop-holds c = (omega arith, omega arith, omega arith, starts _ _ _ (c .before .pre .word))
+loop-holds c = (omega arith, omega arith, starts _ _ _)
 
 returns : tie.Need-returns Inv-loop μ-loop
-returns c = walk-over _ _ _ _ _ _ _ (c .before .before .before .loop .inv .3)
+returns c = walk-over _ _ _ _ _ _ _ (c .before .before .before .loop .inv .2)
     (placed-over _ _ _ (c .before .before .place .ensures) (c .enum-told .given .1))
 
 returns-2 : tie.Need-returns-2 Inv-loop μ-loop
-returns-2 c = walk-created _ _ _ _ _ _ _ (c .before .before .before .before .before .before .loop .inv .3) _
+returns-2 c = walk-created _ _ _ _ _ _ _ (c .before .before .before .before .before .before .loop .inv .2) _
     (placed-at _ _ _ _ (c .before .before .before .before .before .place .ensures)
     (c .before .before .before .at .given .1)) _ (c .before .created .ensures) (c .if1 .taken)
 
 note-requires : tie.Need-note-requires Inv-loop μ-loop
-note-requires c κs = omega (
-  arith,
-  back-word _ _ _ (placed-at _ _ _ _ (c .before .before .before .before .before .before .place .ensures)
-      (c .before .before .before .before .at .given .1)),
+note-requires c κs = (
+  omega (
+    arith,
+    back-word _ _ _ (placed-at _ _ _ _ (c .before .before .before .before .before .before .place .ensures)
+        (c .before .before .before .before .at .given .1)),
+  ),
+  omega arith,
 )
 
 tag-before-requires : tie.Need-tag-before-requires Inv-loop μ-loop
@@ -57,7 +60,6 @@ loop-less c = omega (
 loop-again : tie.Need-loop-again Inv-loop μ-loop
 loop-again
     c = (
-      omega arith,
       omega (
         arith,
         back-word _ _ _
@@ -76,11 +78,11 @@ loop-again
             (c .before .before .before .before .before .before .before .before .before .before .loop .slot),
       ),
       walk-on _ _ _ _
-          _ _ _ (c .before .before .before .before .before .before .before .before .before .before .loop .inv .3) _
+          _ _ _ (c .before .before .before .before .before .before .before .before .before .before .loop .inv .2) _
           (placed-at _ _ _ _ (c .before .before .before .before .before .before .before .before .before .place .ensures)
           (c .before .before .before .before .before .before .before .at .given .1)) _
           (c .before .before .before .before .before .created .ensures) (c .before .before .before .before .if1 .left)
-          (omega arith) (omega arith) (omega arith) _ (c .before .before .note .ensures) _
+          (omega arith) (omega arith) _ (c .before .before .note .ensures) _
           (c .before .id-before .ensures) _
           (c .tag-before .ensures),
     )

@@ -27,7 +27,7 @@ returns-2 c = let a = c .before .before .before .before .before .before .before 
     info-found (a .b .now) (a .dir) (a .gdisk) (a .name-max) (a .id) (omega arith) (omega arith) _ _
     (c .before .before .before .before .before .before .before .before .lfs-mktag .ensures)
     (c .before .before .before .before .before .before .before .lfs-mktag2 .ensures) _
-    (c .before .before .before .before .before .read .ensures .0) _ (c .before .before .t .given .1) _
+    (c .before .before .before .before .before .read .ensures .0) _ (c .before .before .e .given .1) _
     (c .before .before .before .before .before .read .ensures .1) _ (c .named .ensures)
 
 pub read-spec : {M : Type 1} → statement M

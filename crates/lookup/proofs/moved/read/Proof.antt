@@ -1,5 +1,4 @@
 -- `lookup::moved::read` meets its contract: what was found is what should be (`Moves.antt`). Assumes nothing.
-use native.Mathlib.Omega.{arith}
 use Rattle.lookup_search.proofs.Slices.{hit-inside}
 use Rattle.lookup.proofs.Moves.{move-none, move-some}
 use borrow.Author.Needs.{needs}
@@ -7,8 +6,7 @@ use Rattle.lookup.proofs.moved.read.Statement.{statement}
 use Rattle.lookup.proofs.moved.read.Tie as tie
 
 xored-at-requires : tie.Need-xored-at-requires
-xored-at-requires c κs = let i = hit-inside _ _ (c .before .before .before .newest .ensures .1)
-    (c .before .t .given .1) in omega arith
+xored-at-requires c κs = hit-inside _ _ (c .before .before .before .newest .ensures .1) (c .before .e .given .1)
 
 returns : tie.Need-returns
 returns c = let a = c .before .before .before .before .before .before .args in move-none (a .b .now) (a .dir) (a .gdisk)
@@ -19,7 +17,7 @@ returns-2 : tie.Need-returns-2
 returns-2 c = let a = c .before .before .before .before .before .before .before .before .args in move-some (a .b .now)
     (a .dir) (a .gdisk) (a .gstate) _ _ (c .before .before .before .before .before .before .lfs-mktag .ensures)
     (c .before .before .before .before .before .lfs-mktag2 .ensures) _
-    (c .before .before .before .before .newest .ensures .0) (c .before .before .t .given .1) _ _
+    (c .before .before .before .before .newest .ensures .0) (c .before .before .e .given .1) _ _
     (c .xored-at .ensures .0) (c .xored-at .ensures .1)
 
 pub read-spec : {M : Type 1} → statement M

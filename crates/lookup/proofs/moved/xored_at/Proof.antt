@@ -6,12 +6,12 @@ use Rattle.lookup.proofs.moved.xored_at.Statement.{statement}
 use Rattle.lookup.proofs.moved.xored_at.Tie as tie
 
 returns : tie.Need-returns
-returns c = let a = c .before .before .before .before .before .before .before .args in move-refused (a .b .now) (a .t)
-    (a .at) (a .diff) (a .gstate) _ (c .before .before .before .before .read-at .ensures .0) _ (c .before .r .given .1)
+returns c = let a = c .before .before .before .before .before .before .before .args in move-refused (a .b .now) (a .e)
+    (a .gstate) _ (c .before .before .before .before .read-at .ensures .0) _ (c .before .r .given .1)
 
 returns-2 : tie.Need-returns-2
 returns-2 c = let a = c .before .before .before .before .before .before .before .before .before .args in move-found
-    (a .b .now) (a .t) (a .at) (a .diff) (a .gstate) _
+    (a .b .now) (a .e) (a .gstate) _
     (c .before .before .before .before .before .before .read-at .ensures .0) _
     (c .before .before .before .enum-told .given .1) _
     (c .before .before .before .before .before .before .read-at .ensures .1) _ _ (c .before .gstate-in .ensures)

@@ -1,0 +1,30 @@
+-- What an entry that was found is in its block: nothing, or its type and its bytes, which stand there whole. Assumes
+-- nothing.
+use mathlib.Core.Path.{_≡_, sym, ap}
+use mathlib.Core.Option.{none, some}
+use mathlib.Core.List.{List}
+use Prim.Native.Nat.{ℕ}
+use native.Mathlib.Omega.{arith}
+use lib.ListN.{length, drop, length-drop}
+use lib.Seq.{length-take-le}
+use Rattle.format.specs.Tag.{tagType3}
+use Rattle.format.specs.Look.{dataSize, bytesOf, HitIn}
+use Rattle.format.specs.declared.Found.{Found}
+use Rattle.format.specs.declared.Hit.{Hit}
+use Rattle.format.specs.declared.Hit.the-variants as hit
+use Rattle.theory.specs.Lookup.ByMask.{holds}
+
+module _ (b : List ℕ) (h : Hit) where
+  pub missing : h ≡ hit.Nothing → none ≡ holds b h
+  unfolding holds
+  missing q = sym (ap (holds b) q)
+
+  pub there : {e : Found} → h ≡ hit.Found e → some (record { type = tagType3 (e .tag); bytes = bytesOf b e }) ≡ holds b h
+  unfolding holds
+  there q = sym (ap (holds b) q)
+
+  pub whole : {e : Found} → HitIn (length b) h → h ≡ hit.Found e → HitIn (length b) (hit.Found e)
+  whole i q = rw q at i
+
+pub bytes-length : (b : List ℕ) (e : Found) → HitIn (length b) (hit.Found e) → length (bytesOf b e) ≡ dataSize e
+bytes-length b e i = length-take-le (dataSize e) (drop (e .off) b) (omega (arith, i .1, length-drop (e .off) b))
