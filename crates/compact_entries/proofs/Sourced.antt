@@ -5,7 +5,8 @@ use mathlib.Core.Option.{Option, none}
 use mathlib.Core.List.{List, _++_}
 use Prim.Native.Nat.{ℕ, _+_, _≤_}
 use native.Mathlib.Omega.{arith}
-use Rattle.format.specs.Log.{log}
+use lib.ListN.{length}
+use Rattle.format.specs.Log.{log, logEnd, logEndTag}
 use Rattle.format.specs.Back.{back}
 use Rattle.format.specs.Record.{noTail, tailOf, splitOf}
 use Rattle.format.specs.Kind.{noSlot}
@@ -15,15 +16,22 @@ use Rattle.format.specs.Compaction.{classItems, dirItems, tailItems, moveItems,
 use Rattle.format.specs.declared.LfsPair.{LfsPair}
 use Rattle.format.specs.declared.LfsMdir.{LfsMdir}
 use Rattle.theory.specs.Commit.Tested.{regular-log}
-use Rattle.theory.specs.Lookup.MoveState.{lastMove}
-use Rattle.theory.specs.Lookup.SlotSearch.{move-last}
-use Rattle.compact_slot.specs.Seat.{loadIn}
-use Rattle.compact_slot.proofs.Slots.{slots-few}
-use Rattle.compact_entries.specs.Emitted.{Standing, emits, Read}
+use Rattle.format.specs.Look.{maskMove, HitIn, wlook}
+use Rattle.format.specs.Lookup.{hasIds}
+use Rattle.format.specs.Tag.{mkTag}
+use Rattle.format.specs.declared.Hit.{Hit}
+use Rattle.format.proofs.Searched.{hit-before}
+use Rattle.theory.specs.Lookup.ByMask.{holds, Answers}
+use Rattle.theory.specs.Lookup.OnBlock.{RegularLog}
+use Rattle.theory.specs.Lookup.MoveState.{move-found}
+use Rattle.theory.specs.Lookup.MoveAnswer.{move-answer}
+use Rattle.compact_slot.proofs.Slots.{slots-few, slot-gathers}
+use Rattle.compact_entries.specs.Emitted.{Standing, emits, hitItems, Read}
 use Rattle.compact_entries.specs.declared.Emit.{Emit}
 use Rattle.compact_entries.proofs.Joined.{emits-app, dir-within, tail-within}
+use Rattle.compact_entries.proofs.Written.{hit-items}
 
--- a stands behind the slots, t behind the tail, r behind the move state at the seat v
+-- a stands behind the slots, t behind the tail, r behind the move state
 module _ (b : List ℕ) (e : Emit) (dir : LfsMdir) (d : Read b e dir) (s a : Standing)
     (ea : a ≡ emits s (dirItems 0 (dirOf (log b)))) where
   pub slots-within : a .end ≤ s .end + 271_845_882
@@ -34,20 +42,31 @@ module _ (b : List ℕ) (e : Emit) (dir : LfsMdir) (d : Read b e dir) (s a : Sta
     d .source .slots .count′,
   )
 
+  -- the record's end is in the block
+  pub read-inside : dir .off ≤ length b
+  read-inside = slot-gathers b (dir .off) (dir .etag) (dir .count) (d .source .slots) 0 (omega arith) .inside
+
   module _ (t : Standing) (et : t ≡ emits a (tailItems (dir .split) (dir .tail))) where
     pub entries-within : t .end ≤ s .end + 271_846_908
     entries-within = omega (arith, slots-within, tail-within t a (dir .split) (dir .tail) et)
 
-    pub entries-done : (r : Standing) (v : ℕ) → loadIn b v ≡ lastMove b (back b (dir .off) (dir .etag))
-        → r ≡ emits t (classItems noSlot (loadIn b v)) → r ≡ emits s (compactionItems (log b))
+    -- gm and gt are the mask and the key of the move state that LFS_MKTAG makes, h what the search answers
+    pub entries-done : (gm gt : ℕ) → gm ≡ mkTag 0x7ff 0 0 → gt ≡ mkTag 0x7ff 0 12 → (h : Hit)
+        → h ≡ wlook (hasIds gm) gm gt 0 (back b (dir .off) (dir .etag)) → HitIn (dir .off) h → (r : Standing)
+        → r ≡ emits t (hitItems b h) → r ≡ emits s (compactionItems (log b))
     unfolding compactionItems
-    entries-done r v ev er =
+    entries-done gm gt em et′ h eh i r er =
         let I : List Item = tailItems (splitOf false (log b)) (tailOf noTail (log b)) in
         let M : List Item = moveItems (moveOf none (log b)) in
-        let m : loadIn b v ≡ moveOf none (log b) =
-        ev ∙ rw (d .source .slots .ends, d .source .slots .endTag)
-        (move-last b (log b) refl (d .source .some) (regular-log b (log b) refl (d .source .slots .regular))) in
-        er ∙ ap (λ (x : Option Load). emits t (classItems noSlot x)) m
+        let R : RegularLog (log b) = regular-log b (log b) refl (d .source .slots .regular) in
+        let u : h ≡ wlook false maskMove (maskMove + 12) 0 (back b (logEnd (log b)) (logEndTag (log b)))
+        = eh ∙ rw (em, et′, d .source .slots .ends, d .source .slots .endTag) in
+        let m : holds b h ≡ moveOf none (log b)
+        = ap (holds b) u ∙ move-found b (log b) 12 refl (d .source .some) (R .base .reg) (R .base .eight) (omega arith) in
+        let n : Answers noSlot h = rw u (move-answer b 12 (d .source .some) (d .source .slots .regular) (R .base .reg)
+        (omega arith)) in
+        er ∙ ap (emits t) (hit-items b noSlot h (hit-before (dir .off) (length b) h read-inside i) n)
+        ∙ ap (λ (x : Option Load). emits t (classItems noSlot x)) m
         ∙ ap (λ (x : Standing). emits x M) (et ∙ ap₂ (λ (x : Bool) (y : LfsPair). emits a (tailItems x y)) (d .split′)
         (d .tail′) ∙ ap (λ (x : Standing). emits x I) ea)
         ∙ sym (emits-app (dirItems 0 (dirOf (log b))) (I ++ M) s ∙ emits-app I M (emits s (dirItems 0 (dirOf (log b)))))

@@ -21,11 +21,15 @@ use Rattle.format.specs.declared.LfsPair.{LfsPair}
 use Rattle.format.proofs.Words.{mkTag-sum}
 use Rattle.commit_lay.specs.Laid.{Laid, putsOf, bodyOf}
 use Rattle.commit_lay.proofs.Puts.{puts-app}
-use Rattle.compact_slot.specs.Seat.{loadIn, Inside}
-use Rattle.compact_slot.specs.Held.{Stands}
-use Rattle.compact_slot.specs.declared.Held.{Held}
-use Rattle.compact_slot.proofs.Stands.{bytes, missing, there, bytes-length}
-use Rattle.compact_entries.specs.Emitted.{Standing, emitted, emits, createItem}
+use Rattle.format.specs.Look.{dataSize, bytesOf, FoundIn, HitIn}
+use Rattle.format.specs.declared.Found.{Found}
+use Rattle.format.specs.declared.Hit.{Hit}
+use Rattle.format.specs.declared.Hit.the-variants as hit
+use Rattle.theory.specs.Lookup.ByMask.{holds, Answers}
+use Rattle.compact_slot.specs.Seat.{hitAt}
+use Rattle.compact_slot.specs.Slots.{slotIn}
+use Rattle.compact_slot.proofs.Entries.{bytes-length}
+use Rattle.compact_entries.specs.Emitted.{Standing, emitted, emits, createItem, hitItems}
 use Rattle.compact_entries.proofs.Joined.{emits-app}
 
 -- the code's XOR
@@ -54,33 +58,41 @@ entry-done s t w body r n y ew er en ey =
       sum = (ey ∙ ap (λ (z : ℕ). crc (s .sum) (toBe32 z ++ body)) ew) i;
     }
 
--- ---- a class
+-- ---- a tag of fields that fit
 made-tag : (k y id z : ℕ) → k ≡ mkTag y id z → y < 2 ^ 12 → id < 2 ^ 10 → z < 2 ^ 10 → k ≡ tagOf y id z
 unfolding tagOf
 made-tag k y id z ek hy hid hz = ek ∙ mkTag-sum y id z hy hid hz
 
--- what the seat v tells is p
-module _ (b : List ℕ) (id v : ℕ) (s : Standing) (p : Held) (st : Stands v p) where
-  pub class-missing : not (p .held) ≡ true → s ≡ emits s (classItems id (loadIn b v))
+-- ---- an entry that was found
+module _ (b : List ℕ) (s : Standing) (h : Hit) where
+  pub hit-missing : h ≡ hit.Nothing → s ≡ emits s (hitItems b h)
   unfolding emits
-  class-missing h = ap (λ (l : Option Load). emits s (classItems id l)) (missing b v p st h)
+  hit-missing q = sym (ap (λ (x : Hit). emits s (hitItems b x)) q)
 
-  body-held : bodyOf b (p .from) (p .to - p .from) ≡ bytes b v p st
-  unfolding bodyOf
-  body-held = rw (ne-eqb (p .to - p .from) removalSize (λ q. omega (arith, st .size′)))
+  -- r stands behind it
+  pub hit-made : (f : Found) → h ≡ hit.Found f → HitIn (length b) h → (r : Standing)
+      → r ≡ emitted s (record { tag = f .tag; body = bodyOf b (f .off) (f .length - 4) }) → r ≡ emits s (hitItems b h)
+  unfolding emits bodyOf
+  hit-made f q i r er =
+      let w : FoundIn (length b) f = rw q at i in
+      er ∙ rw (ne-eqb (dataSize f) removalSize (λ z. omega (arith, w .kept)))
+      (sym (ap (λ (x : Hit). emits s (hitItems b x)) q))
 
-  -- z is the size, and k the tag made of it; r stands behind the entry
-  pub class-made : not (p .held) ≡ false → Inside b v → id < 2 ^ 10 → (z : ℕ) → z ≡ p .to - p .from → (k : ℕ)
-      → k ≡ mkTag (p .kind) id z → (r : Standing)
-      → r ≡ emitted s (record { tag = k; body = bodyOf b (p .from) z }) → r ≡ emits s (classItems id (loadIn b v))
-  unfolding emits
-  class-made h inside low z ez k ek r er =
-      let body : bodyOf b (p .from) z ≡ bytes b v p st = ap (bodyOf b (p .from)) ez ∙ body-held in
-      let tag : k ≡ tagOf (p .kind) id (length (bytes b v p st)) =
-      made-tag k (p .kind) id z ek (omega (arith, st .type′)) low (omega (arith, st .size′))
-      ∙ ap (tagOf (p .kind) id) (ez ∙ sym (bytes-length b v p st inside)) in
-      er ∙ ap₂ (λ (t : ℕ) (q : List ℕ). emitted s (record { tag = t; body = q })) tag body
-      ∙ ap (λ (l : Option Load). emits s (classItems id l)) (there b v p st h)
+-- whose tag has the id is the entry of what it holds
+pub hit-items : (b : List ℕ) (id : ℕ) (h : Hit) → HitIn (length b) h → Answers id h
+    → hitItems b h ≡ classItems id (holds b h)
+unfolding holds
+hit-items b id hit.Nothing i a = refl
+hit-items b id (hit.Found f) i a = rw (bytes-length b f i) (ap (λ (t : ℕ). one (record { tag = t; body = bytesOf b f })) a)
+  where
+    one : Item → List Item
+    one x = x ∷ []
+
+-- what the seat of class c tells is h; r stands behind it
+pub seat-laid : (b : List ℕ) (id : ℕ) (seats : List ℕ) (c : ℕ) → HitIn (length b) (hitAt seats c)
+    → Answers id (hitAt seats c) → (h : Hit) → h ≡ hitAt seats c → (s r : Standing) → r ≡ emits s (hitItems b h)
+    → r ≡ emits s (classItems id (slotIn b seats c))
+seat-laid b id seats c i a h eh s r er = er ∙ ap (emits s) (ap (hitItems b) eh ∙ hit-items b id (hitAt seats c) i a)
 
 -- ---- a slot
 no-body : (dat : List ℕ) → bodyOf dat 0 0 ≡ []

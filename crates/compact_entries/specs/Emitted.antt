@@ -5,7 +5,6 @@ use mathlib.Core.Logic.{_≢_}
 use mathlib.Core.Bool.{false}
 use mathlib.Core.List.{List, [], _∷_, _++_}
 use Prim.Native.Nat.{ℕ, _+_, _^_, _≤_, _<_}
-use lib.ListN.{getD}
 use Rattle.format.specs.Word.{toBe32, xor}
 use Rattle.format.specs.Tag.{tagLength, tagOf}
 use Rattle.format.specs.Kind.{typeCreate}
@@ -16,8 +15,12 @@ use Rattle.format.specs.Directory.{classes}
 use Rattle.format.specs.Commit.{Item}
 use Rattle.format.specs.declared.LfsMdir.{LfsMdir}
 use Rattle.commit_lay.specs.Laid.{Laid, laid, putsOf}
-use Rattle.compact_slot.specs.Seat.{Inside}
-use Rattle.compact_slot.specs.Slots.{Slots}
+use Rattle.format.specs.Look.{bytesOf}
+use Rattle.format.specs.declared.Hit.{Hit}
+use Rattle.format.specs.declared.Hit.the-variants as hit
+use Rattle.theory.specs.Lookup.ByMask.{Answers}
+use Rattle.compact_slot.specs.Seat.{hitAt}
+use Rattle.compact_slot.specs.Slots.{Slots, AllInside}
 use Rattle.compact_entries.specs.declared.Emit.{Emit}
 
 -- where the writing stands, with the block that is written
@@ -51,14 +54,15 @@ emits s (i ∷ is) = emits (emitted s i) is
 abbrev pub createItem : ℕ → Item
 createItem id = record { tag = tagOf typeCreate id 0; body = [] }
 
--- a seat in the block, an id that fits a tag, and an end that a word still counts
-pub record Seated (b : List ℕ) (e : Emit) (id seat : ℕ) : Type 0 where
-  pub inside : Inside b seat
-  pub slot : id < 2 ^ 10
-  pub small : e .end < 2 ^ 32
+-- an entry that was found, as it is: its tag and its bytes
+abbrev pub hitItems : List ℕ → Hit → List Item
+hitItems b hit.Nothing = []
+hitItems b (hit.Found f) = record { tag = f .tag; body = bytesOf b f } ∷ []
 
+-- a slot's seats in the block, their tags with its id, an id that fits a tag, and an end that a word still counts
 pub record SlotSeated (b : List ℕ) (e : Emit) (id : ℕ) (seats : List ℕ) : Type 0 where
-  pub inside : (c : ℕ) → c < classes → Inside b (getD seats c 0)
+  pub inside : AllInside b seats
+  pub named : (c : ℕ) → c < classes → Answers id (hitAt seats c)
   pub slot : id < 2 ^ 10
   pub small : e .end ≤ 2 ^ 31
 

@@ -8,7 +8,7 @@ use native.Mathlib.Omega.{arith}
 use lib.ListN.{length, drop, length-drop}
 use lib.Seq.{length-take-le}
 use Rattle.format.specs.Tag.{tagType3}
-use Rattle.format.specs.Look.{dataSize, bytesOf, HitIn}
+use Rattle.format.specs.Look.{dataSize, bytesOf, FoundIn, HitIn}
 use Rattle.format.specs.declared.Found.{Found}
 use Rattle.format.specs.declared.Hit.{Hit}
 use Rattle.format.specs.declared.Hit.the-variants as hit
@@ -23,8 +23,8 @@ module _ (b : List ℕ) (h : Hit) where
   unfolding holds
   there q = sym (ap (holds b) q)
 
-  pub whole : {e : Found} → HitIn (length b) h → h ≡ hit.Found e → HitIn (length b) (hit.Found e)
-  whole i q = rw q at i
+pub whole : (n : ℕ) (h : Hit) {e : Found} → HitIn n h → h ≡ hit.Found e → FoundIn n e
+whole n h i q = rw q at i
 
-pub bytes-length : (b : List ℕ) (e : Found) → HitIn (length b) (hit.Found e) → length (bytesOf b e) ≡ dataSize e
-bytes-length b e i = length-take-le (dataSize e) (drop (e .off) b) (omega (arith, i .1, length-drop (e .off) b))
+pub bytes-length : (b : List ℕ) (e : Found) → FoundIn (length b) e → length (bytesOf b e) ≡ dataSize e
+bytes-length b e i = length-take-le (dataSize e) (drop (e .off) b) (omega (arith, i .inside, length-drop (e .off) b))

@@ -115,12 +115,13 @@ module _ (b : List ℕ) (t at id : ℕ) (low : id < 2 ^ 10) where
       go false = rw (of-type3 (tagType3 t) id (tagSize t) (omega arith) low (omega arith), found-bytes t at 0 b)
 
   seat-inside : at + tagLength t ≤ length b → HitIn (length b) (hitOf (named t id) (at + 4))
-  seat-inside h = rw seat-is (go (tagDelete t))
+  seat-inside h = rw seat-is (go (tagDelete t) refl)
     where
-      go : (gone : Bool) → HitIn (length b) (cond gone hit.Nothing
+      go : (gone : Bool) → tagDelete t ≡ gone → HitIn (length b) (cond gone hit.Nothing
           (hit.Found (record { tag = named t id; length = tagLength t; off = at + 4 })))
-      go true = tt
-      go false = found-in t at 0 (length b) h
+      go true e = tt
+      go false e = let f = found-in t at 0 (length b) e h in
+          record { counted = f .counted; kept = f .kept; inside = f .inside }
 
   seat-named : Answers id (hitOf (named t id) (at + 4))
   seat-named = rw seat-is (go (tagDelete t) refl)

@@ -8,22 +8,35 @@ use native.Mathlib.Omega.{arith}
 use lib.ListN.{length, take, drop}
 use lib.Seq.{drop-drop}
 use lib.Dec.{leb}
-use Rattle.format.specs.Tag.{tagLength}
-use Rattle.format.specs.Look.{foundAt, bytesOf, HitIn}
+use borrow.Author.Tests.{eqb-false}
+use Rattle.format.specs.Tag.{tagSize, removalSize, tagDelete, tagLength}
+use Rattle.format.specs.Look.{foundAt, bytesOf, FoundIn, HitIn}
 use Rattle.format.specs.Lookup.{sliceEnd, sliceAnswer}
 use Rattle.format.specs.declared.Refusal.the-variants.{Corrupt}
 use Rattle.format.specs.declared.Found.{Found}
 use Rattle.format.specs.declared.Hit.{Hit}
 use Rattle.format.specs.declared.Hit.the-variants as hit
 use Rattle.format.specs.declared.Got.the-variants as got
-use Rattle.format.proofs.Words.{tagLength-ge}
+use Rattle.format.proofs.Tags.{length-size}
 
 module _ (t off diff : ℕ) where
   pub found-bytes : (b : List ℕ) → bytesOf b (foundAt t off diff) ≡ take (tagLength t - 4) (drop 4 (drop off b))
   found-bytes b = ap (take (tagLength t - 4)) (sym (drop-drop 4 off b))
 
-  pub found-in : (n : ℕ) → off + tagLength t ≤ n → HitIn n (hit.Found (foundAt t off diff))
-  found-in n h = (tagLength-ge t, omega (arith, tagLength-ge t))
+  pub found-in : (n : ℕ) → tagDelete t ≡ false → off + tagLength t ≤ n → FoundIn n (foundAt t off diff)
+  found-in n kept h =
+      let some : (tagSize t ≡ removalSize → ⊥) = eqb-false (tagSize t) removalSize kept in
+      let size : tagLength t ≡ 4 + tagSize t = length-size t some in
+      record { counted = omega arith; kept = omega arith; inside = omega arith }
+
+-- nor does it stand behind a later end
+pub hit-before : (n m : ℕ) (h : Hit) → n ≤ m → HitIn n h → HitIn m h
+hit-before n m hit.Nothing l i = tt
+hit-before n m (hit.Found e) l i = record {
+  counted = i .counted;
+  kept = i .kept;
+  inside = omega (arith, i .inside);
+}
 
 pub slice-is : (b : List ℕ) (offset size : ℕ) (f : Hit) (e : Found) → sliceAnswer b offset size f ≡ got.Found e
     → f ≡ hit.Found e

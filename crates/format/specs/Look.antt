@@ -2,13 +2,13 @@
 -- wrap." A pending move only lowers the difference that the search starts with. Assumes nothing.
 use mathlib.Core.Bool.{Bool, cond, _&&_}
 use mathlib.Core.List.{List, [], _∷_}
-use Prim.Native.Nat.{ℕ, suc, _+_, _-_, _*_, _%_, _^_, _≤_}
+use Prim.Native.Nat.{ℕ, suc, _+_, _-_, _*_, _%_, _^_, _≤_, _<_}
 use lib.ListN.{take, drop}
 use lib.Bits.{bitAnd}
 use lib.Dec.{leb, eqb}
 use lib.IntN.{ℤ, pos, negsuc}
 use Rattle.format.specs.Word.{plus32, minus32}
-use Rattle.format.specs.Tag.{tagSplice, tagId, tagDelete, tagLength, tagOf}
+use Rattle.format.specs.Tag.{tagSplice, tagId, removalSize, tagDelete, tagLength, tagOf}
 use Rattle.format.specs.Kind.{isSplice, typeCreate}
 use Rattle.format.specs.Back.{Met}
 use Rattle.format.specs.declared.Found.{Found}
@@ -28,10 +28,15 @@ dataSize e = e .length - 4
 abbrev pub bytesOf : List ℕ → Found → List ℕ
 bytesOf b e = take (dataSize e) (drop (e .off) b)
 
--- what is found stands whole in a block's first n bytes
+-- what is found is no removal, and stands whole in a block's first n bytes
+pub record FoundIn (n : ℕ) (e : Found) : Type 0 where
+  pub counted : 4 ≤ e .length
+  pub kept : dataSize e < removalSize
+  pub inside : e .off + dataSize e ≤ n
+
 abbrev pub HitIn : ℕ → Hit → Type 0
 HitIn n hit.Nothing = Unit {0}
-HitIn n (hit.Found e) = (4 ≤ e .length) × (e .off + dataSize e ≤ n)
+HitIn n (hit.Found e) = FoundIn n e
 
 -- The masks of the directory lookups: "newest name (type under 0x700), struct (under 0x700)", both with the id; "0x7ff
 -- for each attribute type", with the id; "the move state (0x7ff, no ids)".

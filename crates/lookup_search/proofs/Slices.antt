@@ -78,4 +78,4 @@ module _ (h u : Hit) (e : h ≡ u) where
   of-hit f q = ap f (sym q ∙ e)
 
 pub hit-inside : (end : ℕ) (h : Hit) {e : Found} → HitIn end h → h ≡ hit.Found e → 4 ≤ e .length
-hit-inside end h i q = (rw q at i) .0
+hit-inside end h i q = (rw q at i) .counted

@@ -11,7 +11,7 @@ use borrow.Author.Tests.{eq-eqb, ne-eqb}
 use Rattle.format.specs.Word.{plus32, minus32}
 use Rattle.format.specs.Tag.{tagSplice, tagLength, tagDelete, tagId}
 use Rattle.format.specs.Back.{Met, back}
-use Rattle.format.specs.Look.{foundAt, HitIn, asIds, splicedAt, createAt, wlook}
+use Rattle.format.specs.Look.{foundAt, FoundIn, asIds, splicedAt, createAt, wlook}
 use Rattle.format.specs.Lookup.{hasIds, searchedFrom, searched}
 use Rattle.format.specs.Gstate.{gstateHasMoveHere}
 use Rattle.format.specs.declared.Found.{Found}
@@ -66,9 +66,9 @@ module _ (b : List ℕ) (ids : Bool) (mask key off t d : ℕ) (u : Hit) (inv : u
         turn-on m w ew = past-create ∙ rw (ne-eqb (bitAnd t mask) (bitAnd l mask) m, ew)
 
 -- the entry found, e, stands whole before the end
-pub turn-inside : (end off t at f : ℕ) → Ends off t at → off ≤ end → (e : Found) → e ≡ foundAt t at f
-    → HitIn end (hit.Found e)
-turn-inside end off t at f ends h e ee = rw ee (found-in t at f end (omega (arith, ends .is, ends .more)))
+pub turn-inside : (end off t at f : ℕ) → Ends off t at → tagDelete t ≡ false → off ≤ end → (e : Found)
+    → e ≡ foundAt t at f → FoundIn end e
+turn-inside end off t at f ends kept h e ee = rw ee (found-in t at f end kept (omega (arith, ends .is, ends .more)))
 
 -- where the search starts
 module _ (b : List ℕ) (dir : LfsMdir) (gdisk : LfsGstate) (mask key : ℕ) where

@@ -121,7 +121,7 @@ module _ (g : Geometry) (b0 b1 : List ℕ) (n0 n1 : ℕ) (dir : LfsMdir) (gdisk 
 
     -- the data stand before the record's end
     pub found-inside : e .off + (e .length - 4) ≤ dir .off
-    found-inside = (rw found-searched at (searched-in (dir .off) block dir gdisk mask key (le-refl (dir .off)))) .1
+    found-inside = (rw found-searched at (searched-in (dir .off) block dir gdisk mask key (le-refl (dir .off)))) .inside
 
   -- two lookups that differ in offset and buffer only answer the same, tag, length and place
   pub found-whole : (offset offset′ : ℕ) (buffer buffer′ : List ℕ) (e e′ : Found)

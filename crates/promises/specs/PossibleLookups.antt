@@ -41,7 +41,7 @@ slice-possible b offset size (hit.Found e) =
 -- at offset 0, what was found before the block's end is read before it
 start-fits : (b : List ℕ) (size : ℕ) (e : Found) → HitIn (length b) (hit.Found e)
     → leb (sliceEnd e 0 size) (length b) ≡ true
-start-fits b size e h = le-leb (sliceEnd e 0 size) (length b) (omega (arith, h .1, min-le-left (dataSize e) size))
+start-fits b size e h = le-leb (sliceEnd e 0 size) (length b) (omega (arith, h .inside, min-le-left (dataSize e) size))
 
 start-possible : (b : List ℕ) (size : ℕ) (f : Hit) → HitIn (length b) f → GotOr GetRefuses (sliceAnswer b 0 size f)
 start-possible b size hit.Nothing h = get2

@@ -1,7 +1,7 @@
 -- `compact_entries::entries` meets its contract: the slots, the tail, the move state. Assumes nothing.
 use native.Mathlib.Omega.{arith}
-use Rattle.compact_slot.proofs.Slots.{slot-gathers}
-use Rattle.compact_entries.proofs.Sourced.{slots-within, entries-within, entries-done}
+use Rattle.format.proofs.Searched.{hit-before}
+use Rattle.compact_entries.proofs.Sourced.{slots-within, read-inside, entries-within, entries-done}
 use borrow.Author.Needs.{needs}
 use Rattle.compact_entries.proofs.entries.Statement.{statement}
 use Rattle.compact_entries.proofs.entries.Tie as tie
@@ -15,36 +15,38 @@ tail-requires c κs = omega (
       .before .before .before .pre .source .small,
 )
 
-newest-move-requires : tie.Need-newest-move-requires
-newest-move-requires c κs =
-    slot-gathers _ _ _ _ (c .before .before .before .before .before .before .before .before .before .before .before
-    .before .before .before .pre .source .slots) 0 (omega arith)
+find-back-requires : tie.Need-find-back-requires
+find-back-requires c κs =
+    read-inside _ _ _ (c .before .before .before .before .before .before .before .before .before .before .before .before
+    .before .before .before .pre) _ _ (c .before .before .before .before .before .before .before .before .slots .ensures)
 
-class-entry-requires : tie.Need-class-entry-requires
-class-entry-requires c κs =
-    record {
-      inside = c .newest-move .ensures .1;
-      slot = omega arith;
-      small = omega (
+found-entry-requires : tie.Need-found-entry-requires
+found-entry-requires c κs =
+    let p = c .before .before .before .before .before .before .before .before .before .before .before .before .before
+    .before .before .before .before .pre in
+    let slots = c .before .before .before .before .before .before .before .before .before .before .slots .ensures in (
+      omega (
         arith,
-        entries-within _ _ _ (c .before .before .before .before .before .before .before .before
-            .before .before .before .before .before .before .before .pre) _ _
-            (c .before .before .before .before .before .before .before .before .slots .ensures) _
-            (c .before .before .before .before .tail .ensures),
-        c .before .before .before .before .before .before .before
-            .before .before .before .before .before .before .before .before .pre .source .small,
-      );
-    }
+        entries-within _ _ _ p _ _ slots _ (c .before .before .before .before .before .before .tail .ensures),
+        p .source .small,
+      ),
+      hit-before _ _ (c .before .find-back .result) (read-inside _ _ _ p _ _ slots) (c .before .find-back .ensures .1),
+    )
 
 returns : tie.Need-returns
-returns c = entries-done _ _ _ (c .before .before .before .before .before .before .before .before .before .before
-    .before .before .before .before .before .before .before .before .pre) _ _
-    (c .before .before .before .before .before .before .before .before .before .before .before .slots .ensures) _
-    (c .before .before .before .before .before .before .before .tail .ensures) _ _
-    (c .before .before .before .newest-move .ensures .0) (c .before .before .class-entry .ensures)
+returns c =
+    let p = c .before .before .before .before .before .before .before .before .before .before .before .before .before
+    .before .before .before .before .before .before .before .pre in
+    let slots = c .before .before .before .before .before .before .before .before .before .before .before .before .before
+    .slots .ensures in
+    let back = c .before .before .before .before .find-back .ensures in
+    entries-done _ _ _ p _ _ slots _ (c .before .before .before .before .before .before .before .before .before .tail
+    .ensures) _ _ (c .before .before .before .before .before .before .lfs-mktag .ensures)
+    (c .before .before .before .before .before .lfs-mktag2 .ensures) _ (back .0) (back .1) _
+    (c .before .before .found-entry .ensures)
 
 pub entries-spec : {M : Type 1} → statement M
 entries-spec =
     tie.close
-    (tie.spec (λ c. search needs) (λ c. search needs) (λ c κs. search needs) tail-requires newest-move-requires
-    class-entry-requires (λ c. search needs) returns)
+    (tie.spec (λ c. search needs) (λ c. search needs) (λ c κs. search needs) tail-requires (λ c κs. search needs)
+    (λ c. search needs) (λ c κs. search needs) find-back-requires found-entry-requires (λ c. search needs) returns)

@@ -9,7 +9,7 @@ use Rattle.format.specs.Compaction.{slotItems}
 use Rattle.compact_slot.specs.Slots.{slotIn}
 use Rattle.compact_entries.specs.Emitted.{standing, emits}
 use Rattle.compact_entries.proofs.Joined.{entry-within, class-within}
-use Rattle.compact_entries.proofs.Written.{slot-created, slot-class, slot-done}
+use Rattle.compact_entries.proofs.Written.{seat-laid, slot-created, slot-class, slot-done}
 use borrow.Author.Needs.{needs}
 use Rattle.compact_entries.proofs.slot.Statement.{statement}
 use Rattle.compact_entries.proofs.slot.Tie as tie
@@ -26,37 +26,29 @@ abbrev μ-loop : tie.MeasureT-loop
 loop-holds : tie.Need-loop-holds Inv-loop μ-loop
 loop-holds c = (omega arith, omega (arith, entry-within _ _ _ (c .before .before .entry .ensures)), refl, refl)
 
-class-entry-requires : tie.Need-class-entry-requires Inv-loop μ-loop
-class-entry-requires c κs =
-    record {
-      inside = c .before .before .before .before .before .before .before .before .before .before .before .pre
-          .inside (c .before .before .before .loop .class) (c .before .before .loop-test .taken);
-      slot =
-          c .before .before .before .before .before .before .before .before .before .before .before .pre .slot;
-      small =
-          omega arith;
-    }
+found-entry-requires : tie.Need-found-entry-requires Inv-loop μ-loop
+found-entry-requires c κs = (
+  omega arith,
+  rw (c .found .ensures) (c .before .before .before .before .before .before .before .before .before .before .before .pre
+      .inside (c .before .before .before .loop .class) (c .before .before .loop-test .taken)),
+)
 
 loop-again : tie.Need-loop-again Inv-loop μ-loop
-loop-again c = (
-  omega arith,
-  omega (
-    arith,
-    class-within _ _ (c .before .before .before .before .before .before .before .before .before .before
-        .before .before .before .before .args .id)
-        (slotIn (c .before .before .before .before .before .before .before .before .before .before .before .before
-        .before
-        .before .args .old .now) (c .before .before .before .before .before .before .before .before .before
-        .before .before
-        .before .before .before .args .seats .now) (c .before .before .before .before .before .before .loop
-        .class))
-        (c .before .before .class-entry .ensures),
-  ),
-  search needs,
-  slot-class _ _ _ _ _ _
-      (c .before .before .before .before .before .loop-test .taken)
-      (c .before .before .before .before .before .before .loop .inv .3) (c .before .before .class-entry .ensures),
-)
+loop-again c =
+    let p = c .before .before .before .before .before .before .before .before .before .before .before .before .before
+    .before .pre in
+    let a = c .before .before .before .before .before .before .before .before .before .before .before .before .before
+    .before .args in
+    let l = c .before .before .before .before .before .before .loop in
+    let more = c .before .before .before .before .before .loop-test .taken in
+    let laid = seat-laid (a .old .now) (a .id) (a .seats .now) (l .class) (p .inside (l .class) more)
+    (p .named (l .class) more) _ (c .before .before .before .found .ensures) _ _ (c .before .before .found-entry .ensures)
+    in (
+      omega arith,
+      omega (arith, class-within _ _ (a .id) (slotIn (a .old .now) (a .seats .now) (l .class)) laid),
+      search needs,
+      slot-class _ _ _ _ _ _ more (l .inv .3) laid,
+    )
 
 returns : tie.Need-returns Inv-loop μ-loop
 returns c = slot-done _ _ _ _ _ (c .loop-test .left) (c .before .loop .inv .3)
@@ -69,5 +61,5 @@ pub slot-spec : {M : Type 1} → statement M
 slot-spec =
     tie.close
     (tie.spec Inv-loop μ-loop (λ c. search needs) (λ c κs. search needs) (λ c κs. omega arith) loop-holds
-    (λ c. search needs) (λ c. search needs) class-entry-requires (λ c. omega arith) (λ c. omega arith) loop-again
+    (λ c κs. search needs) found-entry-requires (λ c. omega arith) (λ c. omega arith) loop-again
     (λ c. search needs) returns)

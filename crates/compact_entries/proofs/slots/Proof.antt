@@ -34,6 +34,7 @@ gather-requires c κs = slot-gathers _ _ _ _ (c .before .before .before .before 
 slot-requires : tie.Need-slot-requires Inv-loop μ-loop
 slot-requires c κs = record {
   inside = c .before .before .gather .ensures .inside;
+  named = c .before .before .gather .ensures .named;
   slot = omega (arith, slots-few _ _ _ _ (c .before .before .before .before .before .before .before .pre .slots));
   small = omega (
     arith,
@@ -71,5 +72,5 @@ returns c = dir-done _ _ _ (c .before .loop .id)
 pub slots-spec : {M : Type 1} → statement M
 slots-spec =
     tie.close
-    (tie.spec Inv-loop μ-loop loop-holds (λ c. omega arith) gather-requires slot-requires (λ c. omega arith)
+    (tie.spec Inv-loop μ-loop loop-holds gather-requires slot-requires (λ c. omega arith)
     (λ c. omega arith) loop-again (λ c. search needs) returns)

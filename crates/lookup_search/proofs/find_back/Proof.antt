@@ -70,14 +70,14 @@ returns-4 c =
     let d = f .before .before .before .before .before .before in
     let ends = placed-at _ _ _ _ (d .before .before .before .before .before .before .place .ensures)
     (d .before .before .before .before .at .given .1) in
-    let inv = d .before .before .before .before .before .before .before .loop .inv in (
+    let inv = d .before .before .before .before .before .before .before .loop .inv in
+    let kept = sym (f .before .lfs-tag-isdelete .ensures) ∙ f .if3 .left in (
       turn-found _ _ _ _ _ _ _ _ (inv .1) _ ends _ (d .before .before .key-at .ensures) _
           (d .before .splices .ensures) _ (d .create-at .ensures)
           (f .before .before .before .before .before .if1 .left) _
           (f .before .before .before .before .diff-after .ensures) _ (f .before .before .before .key-at2 .ensures)
-          (f .before .before .if2 .taken) (sym (f .before .lfs-tag-isdelete .ensures) ∙ f .if3 .left) _
-          (c .found-at .ensures),
-      turn-inside _ _ _ _ _ ends (inv .0) _ (c .found-at .ensures),
+          (f .before .before .if2 .taken) kept _ (c .found-at .ensures),
+      turn-inside _ _ _ _ _ ends kept (inv .0) _ (c .found-at .ensures),
     )
 
 tag-before-requires : tie.Need-tag-before-requires Inv-loop μ-loop

@@ -55,17 +55,17 @@ unfolding wlook
 wlook-in n ids mask key d [] h = tt
 wlook-in n ids mask key d (m ∷ ms) h =
     go (splicedAt ids (m .tag) (minus32 key d) && eqb (m .tag) (createAt (minus32 key d)))
-    (eqb (bitAnd (m .tag) mask) (bitAnd (minus32 key (diffAfter ids (m .tag) key d)) mask)) (tagDelete (m .tag))
+    (eqb (bitAnd (m .tag) mask) (bitAnd (minus32 key (diffAfter ids (m .tag) key d)) mask)) (tagDelete (m .tag)) refl
     (wlook-in n ids mask key (diffAfter ids (m .tag) key d) ms (h .1))
   where
-    go : (a b c : Bool) → HitIn n (wlook ids mask key (diffAfter ids (m .tag) key d) ms)
+    go : (a b c : Bool) → tagDelete (m .tag) ≡ c → HitIn n (wlook ids mask key (diffAfter ids (m .tag) key d) ms)
         → HitIn n (cond a hit.Nothing
         (cond b (cond c hit.Nothing (hit.Found (foundAt (m .tag) (m .off) (diffAfter ids (m .tag) key d))))
         (wlook ids mask key (diffAfter ids (m .tag) key d) ms)))
-    go true b c k = tt
-    go false true true k = tt
-    go false true false k = found-in (m .tag) (m .off) (diffAfter ids (m .tag) key d) n (h .0)
-    go false false c k = k
+    go true b c e k = tt
+    go false true true e k = tt
+    go false true false e k = found-in (m .tag) (m .off) (diffAfter ids (m .tag) key d) n e (h .0)
+    go false false c e k = k
 
 -- so a lookup whose record ends before n finds nothing behind n, with a pending move or without
 pub searched-in : (n : ℕ) (b : List ℕ) (dir : LfsMdir) (gdisk : LfsGstate) (mask key : ℕ) → dir .off ≤ n
@@ -141,7 +141,7 @@ module _ (e : ℕ) (x y : List ℕ) (same : take e x ≡ take e y) where
       let s : take (min (dataSize u) (length buffer)) (drop (sliceStart u 0) x)
       ≡ take (min (dataSize u) (length buffer)) (drop (sliceStart u 0) y)
       = same-piece (sliceStart u 0) (min (dataSize u) (length buffer))
-      (omega (arith, h .1, min-le-left (dataSize u) (length buffer))) in
+      (omega (arith, h .inside, min-le-left (dataSize u) (length buffer))) in
       rw (long, s) (refl, refl)
 
 -- ---- an entry that was found holds this
@@ -159,9 +159,9 @@ unfolding holds
 slice-held b buffer i hit.Nothing h a = (refl, refl)
 slice-held b buffer i (hit.Found e) h a =
     let n : length (bytesOf b e) ≡ dataSize e
-    = length-take-le (dataSize e) (drop (e .off) b) (omega (arith, h .1, length-drop (e .off) b)) in
+    = length-take-le (dataSize e) (drop (e .off) b) (omega (arith, h .inside, length-drop (e .off) b)) in
     let fits : leb (sliceEnd e 0 (length buffer)) (length b) ≡ true
-    = le-leb (sliceEnd e 0 (length buffer)) (length b) (omega (arith, h .1, min-le-left (dataSize e) (length buffer)))
+    = le-leb (sliceEnd e 0 (length buffer)) (length b) (omega (arith, h .inside, min-le-left (dataSize e) (length buffer)))
     in
     let at : drop (e .off) b ≡ drop (sliceStart e 0) b = ap (λ (n : ℕ). drop n b) (sym (add-zero (e .off))) in
     let bytes : take (length buffer) (bytesOf b e)

@@ -1,8 +1,6 @@
--- The search back for a slot's class over the bytes of a block with a regular log finds what the directory holds there;
--- and so does the search for the move state. Assumes nothing.
+-- The search back for a slot's class over the bytes of a block with a regular log finds what the directory holds there.
+-- Assumes nothing.
 use mathlib.Core.Path.{_≡_, ap, _∙_}
-use mathlib.Core.Logic.{_≢_}
-use mathlib.Core.Option.{none}
 use mathlib.Core.List.{List, [], reverse, map}
 use Prim.Native.Nat.{ℕ, _%_, _^_, _≤_, _<_}
 use native.Mathlib.Omega.{arith}
@@ -12,7 +10,7 @@ use Rattle.format.specs.Crc.{crc}
 use Rattle.format.specs.Walk.{Event, walkFrom, walk}
 use Rattle.format.specs.Log.{log, logEnd, logEndTag}
 use Rattle.format.specs.Back.{back, places}
-use Rattle.format.specs.Directory.{empty, acts, dirOf, moveOf}
+use Rattle.format.specs.Directory.{empty, acts, dirOf}
 use Rattle.theory.specs.Walk.Locality.{AllContained}
 use Rattle.theory.specs.Log.Committed.{committed-split}
 use Rattle.theory.specs.Directory.Machine.{find, find-dir}
@@ -21,7 +19,6 @@ use Rattle.theory.specs.Back.EventBytes.{chains}
 use Rattle.theory.specs.Back.BackActs.{Eights, seen, seen-places, map-reverseAux, back-without-top}
 use Rattle.theory.specs.Lookup.SlotCount.{allowed-newest}
 use Rattle.theory.specs.Lookup.OnBlock.{RegularLog}
-use Rattle.theory.specs.Lookup.MoveState.{lastMove, move-lookup}
 
 -- the walk back from a log's end, read as acts, is the log's acts, newest first
 pub back-acts : (b : List ℕ) (es : List Event) → log b ≡ es → AllContained es → Eights es
@@ -48,7 +45,3 @@ unfolding dirOf
 directory-find b es c i h r hi =
     rw (back-acts b es h (r .base .reg) (r .base .eight))
     (find-dir (reverse (acts es)) c i (allowed-newest (acts es) (r .base .rules)) hi)
-
-pub move-last : (b : List ℕ) (es : List Event) → log b ≡ es → es ≢ [] → RegularLog es
-    → lastMove b (back b (logEnd es) (logEndTag es)) ≡ moveOf none es
-move-last b es h some r = move-lookup b es h some (r .base .reg) (r .base .eight)
