@@ -1,73 +1,92 @@
--- What stands at a seat, and the fields that show it: a name, a struct, a user attribute. Assumes nothing.
+-- The fields that show an entry that was found: a name, a struct, a user attribute. Assumes nothing.
 use mathlib.Core.Path.{_≡_, refl, sym, ap, _∙_}
-use mathlib.Core.Bool.{true, false, not}
 use mathlib.Core.Option.{Option}
 use mathlib.Core.List.{List, [], _∷_, _++_}
 use Prim.Native.Nat.{ℕ, _+_, _-_}
 use native.Mathlib.Omega.{arith}
-use lib.ListN.{length}
+use lib.ListN.{length, take, drop}
+use Rattle.format.specs.Tag.{tagType3}
+use Rattle.format.specs.Look.{dataSize, bytesOf, HitIn}
 use Rattle.format.specs.Directory.{Load}
 use Rattle.format.specs.Listing.{ascii, decimal, hexType, hexBytes, nameBytes, numberLine, nameFields, structFields}
 use Rattle.format.specs.Listing.{attrData, attrLine}
+use Rattle.format.specs.declared.Found.{Found}
+use Rattle.format.specs.declared.Hit.{Hit}
+use Rattle.format.specs.declared.Hit.the-variants as hit
+use Rattle.theory.specs.Lookup.ByMask.{holds}
 use Rattle.text.specs.Put.{Text, putsOf}
 use Rattle.text.proofs.Joined.{puts-none, join}
-use Rattle.compact_slot.specs.Seat.{loadIn, Inside}
-use Rattle.compact_slot.specs.Held.{Stands}
-use Rattle.compact_slot.specs.declared.Held.{Held}
-use Rattle.compact_slot.proofs.Stands.{bytes, missing, there, bytes-length}
+use Rattle.compact_slot.proofs.Entries.{missing, there, whole, bytes-length}
 
--- ---- and the fields that show it
-module _ (b : List ℕ) (v : ℕ) (p : Held) (st : Stands v p) (s : Text) where
-  pub name-missing : not (p .held) ≡ true → (r : Text) → r ≡ putsOf s (ascii " - -")
-      → r ≡ putsOf s (nameFields (loadIn b v))
+-- ---- what the code reads of an entry, from its place to its end, are its bytes
+abbrev pub part : List ℕ → Found → List ℕ
+part b e = take (e .off + dataSize e - e .off) (drop (e .off) b)
+
+part-is : (b : List ℕ) (e : Found) → part b e ≡ bytesOf b e
+part-is b e =
+    let n : e .off + dataSize e - e .off ≡ dataSize e = omega arith in
+    ap (λ (k : ℕ). take k (drop (e .off) b)) n
+
+-- ---- the fields that show what was found, h
+module _ (b : List ℕ) (h : Hit) (s : Text) where
+  pub name-missing : h ≡ hit.Nothing → (r : Text) → r ≡ putsOf s (ascii " - -") → r ≡ putsOf s (nameFields (holds b h))
   unfolding nameFields
-  name-missing h r er = er ∙ ap (λ (l : Option Load). putsOf s (nameFields l)) (missing b v p st h)
+  name-missing q r er = er ∙ ap (λ (l : Option Load). putsOf s (nameFields l)) (missing b h q)
 
-  pub struct-missing : not (p .held) ≡ true → (r : Text) → r ≡ putsOf s (ascii " - -\n")
-      → r ≡ putsOf s (structFields (loadIn b v))
+  pub struct-missing : h ≡ hit.Nothing → (r : Text) → r ≡ putsOf s (ascii " - -\n")
+      → r ≡ putsOf s (structFields (holds b h))
   unfolding structFields
-  struct-missing h r er = er ∙ ap (λ (l : Option Load). putsOf s (structFields l)) (missing b v p st h)
+  struct-missing q r er = er ∙ ap (λ (l : Option Load). putsOf s (structFields l)) (missing b h q)
 
-  pub attr-missing : not (p .held) ≡ true → (id : ℕ) → s ≡ putsOf s (attrLine id (loadIn b v))
+  pub attr-missing : h ≡ hit.Nothing → (id : ℕ) → s ≡ putsOf s (attrLine id (holds b h))
   unfolding attrLine
-  attr-missing h id = puts-none s ∙ ap (λ (l : Option Load). putsOf s (attrLine id l)) (missing b v p st h)
+  attr-missing q id = puts-none s ∙ ap (λ (l : Option Load). putsOf s (attrLine id l)) (missing b h q)
 
-  module _ (h : not (p .held) ≡ false) where
-    pub name-shown : (t1 t2 t3 r : Text) → t1 ≡ putsOf s (ascii " ") → t2 ≡ putsOf t1 (hexType (p .kind))
-        → t3 ≡ putsOf t2 (ascii " ") → r ≡ putsOf t3 (nameBytes (bytes b v p st))
-        → r ≡ putsOf s (nameFields (loadIn b v))
+  -- k is its type
+  module _ {e : Found} (q : h ≡ hit.Found e) (k : ℕ) (ek : k ≡ tagType3 (e .tag)) where
+    abbrev K : ℕ
+    K = tagType3 (e .tag)
+
+    pub name-shown : (t1 t2 t3 r : Text) → t1 ≡ putsOf s (ascii " ") → t2 ≡ putsOf t1 (hexType k)
+        → t3 ≡ putsOf t2 (ascii " ") → r ≡ putsOf t3 (nameBytes (part b e))
+        → r ≡ putsOf s (nameFields (holds b h))
     unfolding nameFields
     name-shown t1 t2 t3 r e1 e2 e3 er =
-        join s t1 r (ascii " ") (hexType (p .kind) ++ (ascii " " ++ nameBytes (bytes b v p st))) e1
-        (join t1 t2 r (hexType (p .kind)) (ascii " " ++ nameBytes (bytes b v p st)) e2
-        (join t2 t3 r (ascii " ") (nameBytes (bytes b v p st)) e3 er))
-        ∙ ap (λ (l : Option Load). putsOf s (nameFields l)) (there b v p st h)
+        join s t1 r (ascii " ") (hexType K ++ (ascii " " ++ nameBytes (bytesOf b e))) e1
+        (join t1 t2 r (hexType K) (ascii " " ++ nameBytes (bytesOf b e))
+        (e2 ∙ ap (λ (n : ℕ). putsOf t1 (hexType n)) ek)
+        (join t2 t3 r (ascii " ") (nameBytes (bytesOf b e)) e3
+        (er ∙ ap (λ (l : List ℕ). putsOf t3 (nameBytes l)) (part-is b e))))
+        ∙ ap (λ (l : Option Load). putsOf s (nameFields l)) (there b h q)
 
-    pub struct-shown : Inside b v → (t1 t2 r : Text) → t1 ≡ putsOf s (ascii " ") → t2 ≡ putsOf t1 (hexType (p .kind))
-        → r ≡ putsOf t2 (numberLine (ascii " ") (p .to - p .from))
-        → r ≡ putsOf s (structFields (loadIn b v))
+    pub struct-shown : HitIn (length b) h → (t1 t2 r : Text) → t1 ≡ putsOf s (ascii " ") → t2 ≡ putsOf t1 (hexType k)
+        → r ≡ putsOf t2 (numberLine (ascii " ") (e .length - 4))
+        → r ≡ putsOf s (structFields (holds b h))
     unfolding structFields
     struct-shown i t1 t2 r e1 e2 er =
-        join s t1 r (ascii " ") (hexType (p .kind) ++ numberLine (ascii " ") (length (bytes b v p st))) e1
-        (join t1 t2 r (hexType (p .kind)) (numberLine (ascii " ") (length (bytes b v p st))) e2
-        (er ∙ ap (λ (n : ℕ). putsOf t2 (numberLine (ascii " ") n)) (sym (bytes-length b v p st i))))
-        ∙ ap (λ (l : Option Load). putsOf s (structFields l)) (there b v p st h)
+        join s t1 r (ascii " ") (hexType K ++ numberLine (ascii " ") (length (bytesOf b e))) e1
+        (join t1 t2 r (hexType K) (numberLine (ascii " ") (length (bytesOf b e)))
+        (e2 ∙ ap (λ (n : ℕ). putsOf t1 (hexType n)) ek)
+        (er ∙ ap (λ (n : ℕ). putsOf t2 (numberLine (ascii " ") n)) (sym (bytes-length b e (whole (length b) h i q)))))
+        ∙ ap (λ (l : Option Load). putsOf s (structFields l)) (there b h q)
 
     pub attr-shown : (id : ℕ) (t1 t2 t3 t4 t5 t6 r : Text) → t1 ≡ putsOf s (ascii "attr ") → t2 ≡ putsOf t1 (decimal id)
         → t3 ≡ putsOf t2 (ascii " ")
-        → t4 ≡ putsOf t3 (hexType (p .kind)) → t5 ≡ putsOf t4 (ascii " ") → t6 ≡ putsOf t5 (attrData (bytes b v p st))
+        → t4 ≡ putsOf t3 (hexType k) → t5 ≡ putsOf t4 (ascii " ") → t6 ≡ putsOf t5 (attrData (part b e))
         → r ≡ putsOf t6 (ascii "\n")
-        → r ≡ putsOf s (attrLine id (loadIn b v))
+        → r ≡ putsOf s (attrLine id (holds b h))
     unfolding attrLine
     attr-shown id t1 t2 t3 t4 t5 t6 r e1 e2 e3 e4 e5 e6 er =
-        let D : List ℕ = attrData (bytes b v p st) ++ ascii "\n" in
-        let T : List ℕ = hexType (p .kind) ++ (ascii " " ++ D) in
+        let D : List ℕ = attrData (bytesOf b e) ++ ascii "\n" in
+        let T : List ℕ = hexType K ++ (ascii " " ++ D) in
         join s t1 r (ascii "attr ") (decimal id ++ (ascii " " ++ T)) e1
         (join t1 t2 r (decimal id) (ascii " " ++ T) e2
         (join t2 t3 r (ascii " ") T e3
-        (join t3 t4 r (hexType (p .kind)) (ascii " " ++ D) e4
-        (join t4 t5 r (ascii " ") D e5 (join t5 t6 r (attrData (bytes b v p st)) (ascii "\n") e6 er)))))
-        ∙ ap (λ (l : Option Load). putsOf s (attrLine id l)) (there b v p st h)
+        (join t3 t4 r (hexType K) (ascii " " ++ D) (e4 ∙ ap (λ (n : ℕ). putsOf t3 (hexType n)) ek)
+        (join t4 t5 r (ascii " ") D e5
+        (join t5 t6 r (attrData (bytesOf b e)) (ascii "\n")
+        (e6 ∙ ap (λ (l : List ℕ). putsOf t5 (attrData l)) (part-is b e)) er)))))
+        ∙ ap (λ (l : Option Load). putsOf s (attrLine id l)) (there b h q)
 
 -- ---- the data of a user attribute
 pub data-empty : (l : List ℕ) (s r : Text) → length l ≡ 0 → r ≡ putsOf s (ascii "-") → r ≡ putsOf s (attrData l)

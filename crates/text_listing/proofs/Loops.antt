@@ -22,12 +22,13 @@ class-next c id s h =
     rw (e, add-one c)
 
 pub attrs-more : (a s r : Text) (c id : ℕ) (slot : Slot) → c < classes
-    → a ≡ putsOf s (attrLines (classes - c) c id slot) → r ≡ putsOf s (attrLine id (slot c))
+    → a ≡ putsOf s (attrLines (classes - c) c id slot) → (v : Option Load) → v ≡ slot c
+    → r ≡ putsOf s (attrLine id v)
     → a ≡ putsOf r (attrLines (classes - (c + 1)) (c + 1) id slot)
-attrs-more a s r c id slot h ea er =
+attrs-more a s r c id slot h ea v ev er =
     let R : List ℕ = attrLines (classes - (c + 1)) (c + 1) id slot in
     ea ∙ ap (putsOf s) (class-next c id slot h) ∙ sym (puts-app (attrLine id (slot c)) R s)
-    ∙ ap (λ (z : Text). putsOf z R) (sym er)
+    ∙ ap (λ (z : Text). putsOf z R) (sym (er ∙ ap (λ (x : Option Load). putsOf s (attrLine id x)) ev))
 
 pub attrs-done : (a s : Text) (c id : ℕ) (slot : Slot) → classes ≤ c → a ≡ putsOf s (attrLines (classes - c) c id slot)
     → s ≡ a
@@ -36,17 +37,19 @@ attrs-done a s c id slot h ea =
     let e : classes - c ≡ 0 = omega arith in
     puts-none s ∙ sym (ea ∙ rw e)
 
--- ---- a slot: its line, and behind it its user attributes
+-- ---- a slot: its line, and behind it its user attributes; x and y are its name and its struct
 pub slot-done : (s t1 t2 t3 t4 r : Text) (id : ℕ) (slot : Slot) → t1 ≡ putsOf s (ascii "slot ")
-    → t2 ≡ putsOf t1 (decimal id) → t3 ≡ putsOf t2 (nameFields (slot 0))
-    → t4 ≡ putsOf t3 (structFields (slot 1)) → r ≡ putsOf t4 (attrLines (2 ^ 8) 2 id slot)
+    → t2 ≡ putsOf t1 (decimal id) → (x : Option Load) → x ≡ slot 0 → t3 ≡ putsOf t2 (nameFields x)
+    → (y : Option Load) → y ≡ slot 1 → t4 ≡ putsOf t3 (structFields y) → r ≡ putsOf t4 (attrLines (2 ^ 8) 2 id slot)
     → r ≡ putsOf s (slotText id slot)
 unfolding slotLine
-slot-done s t1 t2 t3 t4 r id slot e1 e2 e3 e4 er =
+slot-done s t1 t2 t3 t4 r id slot e1 e2 x ex e3 y ey e4 er =
     let F : List ℕ = nameFields (slot 0) ++ structFields (slot 1) in
     join s t4 r (ascii "slot " ++ (decimal id ++ F)) (attrLines (2 ^ 8) 2 id slot)
     (join s t1 t4 (ascii "slot ") (decimal id ++ F) e1
-    (join t1 t2 t4 (decimal id) F e2 (join t2 t3 t4 (nameFields (slot 0)) (structFields (slot 1)) e3 e4)))
+    (join t1 t2 t4 (decimal id) F e2 (join t2 t3 t4 (nameFields (slot 0)) (structFields (slot 1))
+    (e3 ∙ ap (λ (v : Option Load). putsOf t2 (nameFields v)) ex)
+    (e4 ∙ ap (λ (v : Option Load). putsOf t3 (structFields v)) ey))))
     er
 
 -- ---- slots that hold the same are shown the same

@@ -56,5 +56,5 @@ returns c = slots-done _ _ slots-shown _ _ _ (c .before .loop .id)
 pub slot-lines-spec : {M : Type 1} → statement M
 slot-lines-spec =
     tie.close
-    (tie.spec Inv-loop μ-loop loop-holds (λ c. omega arith) gather-requires slot-text-requires (λ c. omega arith)
+    (tie.spec Inv-loop μ-loop loop-holds gather-requires slot-text-requires (λ c. omega arith)
     (λ c. omega arith) loop-again same-length returns)
