@@ -24,7 +24,7 @@ extern "C" {
 
 /* The version, as littlefs has its own: the major number in the upper half, the minor in the lower. */
 #define LANOLIN_VERSION_MAJOR 0
-#define LANOLIN_VERSION_MINOR 2
+#define LANOLIN_VERSION_MINOR 3
 #define LANOLIN_VERSION (LANOLIN_VERSION_MAJOR << 16 | LANOLIN_VERSION_MINOR)
 
 /* Results. The first four refusals are littlefs's LFS_ERR_ numbers, the others are this project's own. */
@@ -124,8 +124,10 @@ typedef struct { int32_t result; uint32_t value; } lanolin_value;
 typedef struct { uint32_t pair[2]; } lanolin_pair;
 /* LANOLIN_ERR_NOENT: dir and seed as read; any other refusal: dir all zero, seed as given */
 typedef struct { int32_t result; lanolin_mdir dir; uint32_t seed; } lanolin_fetched;
-/* tag: 0 on a refusal */
-typedef struct { int32_t result; uint32_t tag; } lanolin_got;
+/* The entry that a lookup found. tag: its tag, with the slot's present id; length: the bytes that it takes in the log,
+ * the tag's own four and its data, so 4 plus lanolin_tag_size(tag); off: the offset in the block of its first data
+ * byte. All 0 on a refusal but the result */
+typedef struct { int32_t result; uint32_t tag; uint32_t length; uint32_t off; } lanolin_got;
 /* type: the name's, LANOLIN_TYPE_REG or LANOLIN_TYPE_DIR as littlefs writes it; all zero but the result on a refusal */
 typedef struct { int32_t result; uint8_t type; uint32_t size; uint8_t name[256]; } lanolin_info;
 /* dir and seed as lanolin_fetched has them; index: of LANOLIN_ERR_BADENTRY the entry's, from 0, of
@@ -141,15 +143,17 @@ typedef struct { int32_t result; uint32_t index; uint32_t stores; } lanolin_stor
 lanolin_fetched lanolin_fetch(lanolin_geometry g, const uint8_t *b0, size_t b0_len, const uint8_t *b1, size_t b1_len,
                               uint32_t n0, uint32_t n1, uint32_t block_count, uint32_t seed);
 
-/* lfs_dir_getslice: the newest entry that gtag matches under gmask. Answers its tag, and min(size, gsize) bytes of its
- * data from goff on; the rest of the buffer is zeroed. gdisk is the global state on disk: a pending move hides its
- * entry. At most LANOLIN_BUFFER_MAX bytes of buffer. */
+/* lfs_dir_getslice: the newest entry that gtag matches under gmask. Answers its tag, length and place, and
+ * min(size, gsize) bytes of its data from goff on; the rest of the buffer is zeroed. Tag, length and place are the
+ * entry's own, whatever goff and gsize: a length above 4 plus gsize says that it has more data than the buffer has
+ * room. Its place is in the block dir.pair[0], and its data end at or before dir.off. gdisk is the global state on
+ * disk: a pending move hides its entry. At most LANOLIN_BUFFER_MAX bytes of buffer. */
 lanolin_got lanolin_getslice(lanolin_geometry g, const uint8_t *b0, size_t b0_len, const uint8_t *b1, size_t b1_len,
                              uint32_t n0, uint32_t n1, lanolin_mdir dir, lanolin_gstate gdisk,
                              uint32_t gmask, uint32_t gtag, uint32_t goff, uint8_t *buffer, size_t gsize);
 
-/* lfs_dir_get: the same from 0 on, into the buffer's first lanolin_tag_size(gtag) bytes; a shorter buffer is
- * LANOLIN_ERR_INVAL. */
+/* lfs_dir_get: the same answer, and the data from 0 on, into the buffer's first lanolin_tag_size(gtag) bytes; a shorter
+ * buffer is LANOLIN_ERR_INVAL. */
 lanolin_got lanolin_get(lanolin_geometry g, const uint8_t *b0, size_t b0_len, const uint8_t *b1, size_t b1_len,
                         uint32_t n0, uint32_t n1, lanolin_mdir dir, lanolin_gstate gdisk,
                         uint32_t gmask, uint32_t gtag, uint8_t *buffer, size_t gsize);
@@ -295,7 +299,8 @@ LANOLIN_LAYOUT_(sizeof(lanolin_value) == 8 && LANOLIN_AT_(value, result, 0) && L
 LANOLIN_LAYOUT_(sizeof(lanolin_pair) == 8 && LANOLIN_AT_(pair, pair, 0))
 LANOLIN_LAYOUT_(sizeof(lanolin_fetched) == 40 && LANOLIN_AT_(fetched, result, 0) && LANOLIN_AT_(fetched, dir, 4) &&
                 LANOLIN_AT_(fetched, seed, 36))
-LANOLIN_LAYOUT_(sizeof(lanolin_got) == 8 && LANOLIN_AT_(got, result, 0) && LANOLIN_AT_(got, tag, 4))
+LANOLIN_LAYOUT_(sizeof(lanolin_got) == 16 && LANOLIN_AT_(got, result, 0) && LANOLIN_AT_(got, tag, 4) &&
+                LANOLIN_AT_(got, length, 8) && LANOLIN_AT_(got, off, 12))
 LANOLIN_LAYOUT_(sizeof(lanolin_info) == 268 && LANOLIN_AT_(info, result, 0) && LANOLIN_AT_(info, type, 4) &&
                 LANOLIN_AT_(info, size, 8) && LANOLIN_AT_(info, name, 12))
 LANOLIN_LAYOUT_(sizeof(lanolin_committed) == 44 && LANOLIN_AT_(committed, result, 0) &&

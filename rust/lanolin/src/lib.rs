@@ -16,8 +16,8 @@
 //! let record = pair.fetch(0, 0)?.record;
 //! let mut seconds = [0; 4];
 //! let key = Tag::new(TYPE_USERATTR + 0x74, 0, 0);
-//! pair.get_slice(record, Gstate::default(), MASK_TYPE, key, 0, &mut seconds)?;
-//! assert_eq!(u32::from_le_bytes(seconds), 90_000);
+//! let found = pair.get_slice(record, Gstate::default(), MASK_TYPE, key, 0, &mut seconds)?;
+//! assert_eq!((found.size(), u32::from_le_bytes(seconds)), (4, 90_000));
 //! # Ok::<(), lanolin::Refusal>(())
 //! ```
 //!
@@ -134,6 +134,30 @@ pub struct Fetched {
     pub seed: u32,
 }
 
+/// The entry that a lookup found.
+///
+/// It is told whole, whatever the lookup's offset and buffer: a buffer that is
+/// too short for the data hides nothing.
+#[derive(Clone, Copy, Debug, PartialEq, Eq)]
+pub struct Found {
+    /// Its tag, with the slot's present id.
+    pub tag: Tag,
+    /// The bytes that it takes in the log: the tag's own four, and its data.
+    pub length: u32,
+    /// The offset of its first data byte in the block that answers, the record's
+    /// `pair[0]`.
+    pub off: u32,
+}
+
+impl Found {
+    /// How many bytes of data it has.
+    pub fn size(self) -> usize {
+        // A lookup's length is 4 or more; one that a caller made up is no reason
+        // to stop.
+        self.length.saturating_sub(4) as usize
+    }
+}
+
 /// What is shown of a slot.
 #[derive(Clone, Copy, Debug, PartialEq, Eq)]
 pub struct Info {
@@ -194,9 +218,9 @@ impl Pair<'_> {
         refusal::of_fetch(answer.result, 0, answer.record, answer.seed)
     }
 
-    /// The newest entry that `key` matches under `mask`: its tag, and of its
-    /// data as many bytes from `offset` on as there are and the buffer holds.
-    /// The rest of the buffer is zeroed.
+    /// The newest entry that `key` matches under `mask`: its tag, length and
+    /// place, and of its data as many bytes from `offset` on as there are and the
+    /// buffer holds. The rest of the buffer is zeroed.
     ///
     /// `record` is fetch's of the same images; with another one the answer is
     /// the definition's still, and says nothing of the directory. `gdisk` is the
@@ -211,6 +235,12 @@ impl Pair<'_> {
     /// (`directory-lookups`). Of ids at or above the count nothing is promised
     /// beyond the definition: such a lookup may find an entry of a deleted slot.
     ///
+    /// Proved of what is found, with any bytes and record: it is the same whatever
+    /// the offset and the buffer (`found-whole`), its length is 4 plus the tag's
+    /// size (`found-length`), its data end at or before the record's end
+    /// (`found-inside`), and at offset 0 a buffer of their length gets them
+    /// (`found-read`).
+    ///
     /// ```
     /// # use lanolin::*;
     /// # let image = include_bytes!(concat!(env!("CARGO_MANIFEST_DIR"), "/../../samples/q212.pair"));
@@ -221,9 +251,14 @@ impl Pair<'_> {
     /// // The name of slot 0, whatever its kind.
     /// let mut name = [0; ATTR_MAX];
     /// let key = Tag::new(TYPE_NAME, 0, 0);
-    /// let tag = pair.get_slice(record, Gstate::default(), MASK_CLASS, key, 0, &mut name)?;
-    /// assert_eq!(tag.type3(), TYPE_REG);
-    /// assert_eq!(&name[..tag.size() as usize], b"q212");
+    /// let found = pair.get_slice(record, Gstate::default(), MASK_CLASS, key, 0, &mut name)?;
+    /// assert_eq!(found.tag.type3(), TYPE_REG);
+    /// assert_eq!(&name[..found.size()], b"q212");
+    ///
+    /// // Where it stands, with no buffer at all: block 0 answers.
+    /// let found = pair.get_slice(record, Gstate::default(), MASK_CLASS, key, 0, &mut [])?;
+    /// assert_eq!((found.length, found.off), (8, 12));
+    /// assert_eq!(&b0[12..][..found.size()], b"q212");
     ///
     /// // A user attribute that it doesn't have.
     /// let key = Tag::new(TYPE_USERATTR + 0x75, 0, 0);
@@ -239,9 +274,10 @@ impl Pair<'_> {
         key: Tag,
         offset: u32,
         buffer: &mut [u8],
-    ) -> Result<Tag, Refusal> {
-        let got = raw::get_slice(self, record, gdisk, mask, key.0, offset, buffer);
-        refusal::of_lookup(got.result, Tag(got.tag))
+    ) -> Result<Found, Refusal> {
+        found(raw::get_slice(
+            self, record, gdisk, mask, key.0, offset, buffer,
+        ))
     }
 
     /// As [`Pair::get_slice`] from 0 on, into the buffer's first `key.size()`
@@ -256,9 +292,8 @@ impl Pair<'_> {
         mask: u32,
         key: Tag,
         buffer: &mut [u8],
-    ) -> Result<Tag, Refusal> {
-        let got = raw::get(self, record, gdisk, mask, key.0, buffer);
-        refusal::of_lookup(got.result, Tag(got.tag))
+    ) -> Result<Found, Refusal> {
+        found(raw::get(self, record, gdisk, mask, key.0, buffer))
     }
 
     /// Type, size and name of the slot `id`; with [`NO_SLOT`] those of the root,
@@ -310,6 +345,18 @@ impl Pair<'_> {
     ) -> Result<(), Refusal> {
         refusal::of_lookup(raw::get_gstate(self, record, gdisk, state), ())
     }
+}
+
+/// The answer of the two lookups of an entry.
+fn found(got: raw::Got) -> Result<Found, Refusal> {
+    let raw::Got {
+        result,
+        tag,
+        length,
+        off,
+    } = got;
+    let tag = Tag(tag);
+    refusal::of_lookup(result, Found { tag, length, off })
 }
 
 /// A pair to write: as [`Pair`], with images that are altered where they stand.

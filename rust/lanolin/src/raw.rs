@@ -20,7 +20,7 @@ const _: () = {
     assert!(size_of::<Geometry>() == 8 && size_of::<Record>() == 32);
     assert!(size_of::<Gstate>() == 12 && size_of::<Entry>() == 12);
     assert!(size_of::<Fetched>() == 40 && size_of::<Committed>() == 44);
-    assert!(size_of::<Got>() == 8 && size_of::<Info>() == 268);
+    assert!(size_of::<Got>() == 16 && size_of::<Info>() == 268);
 };
 
 /// `lanolin_fetched`.
@@ -36,6 +36,8 @@ pub struct Fetched {
 pub struct Got {
     pub result: i32,
     pub tag: u32,
+    pub length: u32,
+    pub off: u32,
 }
 
 /// `lanolin_info`.

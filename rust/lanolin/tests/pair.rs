@@ -39,6 +39,15 @@ const DEADLINE: Entry = entry(0x374, 0, 0, 4);
 const SECONDS: [u8; 4] = [100, 0, 0, 0];
 const LAID: [u8; 16] = 0x674ffc09_64000000_674ffc00_c58e1c0a_u128.to_be_bytes();
 
+/// The listing's own deadline: the tag stands at 23, its data at 27.
+const DUE: Result<Found, Refusal> = found(0x37400004, 8, 27);
+
+/// What a lookup finds: the tag, the stored length, the place of the data.
+const fn found(tag: u32, length: u32, off: u32) -> Result<Found, Refusal> {
+    let tag = Tag(tag);
+    Ok(Found { tag, length, off })
+}
+
 const fn entry(type_: u16, id: u16, off: u32, len: u32) -> Entry {
     Entry {
         type_,
@@ -80,14 +89,14 @@ fn roomy(bytes: &mut [u8; 2048]) -> PairMut<'_> {
     }
 }
 
-/// Tag and data of the entry of slot 0 that a type finds; the data's buffer
-/// begins as 0xa5 everywhere.
+/// The entry of slot 0 that a type finds, and its data; their buffer begins as
+/// 0xa5 everywhere.
 fn look(
     bytes: &[u8; 256],
     record: Record,
     mask: u32,
     type_: u32,
-) -> (Result<Tag, Refusal>, [u8; 6]) {
+) -> (Result<Found, Refusal>, [u8; 6]) {
     let mut buffer = [0xa5; 6];
     let key = Tag::new(type_, 0, 0);
     let answer = pair(bytes).get_slice(record, NO_MOVE, mask, key, 0, &mut buffer);
@@ -155,20 +164,65 @@ fn fetch_reads_the_erased_mark() {
 #[test]
 fn lookups_find_name_payload_and_deadline() {
     let looked = |mask, type_| look(LISTING, LISTED, mask, type_);
+    // their tags stand at 8, 16 and 23
     assert_eq!(
         looked(0x700ffc00, 0x000),
-        (Ok(Tag::new(0x001, 0, 4)), *b"q212\0\0")
+        (found(0x00100004, 8, 12), *b"q212\0\0")
     );
     assert_eq!(
         looked(0x700ffc00, 0x200),
-        (Ok(Tag::new(0x201, 0, 3)), *b"abc\0\0\0")
+        (found(0x20100003, 7, 20), *b"abc\0\0\0")
     );
-    assert_eq!(
-        looked(0x7ffffc00, 0x374),
-        (Ok(Tag::new(0x374, 0, 4)), *b"\x90\x5f\x01\0\0\0")
-    );
+    assert_eq!(looked(0x7ffffc00, 0x374), (DUE, *b"\x90\x5f\x01\0\0\0"));
     let tag = Tag(0x37400004 | 7 << 10);
     assert_eq!((tag.type3(), tag.id(), tag.size()), (0x374, 7, 4));
+}
+
+/// The entry is told whole, whichever part of it is read: from its middle, of no
+/// length, up to the block's end.
+#[test]
+fn offset_and_buffer_change_nothing_of_what_is_found() {
+    let key = Tag::new(0x374, 0, 0);
+    for (offset, length) in [(0, 0), (0, 1), (0, 6), (1, 2), (4, 4), (97, 4), (101, 0)] {
+        let mut buffer = vec![0xa5; length];
+        let listing = pair(LISTING);
+        let answer = listing.get_slice(LISTED, NO_MOVE, MASK_TYPE, key, offset, &mut buffer);
+        assert_eq!(answer, DUE, "offset {offset}, {length} bytes");
+    }
+}
+
+/// A reader of deadlines has four bytes of buffer, and sees that an attribute is
+/// longer or shorter.
+#[test]
+fn a_short_buffer_hides_nothing() {
+    let mut bytes = [0xff; 2048];
+    let mut pair = roomy(&mut bytes);
+    let mut end = LISTED.off;
+    for size in [0, 1, 2, 3, 4, 5, 300] {
+        let entries = [Entry::user_attr(0x74, 0, 0, size)];
+        let record = pair.commit(0, 0, &entries, &[7; 300]).unwrap().record;
+        let (key, mut seconds) = (Tag::new(0x374, 0, 0), [0xa5; 4]);
+        let reader = pair.as_pair();
+        let answer = reader.get_slice(record, NO_MOVE, MASK_TYPE, key, 0, &mut seconds);
+        // the commit's only entry begins at the old end
+        assert_eq!(answer, found(0x37400000 | size, 4 + size, end + 4));
+        assert_eq!(answer.unwrap().size(), size as usize);
+        let mut read = [0; 4];
+        read[..4.min(size as usize)].fill(7);
+        assert_eq!(seconds, read);
+        end = record.off;
+    }
+}
+
+/// The tag has the slot's present id; length and place are those of the entry as
+/// it was written.
+#[test]
+fn a_slot_that_moved_is_found_where_it_stands() {
+    let mut bytes = *LISTING;
+    let answer = pair_mut(&mut bytes).commit(0, 0, &[Entry::create(0)], &[]);
+    let (record, key) = (answer.unwrap().record, Tag::new(0x374, 1, 0));
+    let answer = pair(&bytes).get_slice(record, NO_MOVE, MASK_TYPE, key, 0, &mut []);
+    assert_eq!(answer, found(0x37400404, 8, 27));
 }
 
 #[test]
@@ -194,13 +248,15 @@ fn get_fills_as_many_bytes_as_the_key_says() {
     let mut buffer = [0xa5; 6];
     let key = |size| Tag::new(0x374, 0, size);
     let answer = pair(LISTING).get(LISTED, NO_MOVE, MASK_TYPE, key(5), &mut buffer);
-    let found = (Ok(Tag::new(0x374, 0, 4)), *b"\x90\x5f\x01\0\0\xa5");
-    assert_eq!((answer, buffer), found);
+    let filled = *b"\x90\x5f\x01\0\0\xa5";
+    assert_eq!((answer, buffer), (DUE, filled));
+    let answer = pair(LISTING).get(LISTED, NO_MOVE, MASK_TYPE, key(2), &mut buffer);
+    assert_eq!((answer, buffer), (DUE, filled));
     let answer = pair(LISTING).get(LISTED, NO_MOVE, MASK_TYPE, key(7), &mut buffer);
-    assert_eq!((answer, buffer), (Err(Refusal::Invalid), found.1));
+    assert_eq!((answer, buffer), (Err(Refusal::Invalid), filled));
     let key = Tag::new(0x375, 0, 4);
     let answer = pair(LISTING).get(LISTED, NO_MOVE, MASK_TYPE, key, &mut buffer);
-    assert_eq!((answer, buffer), (Err(Refusal::NoEntry), found.1));
+    assert_eq!((answer, buffer), (Err(Refusal::NoEntry), filled));
 }
 
 #[test]
@@ -256,8 +312,8 @@ fn commit_lays_a_new_deadline() {
     laid[48..64].copy_from_slice(&LAID);
     assert_eq!(bytes, laid);
     assert_eq!(
-        look(&bytes, record, 0x7ffffc00, 0x374).1,
-        *b"\x64\0\0\0\0\0"
+        look(&bytes, record, 0x7ffffc00, 0x374),
+        (found(0x37400004, 8, 52), *b"\x64\0\0\0\0\0")
     );
     // The images of the same value, read through the value itself.
     assert_eq!(pair_mut(&mut bytes).as_pair().fetch(0, 0), answer);
@@ -306,6 +362,8 @@ fn compaction_writes_the_other_block() {
     assert_eq!(bytes[..128], LISTING[..128]);
     assert_eq!(bytes[128..], renewed);
     assert_eq!(pair(&bytes).fetch(0, 0), Ok(answer));
+    // The same place, in the other block.
+    assert_eq!(look(&bytes, record, 0x7ffffc00, 0x374).0, DUE);
 }
 
 /// Document 01's types and lengths. That a commit takes each shows that it is
