@@ -61,11 +61,34 @@ pub struct Fetched {
 pub struct Got {
     pub result: i32,
     pub tag: u32,
+    pub length: u32,
+    pub off: u32,
 }
 
 impl Got {
     pub fn refused(result: i32) -> Got {
-        Got { result, tag: 0 }
+        Got {
+            result,
+            tag: 0,
+            length: 0,
+            off: 0,
+        }
+    }
+
+    /// What is found, by who tells its tag alone: the Rust, the directory machine.
+    pub fn tagged(tag: u32) -> Got {
+        Got {
+            tag,
+            ..Got::refused(0)
+        }
+    }
+
+    /// The same answer; what is found, by its tag alone.
+    pub fn without_place(self) -> Got {
+        match self.result {
+            0 => Got::tagged(self.tag),
+            _ => self,
+        }
     }
 
     /// The one word that the Rust answers: the tag, or the refusal.
@@ -125,7 +148,8 @@ impl Debug for Mdir {
 
 impl Debug for Got {
     fn fmt(&self, f: &mut Formatter) -> fmt::Result {
-        write!(f, "result {}, tag {:#010x}", self.result, self.tag)
+        write!(f, "result {}, tag {:#010x}, ", self.result, self.tag)?;
+        write!(f, "length {}, place {}", self.length, self.off)
     }
 }
 

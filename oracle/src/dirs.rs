@@ -34,7 +34,7 @@ impl Comparison {
         Comparison {
             subject,
             rust: Check::rust(call),
-            ours: Check::ours("what document 01 marks Ours"),
+            ours: Check::ours("what has no Rust behind it"),
             model: Check::model("the rest, by a third voice"),
         }
     }

@@ -9,7 +9,8 @@
 use crate::calls::{Blocks, Fetch, Gstate, Info, Lookup, Mdir, Query, CORRUPT, NOENT};
 use crate::device::{Rust, FILL};
 use crate::dirs::inputs::{self, Question};
-use crate::dirs::truth::{FetchTruth, GstateTruth, InfoTruth, SliceTruth, Slicer, Truth, MARGIN};
+use crate::dirs::truth::{FetchTruth, GstateTruth, InfoTruth, SliceTruth, Slicer, Truth};
+use crate::dirs::truth::{MARGIN, PLACE};
 use crate::generate::Sizes;
 use crate::model::NO_SLOT;
 use std::io::{self, Write};
@@ -184,7 +185,8 @@ fn lookup(kind: u32, input: &Lookup) -> [u32; WORDS] {
 fn slice(rust: &mut Rust, input: &Lookup, query: Query, length: usize) -> Option<Entry> {
     let truth = SliceTruth::of(rust, Slicer::Getslice, input, query, length);
     let answer = truth.rust()?;
-    if truth.ours().is_some() {
+    // Length and place are not recorded.
+    if !matches!(truth.ours(), None | Some(PLACE)) {
         return None;
     }
     let share = match answer.got.result {

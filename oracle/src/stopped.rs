@@ -141,22 +141,19 @@ impl Stopped {
     /// images of the finished one.
     fn ends<W: Writes, R: Voice>(&mut self, asked: &Asked<W, R>, call: &Call) {
         let say = || text(call.step);
-        for (question, answer) in call.questions[0].iter().zip(&call.before.answers) {
-            let weight = || call.weight(0);
-            self.before_lookups
-                .same_by_weight(&question.expected, answer, weight, say);
-        }
+        let (questions, answers) = (&call.questions[0], &call.before.answers);
+        let lookups = &mut self.before_lookups;
+        machine::hold(lookups, questions, answers, || call.weight(0), say);
         let weight = || call.weight(call.all);
         self.finished
             .same_by_weight(&call.known(), &call.said(), weight, say);
         let laid = call.laid(call.all);
         self.stores
             .same_by_weight(&laid, &call.finished, weight, say);
-        let state = State::of(asked.reader, call, &call.finished, &call.questions[1]);
-        for (question, answer) in call.questions[1].iter().zip(&state.answers) {
-            self.finished_lookups
-                .same_by_weight(&question.expected, answer, weight, say);
-        }
+        let questions = &call.questions[1];
+        let state = State::of(asked.reader, call, &call.finished, questions);
+        let lookups = &mut self.finished_lookups;
+        machine::hold(lookups, questions, &state.answers, weight, say);
     }
 
     /// One stop: "exactly the first n of demand 3's list are made (all, if n is
@@ -197,7 +194,8 @@ impl Stopped {
         limit: usize,
     ) {
         let (weight, say) = (|| call.weight(limit), || call.text(limit));
-        let state = State::of(asked.reader, call, images, &call.questions[1]);
+        let questions = &call.questions[1];
+        let state = State::of(asked.reader, call, images, questions);
         let Committed {
             result, dir, seed, ..
         } = call.answer;
@@ -208,14 +206,12 @@ impl Stopped {
             true => "before the last store",
             false => "all stores made",
         });
-        for (question, answer) in call.questions[1].iter().zip(&state.answers) {
-            self.finished_lookups
-                .same_by_weight(&question.expected, answer, weight, say);
-        }
+        let lookups = &mut self.finished_lookups;
+        machine::hold(lookups, questions, &state.answers, weight, say);
     }
 
     /// They are not: the old record but for its erased mark, the old seed, and
-    /// every directory lookup as before the first store.
+    /// every directory lookup as before the first store, length and place too.
     fn not_there<W: Writes, R: Voice>(
         &mut self,
         asked: &Asked<W, R>,

@@ -90,7 +90,8 @@ fn buffer_kind(rust: &Sliced, result: i32) -> &'static str {
     match (result, size) {
         _ if lent.is_empty() => "none lent",
         (0, 0) => "all zeroed",
-        (0, size) if size >= lent.len() => "filled",
+        (0, size) if size > lent.len() => "shorter than the data",
+        (0, size) if size == lent.len() => "filled",
         (0, _) => "partly zeroed",
         _ if lent.iter().all(|&byte| byte == FILL) => "left alone",
         _ => "altered by a refusal",

@@ -40,6 +40,8 @@ pub trait Truth {
 
 /// Why an answer is Ours: the Rust has no such refusal.
 pub const REFUSED: &str = "-22";
+/// Why an answer is Ours: of what is found the Rust tells the tag alone.
+pub const PLACE: &str = "length and place";
 
 fn special(numbers: [u32; 2]) -> bool {
     numbers.iter().any(|&number| number >= SPECIAL_NUMBERS)
@@ -101,6 +103,16 @@ impl Truth for FetchTruth {
 pub struct Sliced {
     pub got: Got,
     pub buffer: Vec<u8>,
+}
+
+impl Sliced {
+    /// Without length and place, for a comparison with who tells neither.
+    pub fn without_place(&self) -> Sliced {
+        Sliced {
+            got: self.got.without_place(),
+            buffer: self.buffer.clone(),
+        }
+    }
 }
 
 impl Debug for Sliced {
@@ -190,6 +202,7 @@ impl Truth for SliceTruth {
             _ if self.special => Some("block number from 0xfffffffe"),
             _ if self.rust.is_none() => Some("offset above 65,536"),
             0 if got.tag & INVALID != 0 => Some("found word with bit 31"),
+            0 => Some(PLACE),
             _ => None,
         }
     }
@@ -207,10 +220,7 @@ impl Truth for SliceTruth {
 fn got_of(word: u32) -> Got {
     match word as i32 {
         refusal @ (NOENT | CORRUPT) => Got::refused(refusal),
-        _ => Got {
-            result: 0,
-            tag: word,
-        },
+        _ => Got::tagged(word),
     }
 }
 

@@ -126,6 +126,10 @@ faults! {
     PastIsNoent Rust "lookup: bytes past the block are -2";
     AnswerWithoutDifference Rust "lookup: answer without the difference";
     AnswerMinusDifference Rust "lookup: answer minus the difference";
+    LengthWithoutTag Ours "lookup: length without the tag's four bytes";
+    LengthCutToBuffer Ours "lookup: length cut to the buffer";
+    PlaceOfTag Ours "lookup: place of the tag, not of its data";
+    PlaceWithOffset Ours "lookup: place with the lookup's offset added";
     GetFillsBuffer Rust "get: the whole buffer is written";
     Bit31IsError Ours "lookup: a found word with bit 31 is an error";
     OffsetWraps Ours "lookup: offset plus length wraps";

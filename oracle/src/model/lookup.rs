@@ -192,7 +192,9 @@ impl Model {
 
     /// "min(size, buffer length) bytes are read from the entry's first data byte
     /// plus the offset, also where that runs into the next entry; the rest of
-    /// the buffer is zeroed. The answer is the tag plus the difference."
+    /// the buffer is zeroed. The answer is the tag plus the difference." Document
+    /// 02, L3: "the stored length and the offset of the first data byte beside the
+    /// tag".
     fn read(&self, block: &[u8], found: &Found, offset: u32, buffer: &mut [u8]) -> Got {
         let size = size_of(found.tag) as usize;
         let length = match self.fault {
@@ -225,7 +227,31 @@ impl Model {
         let error = tag & INVALID != 0 && self.has(Fault::Bit31IsError);
         match error {
             true => Got::refused(tag as i32),
-            false => Got { result: 0, tag },
+            false => Got {
+                result: 0,
+                tag,
+                length: self.stored_length(found, buffer.len()),
+                off: self.first_data_byte(found, offset),
+            },
+        }
+    }
+
+    /// Of the tag as it stands in the log: "4 plus size".
+    fn stored_length(&self, found: &Found, room: usize) -> u32 {
+        let length = length_of(found.tag) as u32;
+        match self.fault {
+            Fault::LengthWithoutTag => length - 4,
+            Fault::LengthCutToBuffer => length.min(4 + room as u32),
+            _ => length,
+        }
+    }
+
+    fn first_data_byte(&self, found: &Found, offset: u32) -> u32 {
+        let tag_at = found.at as u32;
+        match self.fault {
+            Fault::PlaceOfTag => tag_at,
+            Fault::PlaceWithOffset => (tag_at + 4).wrapping_add(offset),
+            _ => tag_at + 4,
         }
     }
 }

@@ -2,12 +2,15 @@
 //! count and no pending move, lookup with these masks equals a simple directory
 //! machine".
 //!
+//! The machine holds data and knows no places, so it tells word and buffer.
+//!
 //! Assumes nothing.
 
 use crate::calls::{Got, Query, NOENT};
 use crate::device::FILL;
 use crate::dirs::truth::{Sliced, MARGIN};
 use crate::model::*;
+use crate::tally::Check;
 
 /// Attribute types that no history uses.
 const ABSENT: [u32; 3] = [0x302, 0x3aa, 0x3fe];
@@ -17,6 +20,19 @@ pub struct Question {
     pub query: Query,
     pub length: usize,
     pub expected: Sliced,
+}
+
+/// The answers against the machine's.
+pub fn hold(
+    check: &mut Check,
+    questions: &[Question],
+    answers: &[Sliced],
+    weight: impl Fn() -> usize,
+    say: impl Fn() -> String,
+) {
+    for (question, answer) in questions.iter().zip(answers) {
+        check.same_by_weight(&question.expected, &answer.without_place(), &weight, &say);
+    }
 }
 
 /// Name and struct under 0x700 and each attribute type under 0x7ff, of each id;
@@ -64,10 +80,7 @@ fn question(mask: u32, key: u32, said: Option<(u32, u32, &[u8])>) -> Question {
             let lent = &mut buffer[MARGIN..MARGIN + length];
             lent.fill(0);
             lent[..data.len()].copy_from_slice(data);
-            Got {
-                result: 0,
-                tag: tag_of(type_, id, data.len() as u32),
-            }
+            Got::tagged(tag_of(type_, id, data.len() as u32))
         }
     };
     Question {

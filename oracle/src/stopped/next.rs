@@ -6,7 +6,7 @@
 //! Assumes nothing.
 
 use super::call::{Call, State};
-use super::Asked;
+use super::{machine, Asked};
 use crate::calls::write::{Answer, Committed, Task, Work, Writes, NOT_ERASED};
 use crate::calls::{Mdir, Voice};
 use crate::histories::ask::Outcome;
@@ -120,7 +120,5 @@ fn compact<W: Writes, R: Voice>(
     check.outcome("compaction accepted");
     let questions = &call.questions[usize::from(finished)];
     let state = State::of(asked.reader, call, &next.images(), questions);
-    for (question, answer) in questions.iter().zip(&state.answers) {
-        check.same_by_weight(&question.expected, answer, weight, say);
-    }
+    machine::hold(check, questions, &state.answers, weight, say);
 }
