@@ -34,6 +34,16 @@ static int is_zero(const void *p, size_t n) {
     return 1;
 }
 
+/* Found, with these three words. */
+static int is_found(lanolin_got got, uint32_t tag, uint32_t length, uint32_t off) {
+    return got.result == 0 && got.tag == tag && got.length == length && got.off == off;
+}
+
+/* Refused so, and all else 0. */
+static int is_refused(lanolin_got got, int32_t result) {
+    return got.result == result && got.tag == 0 && got.length == 0 && got.off == 0;
+}
+
 static void test_fetch(void) {
     lanolin_fetched f = fetch(0, 1, 0, 0);
     EXPECT(f.result == 0 && f.dir.pair[0] == 0 && f.dir.pair[1] == 1 && f.dir.rev == 1 && f.dir.off == 48);
@@ -52,23 +62,100 @@ static void test_lookups(void) {
     lanolin_mdir dir = fetch(0, 1, 0, 0).dir;
     uint8_t buffer[6] = {9, 9, 9, 9, 9, 9};
     lanolin_got got = slice(dir, STILL, 0x700ffc00, 0x00000000, 0, buffer, 6);
-    EXPECT(got.result == 0 && got.tag == 0x00100004 && !memcmp(buffer, "q212\0\0", 6));
+    EXPECT(is_found(got, 0x00100004, 8, 12) && !memcmp(buffer, "q212\0\0", 6));
     got = slice(dir, STILL, 0x7ffffc00, 0x37400000, 1, buffer, 2);
-    EXPECT(got.result == 0 && got.tag == 0x37400004 && !memcmp(buffer, "\x5f\x01\x31\x32\0\0", 6));
+    EXPECT(is_found(got, 0x37400004, 8, 27) && !memcmp(buffer, "\x5f\x01\x31\x32\0\0", 6));
     got = slice(dir, STILL, 0x7ffffc00, 0x37500000, 0, buffer, 6);
-    EXPECT(got.result == -2 && got.tag == 0 && !memcmp(buffer, "\x5f\x01\x31\x32\0\0", 6));
+    EXPECT(is_refused(got, -2) && !memcmp(buffer, "\x5f\x01\x31\x32\0\0", 6));
     got = slice(dir, STILL, 0x7ffffc00, 0x37400000, 1000, buffer, 6);
-    EXPECT(got.result == -84 && got.tag == 0 && !memcmp(buffer, "\x5f\x01\x31\x32\0\0", 6));
+    EXPECT(is_refused(got, -84) && !memcmp(buffer, "\x5f\x01\x31\x32\0\0", 6));
     lanolin_gstate moving = {0x4ff00000, {1, 9}};
-    EXPECT(slice(dir, moving, 0x700ffc00, 0, 0, buffer, 6).result == -2);
+    EXPECT(is_refused(slice(dir, moving, 0x700ffc00, 0, 0, buffer, 6), -2));
     lanolin_mdir wrong = dir;
     wrong.off = 129;
-    EXPECT(slice(wrong, STILL, 0x700ffc00, 0, 0, buffer, 6).result == -22);
+    EXPECT(is_refused(slice(wrong, STILL, 0x700ffc00, 0, 0, buffer, 6), -22));
     memset(buffer, 9, 6);
     got = lanolin_get(G, b0, sizeof b0, b1, sizeof b1, 0, 1, dir, STILL, 0x7ffffc00, 0x37400005, buffer, 6);
-    EXPECT(got.result == 0 && got.tag == 0x37400004 && !memcmp(buffer, "\x90\x5f\x01\0\0\x09", 6));
+    EXPECT(is_found(got, 0x37400004, 8, 27) && !memcmp(buffer, "\x90\x5f\x01\0\0\x09", 6));
+    got = lanolin_get(G, b0, sizeof b0, b1, sizeof b1, 0, 1, dir, STILL, 0x7ffffc00, 0x37400002, buffer, 2);
+    EXPECT(is_found(got, 0x37400004, 8, 27));
     got = lanolin_get(G, b0, sizeof b0, b1, sizeof b1, 0, 1, dir, STILL, 0x7ffffc00, 0x37400007, buffer, 6);
-    EXPECT(got.result == -22 && !memcmp(buffer, "\x90\x5f\x01\0\0\x09", 6));
+    EXPECT(is_refused(got, -22) && !memcmp(buffer, "\x90\x5f\x01\0\0\x09", 6));
+    got = lanolin_get(G, b0, sizeof b0, b1, sizeof b1, 0, 1, dir, STILL, 0x7ffffc00, 0x37500004, buffer, 6);
+    EXPECT(is_refused(got, -2) && !memcmp(buffer, "\x90\x5f\x01\0\0\x09", 6));
+}
+
+/* Length and place, as the listing's bytes have them: its tags stand at 4, 8, 16, 23 and 31, with 0, 4, 3, 4 and 13
+ * bytes behind them. Under a mask without an id a create and a check are found too: one has no data, so that its place
+ * is that of the next tag, and the data of the other end where the log does. */
+static void test_places(void) {
+    static const uint32_t ENTRIES[5][5] = {{0x7ff00000, 0x40100000, 0x40100000, 4, 8},
+                                           {0x700ffc00, 0x00000000, 0x00100004, 8, 12},
+                                           {0x700ffc00, 0x20000000, 0x20100003, 7, 20},
+                                           {0x7ffffc00, 0x37400000, 0x37400004, 8, 27},
+                                           {0x7ff00000, 0x50000000, 0x500ffc0d, 17, 35}};
+    lanolin_mdir dir = fetch(0, 1, 0, 0).dir;
+    uint8_t buffer[128];
+    for (int i = 0; i < 5; i++) {
+        const uint32_t *e = ENTRIES[i], size = e[3] - 4, last = 128 - e[4];
+        /* no buffer, one that is too short, one of the data's length, a longer one */
+        EXPECT(is_found(slice(dir, STILL, e[0], e[1], 0, NULL, 0), e[2], e[3], e[4]));
+        EXPECT(is_found(slice(dir, STILL, e[0], e[1], 0, buffer, 1), e[2], e[3], e[4]));
+        EXPECT(is_found(slice(dir, STILL, e[0], e[1], 0, buffer, size), e[2], e[3], e[4]));
+        EXPECT(!memcmp(buffer, b0 + e[4], size));
+        EXPECT(is_found(slice(dir, STILL, e[0], e[1], 0, buffer, sizeof buffer), e[2], e[3], e[4]));
+        /* from the second byte on, behind the data, up to the block's end, and past it */
+        EXPECT(is_found(slice(dir, STILL, e[0], e[1], 1, buffer, 2), e[2], e[3], e[4]));
+        EXPECT(is_found(slice(dir, STILL, e[0], e[1], size, buffer, 4), e[2], e[3], e[4]));
+        EXPECT(is_found(slice(dir, STILL, e[0], e[1], last - size, buffer, size), e[2], e[3], e[4]));
+        EXPECT(is_found(slice(dir, STILL, e[0], e[1], last, NULL, 0), e[2], e[3], e[4]));
+        EXPECT(is_refused(slice(dir, STILL, e[0], e[1], last + 1, buffer, size), -84));
+        EXPECT(is_refused(slice(dir, STILL, e[0], e[1], 0xffffffff, NULL, 0), -84));
+        EXPECT(e[4] + size <= dir.off);
+    }
+}
+
+/* A reader of deadlines has a buffer of four bytes: that an attribute is longer or shorter shows in its length. */
+static void test_lengths(void) {
+    static const uint32_t SIZES[7] = {0, 1, 2, 3, 4, 5, LANOLIN_ATTR_MAX};
+    static uint8_t c0[4096], c1[4096], data[LANOLIN_ATTR_MAX];
+    const lanolin_geometry g = {4096, 16};
+    uint32_t end = 48;
+    memset(c0, 0xff, sizeof c0);
+    memset(c1, 0xff, sizeof c1);
+    memcpy(c0, LISTED, sizeof LISTED);
+    memset(data, 7, sizeof data);
+    for (int i = 0; i < 7; i++) {
+        uint8_t read[4] = {9, 9, 9, 9};
+        lanolin_entry entry = {0x374, 0, 0, SIZES[i]};
+        lanolin_mdir dir = lanolin_commit(g, c0, 4096, c1, 4096, 0, 1, 0, 0, &entry, 1, data, sizeof data).dir;
+        lanolin_got got = lanolin_getslice(g, c0, 4096, c1, 4096, 0, 1, dir, STILL, 0x7ffffc00, 0x37400000, 0, read, 4);
+        size_t n = SIZES[i] < 4 ? SIZES[i] : 4;
+        /* the commit's only entry begins at the old end */
+        EXPECT(is_found(got, 0x37400000 + SIZES[i], 4 + SIZES[i], end + 4) && got.length == lanolin_tag_dsize(got.tag));
+        EXPECT(!memcmp(read, data, n) && is_zero(read + n, 4 - n));
+        end = dir.off;
+    }
+}
+
+/* The deadline of a slot that moved: the tag has the present id, the place is where the entry stands. */
+static void test_moved_places(void) {
+    const lanolin_entry before = {0x401, 0, 0, 0}, gone = {0x374, 1, 0, LANOLIN_REMOVAL};
+    const uint32_t mask = 0x7ffffc00, key = 0x37400400;
+    uint8_t c0[128], c1[128], read[4];
+    memcpy(c0, b0, sizeof c0);
+    memcpy(c1, b1, sizeof c1);
+    lanolin_mdir dir = lanolin_commit(G, c0, 128, c1, 128, 0, 1, 0, 0, &before, 1, NULL, 0).dir;
+    lanolin_got got = lanolin_getslice(G, c0, 128, c1, 128, 0, 1, dir, STILL, mask, key, 0, read, 4);
+    EXPECT(dir.count == 2 && is_found(got, 0x37400404, 8, 27) && !memcmp(read, c0 + 27, 4));
+    /* compacted into the other block, behind one create more */
+    dir = lanolin_compact(G, c0, 128, c1, 128, 0, 1, 0, 0).dir;
+    got = lanolin_getslice(G, c0, 128, c1, 128, 0, 1, dir, STILL, mask, key, 0, read, 4);
+    EXPECT(dir.pair[0] == 1 && is_found(got, 0x37400404, 8, 31) && !memcmp(read, c1 + 31, 4));
+    /* a removal is never found */
+    dir = lanolin_commit(G, c0, 128, c1, 128, 0, 1, 0, 0, &gone, 1, NULL, 0).dir;
+    got = lanolin_getslice(G, c0, 128, c1, 128, 0, 1, dir, STILL, mask, key, 0, read, 4);
+    EXPECT(dir.off == 64 && is_refused(got, -2));
 }
 
 static void test_info_and_state(void) {
@@ -247,7 +334,7 @@ static void test_commit(void) {
     EXPECT(!memcmp(c0, b0, 48) && !memcmp(c0 + 48, MORE, 16) && !memcmp(c0 + 64, b1, 64) && !memcmp(c1, b1, 128));
     uint8_t read[4];
     lanolin_got got = lanolin_getslice(G, c0, 128, c1, 128, 0, 1, done.dir, STILL, 0x7ffffc00, 0x37400000, 0, read, 4);
-    EXPECT(got.result == 0 && !memcmp(read, data, 4));
+    EXPECT(is_found(got, 0x37400004, 8, 52) && !memcmp(read, data, 4));
 }
 
 /* The listing compacted: the same entries in the same order under revision 2, so all but revision and checksum is as it
@@ -431,7 +518,7 @@ static void test_names_of_limits(void) {
     uint8_t block[512], erased[512];
     lanolin_mdir dir = fetch(0, 1, 0, 0).dir;
     EXPECT(slice(dir, STILL, LANOLIN_MASK_CLASS, 0, 0, plenty, LANOLIN_BUFFER_MAX).result == LANOLIN_OK);
-    EXPECT(slice(dir, STILL, LANOLIN_MASK_CLASS, 0, 0, plenty, LANOLIN_BUFFER_MAX + 1).result == LANOLIN_ERR_INVAL);
+    EXPECT(is_refused(slice(dir, STILL, LANOLIN_MASK_CLASS, 0, 0, plenty, LANOLIN_BUFFER_MAX + 1), LANOLIN_ERR_INVAL));
     lanolin_info info = lanolin_getinfo(G, b0, 128, b1, 128, 0, 1, dir, STILL, LANOLIN_NAME_MAX, 0);
     EXPECT(info.result == LANOLIN_OK && info.type == LANOLIN_TYPE_REG);
     info = lanolin_getinfo(G, b0, 128, b1, 128, 0, 1, dir, STILL, LANOLIN_NAME_MAX + 1, 0);
@@ -457,6 +544,9 @@ int main(void) {
     memcpy(b0, LISTED, sizeof LISTED);
     test_fetch();
     test_lookups();
+    test_places();
+    test_lengths();
+    test_moved_places();
     test_info_and_state();
     test_long_names();
     test_differences();

@@ -42,6 +42,13 @@ static lanolin_got look(uint32_t mask, uint32_t key, uint8_t *buffer, size_t siz
                             key, 0, buffer, size);
 }
 
+/* Whether the entry that was found has this tag and these bytes, in the buffer and at its place in the block. */
+static bool has(lanolin_got got, uint32_t tag, const uint8_t *have, const uint8_t *want, size_t n) {
+    const uint8_t *block = at.dir.pair[0] == at.n0 ? at.b0 : at.b1;
+    return !got.result && got.tag == tag && !memcmp(have, want, n) && got.length == 4 + n &&
+           got.off + n <= at.dir.off && !memcmp(block + got.off, want, n);
+}
+
 /* The attributes of one slot that were listed; the others must be missing. */
 static bool listed[256];
 static long slot_now = -1;
@@ -98,8 +105,7 @@ static void check_slot(const char *line) {
     if (sscanf(line, "slot %u %u %2048s %u %u %2048s", &id, &kind, name, &structure, &size, data) != 6) exit(2);
     size_t n = bytes_of(name, want);
     lanolin_got got = look(0x700ffc00, lanolin_mktag(0, id, 0), have, sizeof have);
-    if (got.result || got.tag != lanolin_mktag(kind, id, (uint32_t)n) || memcmp(have, want, n))
-        differs("the name", id, line);
+    if (!has(got, lanolin_mktag(kind, id, (uint32_t)n), have, want, n)) differs("the name", id, line);
     lanolin_info info =
         lanolin_getinfo(at.g, at.b0, at.g.block_size, at.b1, at.g.block_size, at.n0, at.n1, at.dir, at.gdisk, 255, id);
     /* a superblock's name type is not among those that getinfo's mask 0x780 takes */
@@ -109,10 +115,10 @@ static void check_slot(const char *line) {
         differs("the info", id, line);
     got = look(0x700ffc00, lanolin_mktag(0x200, id, 0), have, sizeof have);
     if (got.result || lanolin_tag_type3(got.tag) != structure) differs("the struct's type", id, line);
-    if (structure == 0x201 && lanolin_tag_size(got.tag) != size) differs("the size", id, line);
+    if (structure == 0x201 && got.length != 4 + size) differs("the size", id, line);
     if (structure == 0x202 && lanolin_le32_at(have, 8, 4).value != size) differs("the size", id, line);
     n = bytes_of(data, want);
-    if (n && (lanolin_tag_size(got.tag) != n || memcmp(have, want, n))) differs("the struct", id, line);
+    if (n && !has(got, lanolin_mktag(structure, id, (uint32_t)n), have, want, n)) differs("the struct", id, line);
     slot_now = id;
     slots++;
 }
@@ -124,8 +130,7 @@ static void check_attr(const char *line) {
     if (sscanf(line, "attr %u %u %2048s", &id, &type, data) != 3 || type > 255) exit(2);
     size_t n = bytes_of(data, want);
     lanolin_got got = look(0x7ffffc00, lanolin_mktag(0x300 + type, id, 0), have, sizeof have);
-    if (got.result || got.tag != lanolin_mktag(0x300 + type, id, (uint32_t)n) || memcmp(have, want, n))
-        differs("an attribute", id, line);
+    if (!has(got, lanolin_mktag(0x300 + type, id, (uint32_t)n), have, want, n)) differs("an attribute", id, line);
     listed[type] = true;
     attrs++;
 }
