@@ -2,7 +2,8 @@
  *
  *     deadline FILE [SLOT]     FILE has both blocks of a pair, one behind the other; without SLOT it is slot 0
  *
- * Exits 1 if the pair is refused or the slot has no deadline, 2 if it is used wrongly or the file can't be read. */
+ * Exits 1 if the pair is refused or the slot has no deadline or one of another length, which can't be read; 2 if it is
+ * used wrongly or the file can't be read. */
 #include "lanolin.h"
 
 #include <stdio.h>
@@ -20,7 +21,8 @@ static int print_deadline(const uint8_t *b0, size_t len0, const uint8_t *b1, siz
                                        LANOLIN_MASK_TYPE, key, 0, seconds, sizeof seconds);
     if (got.result == LANOLIN_ERR_NOENT) return fprintf(stderr, "slot %lu has no deadline\n", slot), 1;
     if (got.result != LANOLIN_OK) return fprintf(stderr, "the lookup is refused: %d\n", (int)got.result), 1;
-    if (lanolin_tag_size(got.tag) != 4) return fprintf(stderr, "slot %lu: a deadline has four bytes\n", slot), 1;
+    unsigned long size = got.length - 4; /* the tag's own four bytes are counted */
+    if (size != sizeof seconds) return fprintf(stderr, "slot %lu has a deadline of %lu bytes\n", slot, size), 1;
     printf("%lu\n", (unsigned long)lanolin_le32_at(seconds, 4, 0).value);
     return 0;
 }

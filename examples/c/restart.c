@@ -20,7 +20,7 @@ enum { BUCKETS = 64, NONE = 0xffff };
 typedef struct {
     bool payload, attribute; /* whether there is one */
     uint32_t length;         /* the payload's, in bytes */
-    uint32_t attribute_size; /* a deadline has four bytes; with any other number it is none */
+    uint32_t attribute_size; /* of another length than four bytes a deadline is there, and can't be read */
     uint32_t deadline;       /* in seconds */
     uint16_t next;           /* the slot behind this one in its bucket */
 } slot_t;
@@ -59,38 +59,40 @@ static void read_pair(const char *file) {
     dir = fetched.dir;
 }
 
-/* The newest entry of a slot: its tag, and its first bytes. The global state is zero, no pending move: one pair alone
- * can't tell. A controller with several pairs XORs the move states of all of them (lanolin_getgstate) and hands in the
- * sum. */
-static bool look(uint32_t mask, uint32_t type, uint16_t id, uint8_t *buffer, size_t size, uint32_t *tag) {
-    lanolin_got got = lanolin_getslice(g, image, g.block_size, image + g.block_size, g.block_size, 0, 1, dir,
-                                       (lanolin_gstate){0}, mask, lanolin_mktag(type, id, 0), 0, buffer, size);
-    *tag = got.tag;
+/* The newest entry of a slot, and as many of its bytes as are asked for; its length says how many there are, whatever
+ * the buffer's. The global state is zero, no pending move: one pair alone can't tell. A controller with several pairs
+ * XORs the move states of all of them (lanolin_getgstate) and hands in the sum. */
+static bool look(uint32_t mask, uint32_t type, uint16_t id, uint8_t *buffer, size_t size, lanolin_got *got) {
+    *got = lanolin_getslice(g, image, g.block_size, image + g.block_size, g.block_size, 0, 1, dir, (lanolin_gstate){0},
+                            mask, lanolin_mktag(type, id, 0), 0, buffer, size);
     /* With the record that fetch gave no other refusal comes; if one did, to go on would be to lose an instruction. */
-    if (got.result != LANOLIN_OK && got.result != LANOLIN_ERR_NOENT) give_up(1, "lookup", "refused");
-    return got.result == LANOLIN_OK;
+    if (got->result != LANOLIN_OK && got->result != LANOLIN_ERR_NOENT) give_up(1, "lookup", "refused");
+    return got->result == LANOLIN_OK;
 }
+
+/* How many bytes of data an entry has: the tag's own four are counted in its length. */
+static uint32_t size_of(lanolin_got got) { return got.length - 4; }
 
 /* Reads what the slot has. Directories and the superblock are no instructions; they stay without payload and
  * attribute. */
 static void read_slot(uint16_t id) {
     slot_t *slot = &slots[id];
-    uint8_t data[8] = {0};
-    uint32_t tag;
-    if (look(LANOLIN_MASK_CLASS, LANOLIN_TYPE_NAME, id, data, sizeof data, &tag)) {
-        uint32_t type = lanolin_tag_type3(tag);
+    uint8_t ctz[8], seconds[4];
+    lanolin_got got;
+    if (look(LANOLIN_MASK_CLASS, LANOLIN_TYPE_NAME, id, NULL, 0, &got)) {
+        uint32_t type = lanolin_tag_type3(got.tag);
         if (type == LANOLIN_TYPE_DIR || type == LANOLIN_TYPE_SUPERBLOCK) return;
     }
-    if (look(LANOLIN_MASK_CLASS, LANOLIN_TYPE_STRUCT, id, data, sizeof data, &tag)) {
-        uint32_t type = lanolin_tag_type3(tag), size = lanolin_tag_size(tag);
+    if (look(LANOLIN_MASK_CLASS, LANOLIN_TYPE_STRUCT, id, ctz, sizeof ctz, &got)) {
+        uint32_t type = lanolin_tag_type3(got.tag), size = size_of(got);
         slot->payload = type == LANOLIN_TYPE_CTZSTRUCT || (type == LANOLIN_TYPE_INLINESTRUCT && size > 0);
         /* a CTZ struct: last block, then length */
-        slot->length = type == LANOLIN_TYPE_CTZSTRUCT ? lanolin_le32_at(data, 8, 4).value : size;
+        slot->length = type == LANOLIN_TYPE_CTZSTRUCT ? lanolin_le32_at(ctz, sizeof ctz, 4).value : size;
     }
-    if (look(LANOLIN_MASK_TYPE, DEADLINE, id, data, sizeof data, &tag)) {
+    if (look(LANOLIN_MASK_TYPE, DEADLINE, id, seconds, sizeof seconds, &got)) {
         slot->attribute = true;
-        slot->attribute_size = lanolin_tag_size(tag);
-        slot->deadline = lanolin_le32_at(data, 8, 0).value;
+        slot->attribute_size = size_of(got);
+        slot->deadline = lanolin_le32_at(seconds, sizeof seconds, 0).value;
     }
 }
 
@@ -119,10 +121,10 @@ static uint16_t next_due(void) {
 
 static void print_name(uint16_t id) {
     static uint8_t name[LANOLIN_ATTR_MAX];
-    uint32_t tag;
-    bool found = look(LANOLIN_MASK_CLASS, LANOLIN_TYPE_NAME, id, name, sizeof name, &tag);
+    lanolin_got got;
+    bool found = look(LANOLIN_MASK_CLASS, LANOLIN_TYPE_NAME, id, name, sizeof name, &got);
     if (!found) printf("-");
-    for (uint32_t i = 0; found && i < lanolin_tag_size(tag); i++)
+    for (uint32_t i = 0; found && i < size_of(got); i++)
         printf(name[i] >= 0x21 && name[i] <= 0x7e && name[i] != '\\' ? "%c" : "\\x%02x", name[i]);
 }
 

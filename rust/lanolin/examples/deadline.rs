@@ -4,8 +4,8 @@
 //!     deadline FILE [SLOT]     FILE has both blocks of a pair, one behind the
 //!                              other; without SLOT it is slot 0.
 //!
-//! Exits 1 if the pair is refused or the slot has no deadline, 2 if it is used
-//! wrongly or the file can't be read.
+//! Exits 1 if the pair is refused or the slot has no deadline or one of another
+//! length, which can't be read; 2 if it is used wrongly or the file can't be read.
 
 use lanolin::{Geometry, Gstate, Pair, Refusal, Tag, MASK_TYPE, TYPE_USERATTR};
 use std::path::PathBuf;
@@ -35,8 +35,11 @@ fn deadline(image: &[u8], slot: u32) -> Result<u32, String> {
     let mut seconds = [0; 4];
     let key = Tag::new(TYPE_USERATTR + 0x74, slot, 0);
     match pair.get_slice(record, Gstate::default(), MASK_TYPE, key, 0, &mut seconds) {
-        Ok(tag) if tag.size() == 4 => Ok(u32::from_le_bytes(seconds)),
-        Ok(_) => Err(format!("slot {slot}: a deadline has four bytes")),
+        Ok(found) if found.size() == seconds.len() => Ok(u32::from_le_bytes(seconds)),
+        Ok(found) => Err(format!(
+            "slot {slot} has a deadline of {} bytes",
+            found.size()
+        )),
         Err(Refusal::NoEntry) => Err(format!("slot {slot} has no deadline")),
         Err(refusal) => Err(format!("the lookup is {refusal}")),
     }

@@ -8,7 +8,8 @@ fn main() -> Result<(), Box<dyn std::error::Error>> {
     let record = pair.fetch(0, 0)?.record;
     let key = Tag::new(TYPE_USERATTR + 0x74, 0, 0);
     let mut seconds = [0; 4];
-    pair.get_slice(record, Gstate::default(), MASK_TYPE, key, 0, &mut seconds)?;
+    let found = pair.get_slice(record, Gstate::default(), MASK_TYPE, key, 0, &mut seconds)?;
+    if found.size() != 4 { return Err(format!("deadline of {} bytes", found.size()).into()); }
     println!("{}", u32::from_le_bytes(seconds));
     Ok(())
 }

@@ -9,9 +9,9 @@
 //! Exits 2 if it is no such file, 1 if its pair is refused.
 
 use lanolin::{
-    Geometry, Gstate, Pair, Record, Refusal, Tag, ATTR_MAX, MASK_CLASS, MASK_TYPE, SLOTS_MAX,
-    TYPE_CTZSTRUCT, TYPE_DIR, TYPE_INLINESTRUCT, TYPE_NAME, TYPE_STRUCT, TYPE_SUPERBLOCK,
-    TYPE_USERATTR,
+    Found, Geometry, Gstate, Pair, Record, Refusal, Tag, ATTR_MAX, MASK_CLASS, MASK_TYPE,
+    SLOTS_MAX, TYPE_CTZSTRUCT, TYPE_DIR, TYPE_INLINESTRUCT, TYPE_NAME, TYPE_STRUCT,
+    TYPE_SUPERBLOCK, TYPE_USERATTR,
 };
 use std::path::{Path, PathBuf};
 use std::process::ExitCode;
@@ -27,8 +27,8 @@ const DEADLINE: u32 = TYPE_USERATTR + 0x74;
 enum Deadline {
     None,
     Seconds(u32),
-    /// A deadline has four bytes; with any other number it is none.
-    OfBytes(u32),
+    /// Of another length than four bytes: it is there, and can't be read.
+    OfBytes(usize),
 }
 
 #[derive(Clone, Copy)]
@@ -49,23 +49,23 @@ struct Directory<'a> {
 }
 
 impl Directory<'_> {
-    /// The newest entry of a slot: its tag, and its first bytes. The global
-    /// state is zero, no pending move: one pair alone can't tell. A controller
-    /// with several pairs XORs the move states of all of them (`get_gstate`) and
-    /// hands in the sum.
+    /// The newest entry of a slot, and as many of its bytes as are asked for. The
+    /// global state is zero, no pending move: one pair alone can't tell. A
+    /// controller with several pairs XORs the move states of all of them
+    /// (`get_gstate`) and hands in the sum.
     fn look(
         &self,
         mask: u32,
         type_: u32,
         id: u16,
         buffer: &mut [u8],
-    ) -> Result<Option<Tag>, Refusal> {
+    ) -> Result<Option<Found>, Refusal> {
         let key = Tag::new(type_, id.into(), 0);
         match self
             .pair
             .get_slice(self.record, Gstate::default(), mask, key, 0, buffer)
         {
-            Ok(tag) => Ok(Some(tag)),
+            Ok(found) => Ok(Some(found)),
             Err(Refusal::NoEntry) => Ok(None),
             Err(other) => Err(other),
         }
@@ -73,21 +73,22 @@ impl Directory<'_> {
 
     /// What the slot has. Directories and the superblock are no instructions.
     fn slot(&self, id: u16) -> Result<Slot, Refusal> {
-        let mut data = [0; 8];
-        let name = self.look(MASK_CLASS, TYPE_NAME, id, &mut data)?;
-        if name.is_some_and(|tag| matches!(tag.type3(), TYPE_DIR | TYPE_SUPERBLOCK)) {
+        let name = self.look(MASK_CLASS, TYPE_NAME, id, &mut [])?;
+        if name.is_some_and(|name| matches!(name.tag.type3(), TYPE_DIR | TYPE_SUPERBLOCK)) {
             return Ok(EMPTY);
         }
-        let found = self.look(MASK_CLASS, TYPE_STRUCT, id, &mut data)?;
-        let payload = found.and_then(|tag| match (tag.type3(), tag.size()) {
-            (TYPE_CTZSTRUCT, _) => Some(le32(&data[4..])), // last block, then length
-            (TYPE_INLINESTRUCT, size) if size > 0 => Some(size),
+        let mut ctz = [0; 8];
+        let found = self.look(MASK_CLASS, TYPE_STRUCT, id, &mut ctz)?;
+        let payload = found.and_then(|found| match (found.tag.type3(), found.size()) {
+            (TYPE_CTZSTRUCT, _) => Some(le32(&ctz[4..])), // last block, then length
+            (TYPE_INLINESTRUCT, size) if size > 0 => Some(size as u32),
             _ => None,
         });
-        let found = self.look(MASK_TYPE, DEADLINE, id, &mut data)?;
-        let deadline = match found.map(Tag::size) {
+        let mut seconds = [0; 4];
+        let found = self.look(MASK_TYPE, DEADLINE, id, &mut seconds)?;
+        let deadline = match found.map(Found::size) {
             None => Deadline::None,
-            Some(4) => Deadline::Seconds(le32(&data)),
+            Some(4) => Deadline::Seconds(u32::from_le_bytes(seconds)),
             Some(size) => Deadline::OfBytes(size),
         };
         Ok(Slot { payload, deadline })
@@ -95,7 +96,7 @@ impl Directory<'_> {
 
     fn name(&self, id: u16) -> Result<String, Refusal> {
         let mut name = [0; ATTR_MAX];
-        let Some(tag) = self.look(MASK_CLASS, TYPE_NAME, id, &mut name)? else {
+        let Some(found) = self.look(MASK_CLASS, TYPE_NAME, id, &mut name)? else {
             return Ok(String::from("-"));
         };
         let shown = |byte: &u8| match byte {
@@ -103,7 +104,7 @@ impl Directory<'_> {
             0x21..=0x7e => char::from(*byte).to_string(),
             _ => format!("\\x{byte:02x}"),
         };
-        Ok(name[..tag.size() as usize].iter().map(shown).collect())
+        Ok(name[..found.size()].iter().map(shown).collect())
     }
 
     fn print(&self, mark: &str, id: u16, slot: &Slot) -> Result<(), Refusal> {
