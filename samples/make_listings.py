@@ -157,8 +157,8 @@ def listing(data):
 
 # ---- the audit's text
 def audit(data):
-    """The slots that have a payload and no deadline, or a deadline and no payload; directories and superblocks are not
-    looked at."""
+    """The slots that have a payload and no deadline of four bytes, or a deadline of any length and no payload;
+    directories and superblocks are not looked at."""
     number, log = fetched(data)
     if number is None:
         return log
@@ -169,11 +169,16 @@ def audit(data):
     for id, slot in enumerate(slots):
         type, name = slot.get("name", (FILE, b""))
         struct, content = slot.get("struct", (None, b""))
-        payload, deadline = struct == CTZ or (struct == INLINE and content != b""), 0x374 in slot
-        if type in (DIR, SUPER) or payload == deadline:
+        payload, deadline = struct == CTZ or (struct == INLINE and content != b""), slot.get(0x374)
+        if type in (DIR, SUPER):
             continue
-        lines.append(f"slot {id} {shown(name) or '-'} no {'deadline' if payload else 'payload'}")
-        late, bare = late + payload, bare + deadline
+        if payload and (deadline is None or len(deadline) != 4):
+            late, lack = late + 1, "no deadline" if deadline is None else f"deadline of {len(deadline)} bytes"
+        elif not payload and deadline is not None:
+            bare, lack = bare + 1, "no payload"
+        else:
+            continue
+        lines.append(f"slot {id} {shown(name) or '-'} {lack}")
     return "\n".join(lines + [f"payload without deadline {late}", f"deadline without payload {bare}",
                               f"slots {len(slots)}"]) + "\n"
 
@@ -404,14 +409,48 @@ audited("one-of-each", block(256, [slot(0, b"a", ABC) + slot(1, b"b", ABC, DUE) 
 audited("212-of-them",
         block(16384, [[e for i in range(300) for e in slot(i, b"q%d" % i, *((ABC,) if i < 212 else (ABC, DUE)))]]),
         "".join(f"slot {i} q{i} no deadline\n" for i in range(212)) + totals(212, 0, 300))
-# an attribute removed is none, one set again is one; an empty one counts; 0x375 and 0x373 are others
+# an attribute removed is none, one set again is one; 0x375 and 0x373 are others
 audited("deadline-removed", block(128, [SLOT, [entry(0x374, 0, removal=True)]]),
         "slot 0 q212 no deadline\n" + totals(1, 0, 1))
-audited("deadline-set-again", block(128, [SLOT, [entry(0x374, 0, removal=True)], [entry(0x374, 0, b"\x07")]]),
+audited("deadline-set-again", block(128, [SLOT, [entry(0x374, 0, removal=True)], [entry(0x374, 0, b"\x07\0\0\0")]]),
         totals(0, 0, 1))
-audited("deadline-empty", block(128, [slot(0, b"e", ABC, (0x374, b""))]), totals(0, 0, 1))
 audited("other-attributes", block(128, [slot(0, b"o", ABC, (0x373, b"\x01"), (0x375, b"\x01"))]),
         "slot 0 o no deadline\n" + totals(1, 0, 1))
+# a deadline of another length than four bytes can't be read: told apart from a missing one, and counted with it
+UNREAD = (0x374, b"\x3c\x00")
+audited("deadline-of-0", block(128, [slot(0, b"u", ABC, (0x374, b""))]),
+        "slot 0 u deadline of 0 bytes\n" + totals(1, 0, 1))
+audited("deadline-of-1", block(128, [slot(0, b"u", ABC, (0x374, b"\x3c"))]),
+        "slot 0 u deadline of 1 bytes\n" + totals(1, 0, 1))
+audited("deadline-of-2", block(128, [slot(0, b"u", ABC, UNREAD)]), "slot 0 u deadline of 2 bytes\n" + totals(1, 0, 1))
+audited("deadline-of-3", block(128, [slot(0, b"u", ABC, (0x374, bytes(3)))]),
+        "slot 0 u deadline of 3 bytes\n" + totals(1, 0, 1))
+audited("deadline-of-4", block(128, [slot(0, b"u", ABC, (0x374, bytes(4)))]), totals(0, 0, 1))
+audited("deadline-of-5", block(128, [slot(0, b"u", ABC, (0x374, bytes(5)))]),
+        "slot 0 u deadline of 5 bytes\n" + totals(1, 0, 1))
+audited("deadline-of-8", block(128, [slot(0, b"u", ABC, (0x374, bytes(8)))]),
+        "slot 0 u deadline of 8 bytes\n" + totals(1, 0, 1))
+audited("deadline-of-1022", block(2048, [slot(0, b"u", ABC, (0x374, bytes(1022)))]),
+        "slot 0 u deadline of 1022 bytes\n" + totals(1, 0, 1))
+audited("unread-ctz", block(128, [slot(0, b"big", FAR, UNREAD)]),
+        "slot 0 big deadline of 2 bytes\n" + totals(1, 0, 1))
+audited("unread-alone", block(128, [slot(0, b"u", UNREAD)]), "slot 0 u no payload\n" + totals(0, 1, 1))
+audited("unread-empty-inline", block(128, [slot(0, b"u", (INLINE, b""), UNREAD)]),
+        "slot 0 u no payload\n" + totals(0, 1, 1))
+audited("unread-removed", block(128, [slot(0, b"u", ABC, UNREAD), [entry(0x374, 0, removal=True)]]),
+        "slot 0 u no deadline\n" + totals(1, 0, 1))
+audited("unread-set-anew", block(128, [slot(0, b"u", ABC, UNREAD), [entry(DUE[0], 0, DUE[1])]]), totals(0, 0, 1))
+audited("unread-behind-a-read", block(128, [SLOT, [entry(0x374, 0, UNREAD[1])]]),
+        "slot 0 q212 deadline of 2 bytes\n" + totals(1, 0, 1))
+audited("unread-directory", block(128, [[entry(CREATE, 0), entry(DIR, 0, b"d"), entry(INLINE, 0, b"abc"),
+                                         entry(0x374, 0, UNREAD[1])]]), totals(0, 0, 1))
+audited("unread-no-name", block(128, [slot(0, b"", ABC, UNREAD)]),
+        "slot 0 - deadline of 2 bytes\n" + totals(1, 0, 1))
+audited("unread-among-others",
+        block(256, [slot(0, b"a", ABC) + slot(1, b"b", ABC, UNREAD) + slot(2, b"c", ABC, DUE) + slot(3, b"d", DUE)
+                    + slot(4, b"e", UNREAD) + slot(5, b"f")]),
+        "slot 0 a no deadline\nslot 1 b deadline of 2 bytes\nslot 3 d no payload\nslot 4 e no payload\n"
+        + totals(2, 2, 6))
 # payloads: an empty inline file is none, a CTZ list is one, a directory's struct is none
 audited("empty-inline-deadline", block(128, [slot(0, b"e", (INLINE, b""), DUE)]),
         "slot 0 e no payload\n" + totals(0, 1, 1))
@@ -442,6 +481,12 @@ case("audit-odd", (block(128, [SLOT]) + b"\xff" * 128)[:255], None, "refused -22
 # long texts: the most lines, and the longest names
 audited("full-of-lines", block(32768, [[e for i in range(1023) for e in slot(i, b"\n" * 19, (0x374, b""))]]), None)
 audited("full-of-names", block(32768, [[e for i in range(31) for e in slot(i, b"\x80" * 1022, DUE)]]), None)
+audited("full-of-unread",
+        block(32768, [[e for i in range(1023) for e in slot(i, b"\n" * 14, (INLINE, b"x"), (0x374, b""))]]), None)
+# the one that README.md shows
+with open(os.path.join(ROOT, "instructions.pair"), "rb") as f:
+    case("audit-instructions", f.read(), None,
+         "slot 5 q215 no deadline\nslot 6 q216 no payload\nslot 8 q218 deadline of 2 bytes\n" + totals(2, 1, 10))
 
 for k in range(60):
     entries, count = [], random.randrange(1, 9)
@@ -449,7 +494,8 @@ for k in range(60):
         entries.append(entry(CREATE, id))
         parts = [entry(random.choice((FILE, FILE, FILE, DIR, SUPER)), id, b"n%d" % id),
                  entry(INLINE, id, random.choice((b"", b"x"))), entry(random.choice((0x200, CTZ)), id, bytes(8)),
-                 entry(0x374, id, random.choice((b"", b"t"))), entry(0x374, id, removal=True), entry(0x375, id)]
+                 entry(0x374, id, random.choice((b"", b"t", b"time", b"times"))), entry(0x374, id, removal=True),
+                 entry(0x375, id)]
         entries += random.sample(parts, random.randrange(5))
     if random.random() < 0.5:
         entries.append(entry(DELETE, random.randrange(count)))
