@@ -28,6 +28,10 @@ cp samples/q212.pair "$pair"
 for seconds in 1 2 3 4 5; do $set "$pair" 0 $seconds >/dev/null; done
 $set "$pair" 0 6 | diff - <(printf "no room, -28: the block is full\n$again 64\n")
 $get "$pair" | diff - <(echo 6)
+# in the place of one of two bytes, which can't be read
+cp samples/instructions.pair "$pair"
+$set "$pair" 8 3600 | diff - <(echo "committed: revision 7, end 448")
+$get "$pair" 8 | diff - <(echo 3600)
 
 # exit status, what is said, the pair, arguments
 while IFS=: read -r expected words from arguments; do
