@@ -145,8 +145,8 @@ lanolin_fetched lanolin_fetch(lanolin_geometry g, const uint8_t *b0, size_t b0_l
 
 /* lfs_dir_getslice: the newest entry that gtag matches under gmask. Answers its tag, length and place, and
  * min(size, gsize) bytes of its data from goff on; the rest of the buffer is zeroed. Tag, length and place are the
- * entry's own, whatever goff and gsize: a length above 4 plus gsize says that it has more data than the buffer has
- * room. Its place is in the block dir.pair[0], and its data end at or before dir.off. gdisk is the global state on
+ * entry's own, whatever goff and gsize: a length above 4 plus gsize says that it has more data than the buffer has room
+ * for. Its place is in the block dir.pair[0], and its data end at or before dir.off. gdisk is the global state on
  * disk: a pending move hides its entry. At most LANOLIN_BUFFER_MAX bytes of buffer. */
 lanolin_got lanolin_getslice(lanolin_geometry g, const uint8_t *b0, size_t b0_len, const uint8_t *b1, size_t b1_len,
                              uint32_t n0, uint32_t n1, lanolin_mdir dir, lanolin_gstate gdisk,

@@ -1,5 +1,6 @@
 /* Fetches every pair of samples/real/ and looks up each name, struct, size and attribute, all 256 attribute types of
- * each slot: they must be what the littlefs that wrote the pairs shows (shown.txt; README.md there has its lines).
+ * each slot: they must be what the littlefs that wrote the pairs shows (shown.txt; README.md there has its lines), and
+ * stand in the block where the answer says.
  *
  *     real_test samples/real        prints each difference and exits 1, or one line with what was compared */
 #include "lanolin.h"
