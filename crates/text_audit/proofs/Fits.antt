@@ -10,8 +10,8 @@ use Rattle.format.specs.Log.{log}
 use Rattle.format.specs.Regular.{Regular}
 use Rattle.format.specs.Directory.{Load, Slot, dirOf}
 use Rattle.format.specs.Listing.{ascii, decimal, numberLine, refusedLine, fetchInput}
-use Rattle.format.specs.Audit.{lacksDeadline, lacksPayload, nameOrDash, lackLine, auditLine, auditLines, tally}
-use Rattle.format.specs.Audit.{totalLines, slotsAudit, blockAudit, auditAs}
+use Rattle.format.specs.Audit.{deadlineClass, lacksDeadline, lacksPayload, nameOrDash, lackLine, deadlineLine}
+use Rattle.format.specs.Audit.{auditLine, auditLines, tally, totalLines, slotsAudit, blockAudit, auditAs}
 use Rattle.format.specs.declared.LfsPair.{LfsPair}
 use Rattle.format.specs.declared.LfsMdir.{LfsMdir}
 use Rattle.format.specs.declared.Refusal.the-variants.{Irregular}
@@ -39,17 +39,30 @@ lack-short id o what h k =
       name-short o h,
     )
 
-line-short : (id : ℕ) (s : Slot) → OkSlot s → length (auditLine id s) ≤ 4_117
+deadline-short : (id : ℕ) (o v : Option Load) → Short o → length (deadlineLine id o v) ≤ 4_134
+unfolding deadlineLine
+deadline-short id o none h = omega (arith, lack-short id o (ascii " no deadline\n") h (omega arith))
+deadline-short id o (some v) h =
+    let N : List ℕ = decimal (length (v .bytes)) ++ ascii " bytes\n" in
+    omega (
+      arith,
+      length-append (lackLine id o (ascii " deadline of ")) N,
+      length-append (decimal (length (v .bytes))) (ascii " bytes\n"),
+      lack-short id o (ascii " deadline of ") h (omega arith),
+      decimal-short 10 (length (v .bytes)),
+    )
+
+line-short : (id : ℕ) (s : Slot) → OkSlot s → length (auditLine id s) ≤ 4_134
 unfolding auditLine
 line-short id s ok = go (lacksDeadline s) (lacksPayload s)
   where
-    go : (x y : Bool) → length (cond x (lackLine id (s 0) (ascii " no deadline\n"))
-        (cond y (lackLine id (s 0) (ascii " no payload\n")) [])) ≤ 4_117
-    go true y = lack-short id (s 0) (ascii " no deadline\n") (slot-loads s ok 0) (omega arith)
-    go false true = lack-short id (s 0) (ascii " no payload\n") (slot-loads s ok 0) (omega arith)
+    go : (x y : Bool) → length (cond x (deadlineLine id (s 0) (s deadlineClass))
+        (cond y (lackLine id (s 0) (ascii " no payload\n")) [])) ≤ 4_134
+    go true y = deadline-short id (s 0) (s deadlineClass) (slot-loads s ok 0)
+    go false true = omega (arith, lack-short id (s 0) (ascii " no payload\n") (slot-loads s ok 0) (omega arith))
     go false false = omega arith
 
-lines-short : (D : List Slot) (id : ℕ) → OkSlots D → length (auditLines id D) ≤ length D * 4_117
+lines-short : (D : List Slot) (id : ℕ) → OkSlots D → length (auditLines id D) ≤ length D * 4_134
 unfolding auditLines
 lines-short [] id h = omega arith
 lines-short (s ∷ D) id h =
@@ -77,7 +90,7 @@ totals-short d p n =
       e,
     )
 
-slots-short : (D : List Slot) → OkSlots D → length (slotsAudit D) ≤ length D * 4_117 + 89
+slots-short : (D : List Slot) → OkSlots D → length (slotsAudit D) ≤ length D * 4_134 + 89
 unfolding slotsAudit
 slots-short D h =
     let T : List ℕ = totalLines (tally lacksDeadline D) (tally lacksPayload D) (length D) in

@@ -1,6 +1,7 @@
 -- One slot, one slot more, and a block: the text and the two counts go together. Assumes nothing.
 use mathlib.Core.Path.{_≡_, refl, sym, ap, _∙_}
 use mathlib.Core.Bool.{Bool, true, false, not, cond, _&&_}
+use mathlib.Core.Option.{Option}
 use mathlib.Core.List.{List, [], _∷_, _++_}
 use Prim.Native.Nat.{ℕ, suc, _+_, _^_, _≤_, _<_}
 use native.Mathlib.Numerals.{add-one}
@@ -10,63 +11,81 @@ use lib.Seq.{drop-cons}
 use borrow.Author.Tests.{not-true, not-false}
 use Rattle.format.specs.Log.{log}
 use Rattle.format.specs.Regular.{Regular}
-use Rattle.format.specs.Directory.{classes, Slot, empty, dirOf}
+use Rattle.format.specs.Directory.{classes, Load, Slot, empty, dirOf}
 use Rattle.format.specs.Listing.{ascii, numberLine, refusedLine}
-use Rattle.format.specs.Audit.{isInstruction, isPayload, isDeadline, deadlineClass, lacksDeadline, lacksPayload}
-use Rattle.format.specs.Audit.{lackLine, auditLine, auditLines, tally, totalLines, slotsAudit, blockAudit}
+use Rattle.format.specs.Audit.{isInstruction, isPayload, isDeadline, isThere, deadlineClass, lacksDeadline}
+use Rattle.format.specs.Audit.{lacksPayload, lackLine, deadlineLine, auditLine, auditLines, tally, totalLines}
+use Rattle.format.specs.Audit.{slotsAudit, blockAudit}
 use Rattle.format.specs.declared.LfsMdir.{LfsMdir}
+use Rattle.format.specs.declared.Hit.{Hit}
 use Rattle.format.specs.declared.Refusal.the-variants.{Irregular}
+use Rattle.theory.specs.Lookup.ByMask.{holds}
 use Rattle.text.specs.Put.{Text, text, putsOf}
 use Rattle.text.proofs.Joined.{puts-none, join}
-use Rattle.compact_slot.specs.Slots.{Slots, slotIn}
-use Rattle.compact_slot.specs.Held.{AllInside}
+use Rattle.compact_slot.specs.Seat.{hitAt}
+use Rattle.compact_slot.specs.Slots.{Slots, slotIn, AllInside}
 use Rattle.text_input.proofs.Slots.{Shown, slots-next, slots-done}
 use Rattle.text_audit.specs.Audited.{Told, Few, SlotAudited, SlotsAudited}
 use Rattle.text_audit.specs.declared.Audit.{Audit}
 
--- ---- what the three seats tell: x instruction, y payload, z deadline
-module _ (b seats : List ℕ) (i : AllInside b seats) (x y z : Bool) (ex : Told isInstruction (getD seats 0 0) x)
-    (ey : Told isPayload (getD seats 1 0) y)
-    (ez : Told isDeadline (getD seats deadlineClass 0) z) where
-  pub tells-deadline : x && (y && not z) ≡ lacksDeadline (slotIn b seats)
-  unfolding lacksDeadline
-  tells-deadline = rw (ex b (i 0 (omega arith)), ey b (i 1 (omega arith)), ez b (i deadlineClass (omega arith)))
+-- ---- what the seats tell: of h, that of class c, an answer
+module _ (b seats : List ℕ) (i : AllInside b seats) where
+  told : (asks : Option Load → Bool) (c : ℕ) → c < classes → (h : Hit) → h ≡ hitAt seats c → (x : Bool)
+      → Told asks h x → x ≡ asks (slotIn b seats c)
+  told asks c l h e x t = t b (rw e (i c l)) ∙ ap (λ (k : Hit). asks (holds b k)) e
 
-  pub tells-payload : x && (z && not y) ≡ lacksPayload (slotIn b seats)
-  unfolding lacksPayload
-  tells-payload = rw (ex b (i 0 (omega arith)), ey b (i 1 (omega arith)), ez b (i deadlineClass (omega arith)))
+  -- x instruction, y payload, z deadline, w whether it is there
+  module _ (n p d : Hit) (en : n ≡ hitAt seats 0) (ep : p ≡ hitAt seats 1) (ed : d ≡ hitAt seats deadlineClass)
+      (x y : Bool) (ex : Told isInstruction n x) (ey : Told isPayload p y) where
+    pub tells-deadline : (z : Bool) → Told isDeadline d z → x && (y && not z) ≡ lacksDeadline (slotIn b seats)
+    unfolding lacksDeadline
+    tells-deadline z ez = rw (
+      told isInstruction 0 (omega arith) n en x ex,
+      told isPayload 1 (omega arith) p ep y ey,
+      told isDeadline deadlineClass (omega arith) d ed z ez,
+    )
+
+    pub tells-payload : (w : Bool) → Told isThere d w → x && (w && not y) ≡ lacksPayload (slotIn b seats)
+    unfolding lacksPayload
+    tells-payload w ew = rw (
+      told isInstruction 0 (omega arith) n en x ex,
+      told isPayload 1 (omega arith) p ep y ey,
+      told isThere deadlineClass (omega arith) d ed w ew,
+    )
 
 -- a slot lacks one of the two
-one-lacks : (x y z : Bool) → x && (y && not z) ≡ true → x && (z && not y) ≡ false
-one-lacks false y z h = refl
-one-lacks true true true h = refl
-one-lacks true true false h = refl
-one-lacks true false true h = cc
-one-lacks true false false h = refl
+one-lacks : (x y z w : Bool) → x && (y && not z) ≡ true → x && (w && not y) ≡ false
+one-lacks false y z w h = refl
+one-lacks true true z true h = refl
+one-lacks true true z false h = refl
+one-lacks true false z w h = cc
 
 lacks-one : (s : Slot) → lacksDeadline s ≡ true → lacksPayload s ≡ false
 unfolding lacksDeadline lacksPayload
-lacks-one s h = one-lacks (isInstruction (s 0)) (isPayload (s 1)) (isDeadline (s deadlineClass)) h
+lacks-one s h = one-lacks (isInstruction (s 0)) (isPayload (s 1)) (isDeadline (s deadlineClass))
+    (isThere (s deadlineClass)) h
 
--- ---- a slot: x and y are what the code tests, n is where its line ends
-module _ (a : Audit) (out out′ : List ℕ) (n id : ℕ) (s : Slot) (x : Bool) (ex : x ≡ lacksDeadline s) where
-  pub slot-no-deadline : x ≡ true → text n out′ ≡ putsOf (text (a .at) out) (lackLine id (s 0) (ascii " no deadline\n"))
+-- ---- a slot: x and y are what the code tests, n is where its line ends; u and v are its name and its attribute
+module _ (a : Audit) (out out′ : List ℕ) (n id : ℕ) (s : Slot) (u : Option Load) (eu : u ≡ s 0) (x : Bool)
+    (ex : x ≡ lacksDeadline s) where
+  pub slot-no-deadline : x ≡ true → (v : Option Load) → v ≡ s deadlineClass
+      → text n out′ ≡ putsOf (text (a .at) out) (deadlineLine id u v)
       → SlotAudited a out (record { at = n; «no_deadline» = a .«no_deadline» + 1; «no_payload» = a .«no_payload» }) out′
       id s
   unfolding auditLine
-  slot-no-deadline h e =
+  slot-no-deadline h v ev e =
       let d : lacksDeadline s ≡ true = sym ex ∙ h in
-      record { line = rw d e; deadline = rw d; payload = rw (lacks-one s d) (omega arith) }
+      record { line = rw (d, ← eu, ← ev) e; deadline = rw d; payload = rw (lacks-one s d) (omega arith) }
 
   module _ (y : Bool) (ey : y ≡ lacksPayload s) (g : x ≡ false) where
-    pub slot-no-payload : y ≡ true → text n out′ ≡ putsOf (text (a .at) out) (lackLine id (s 0) (ascii " no payload\n"))
+    pub slot-no-payload : y ≡ true → text n out′ ≡ putsOf (text (a .at) out) (lackLine id u (ascii " no payload\n"))
         → SlotAudited a out (record { at = n; «no_deadline» = a .«no_deadline»; «no_payload» = a .«no_payload» + 1 })
         out′ id s
     unfolding auditLine
     slot-no-payload h e =
         let d : lacksDeadline s ≡ false = sym ex ∙ g in
         let p : lacksPayload s ≡ true = sym ey ∙ h in
-        record { line = rw (d, p) e; deadline = rw d (omega arith); payload = rw p }
+        record { line = rw (d, p, ← eu) e; deadline = rw d (omega arith); payload = rw p }
 
     pub slot-whole : y ≡ false → SlotAudited a out a out id s
     unfolding auditLine
@@ -93,7 +112,7 @@ payload-same s t h = rw (h 0 (omega arith), h 1 (omega arith), h deadlineClass (
 
 line-same : (id : ℕ) (s t : Slot) → Same s t → auditLine id s ≡ auditLine id t
 unfolding auditLine
-line-same id s t h = rw (deadline-same s t h, payload-same s t h, h 0 (omega arith))
+line-same id s t h = rw (deadline-same s t h, payload-same s t h, h 0 (omega arith), h deadlineClass (omega arith))
 
 lines-next : (id : ℕ) (s : Slot) (D : List Slot) → auditLines id (s ∷ D) ≡ auditLine id s ++ auditLines (suc id) D
 unfolding auditLines

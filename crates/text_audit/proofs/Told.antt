@@ -1,74 +1,98 @@
--- What stands at a seat tells whether a slot is an instruction, has a payload, has a deadline; and its name is shown.
--- Assumes nothing.
+-- What was found tells whether a slot is an instruction, has a payload, has a deadline; and its name is shown. Assumes
+-- nothing.
 use mathlib.Core.Path.{_≡_, refl, sym, ap, _∙_}
 use mathlib.Core.Bool.{Bool, true, false, not, _&&_, _||_}
 use mathlib.Core.Option.{Option}
 use mathlib.Core.List.{List, _++_}
-use Prim.Native.Nat.{ℕ, _-_}
+use Prim.Native.Nat.{ℕ, _-_, _≤_}
 use native.Mathlib.Omega.{arith}
-use lib.ListN.{take, drop}
+use lib.ListN.{length}
 use lib.Dec.{ltb, eqb}
-use borrow.Author.Tests.{ltb-true, ltb-false, lt-ltb, le-ltb}
+use borrow.Author.Tests.{ltb-true, ltb-false, lt-ltb, le-ltb, eqb-true, eqb-false, eq-eqb, ne-eqb}
+use Rattle.format.specs.Tag.{tagType3}
+use Rattle.format.specs.Look.{bytesOf, FoundIn, HitIn}
 use Rattle.format.specs.Directory.{Load}
 use Rattle.format.specs.Listing.{ascii, decimal, nameBytes}
-use Rattle.format.specs.Audit.{isInstruction, isPayload, isDeadline, nameOrDash, lackLine}
+use Rattle.format.specs.Audit.{isInstruction, isPayload, isDeadline, isThere, nameOrDash, lackLine, deadlineLine}
+use Rattle.format.specs.declared.Found.{Found}
+use Rattle.format.specs.declared.Hit.{Hit}
+use Rattle.format.specs.declared.Hit.the-variants as hit
+use Rattle.theory.specs.Lookup.ByMask.{holds}
 use Rattle.text.specs.Put.{Text, putsOf}
 use Rattle.text.proofs.Joined.{join}
-use Rattle.compact_slot.specs.Seat.{loadIn}
-use Rattle.compact_slot.specs.Held.{Stands}
-use Rattle.compact_slot.specs.declared.Held.{Held}
-use Rattle.compact_slot.proofs.Stands.{missing, there, bytes-length}
+use Rattle.compact_slot.proofs.Entries.{missing, there, whole, bytes-length, part, part-is}
 use Rattle.text_audit.specs.Audited.{Told}
 
--- some bytes are between two places
-more-than-none : (from to : ℕ) → ltb from to ≡ ltb 0 (to - from)
-more-than-none from to = go (ltb from to) refl
+-- some bytes are behind the tag's four
+some-bytes : (n : ℕ) → ltb 4 n ≡ ltb 0 (n - 4)
+some-bytes n = go (ltb 4 n) refl
   where
-    go : (x : Bool) → ltb from to ≡ x → x ≡ ltb 0 (to - from)
-    go true e = sym (lt-ltb 0 (to - from) (omega (arith, ltb-true from to e)))
-    go false e = sym (le-ltb 0 (to - from) (omega (arith, ltb-false from to e)))
+    go : (x : Bool) → ltb 4 n ≡ x → x ≡ ltb 0 (n - 4)
+    go true e = sym (lt-ltb 0 (n - 4) (omega (arith, ltb-true 4 n e)))
+    go false e = sym (le-ltb 0 (n - 4) (omega (arith, ltb-false 4 n e)))
 
--- ---- what stands at the seat v is p
-module _ (v : ℕ) (p : Held) (st : Stands v p) where
-  pub instruction-nameless : not (p .held) ≡ true → Told isInstruction v true
-  unfolding isInstruction
-  instruction-nameless h b i = ap isInstruction (missing b v p st h)
+-- four of them
+four-bytes : (n : ℕ) → 4 ≤ n → eqb n 8 ≡ eqb (n - 4) 4
+four-bytes n h = go (eqb n 8) refl
+  where
+    go : (x : Bool) → eqb n 8 ≡ x → x ≡ eqb (n - 4) 4
+    go true e = sym (eq-eqb (n - 4) 4 (omega (arith, eqb-true n 8 e)))
+    go false e = let f = eqb-false n 8 e in sym (ne-eqb (n - 4) 4 (λ q. f (omega arith)))
 
-  pub payload-missing : not (p .held) ≡ true → Told isPayload v false
-  unfolding isPayload
-  payload-missing h b i = ap isPayload (missing b v p st h)
+-- ---- what was found is h
+module _ (h : Hit) where
+  module _ (q : h ≡ hit.Nothing) where
+    pub instruction-nameless : Told isInstruction h true
+    unfolding isInstruction
+    instruction-nameless b i = ap isInstruction (missing b h q)
 
-  pub instruction-named : not (p .held) ≡ false
-      → Told isInstruction v (not (eqb (p .kind) 0x002) && not (eqb (p .kind) 0x0ff))
-  unfolding isInstruction
-  instruction-named h b i = ap isInstruction (there b v p st h)
+    pub payload-missing : Told isPayload h false
+    unfolding isPayload
+    payload-missing b i = ap isPayload (missing b h q)
 
-  pub payload-there : not (p .held) ≡ false
-      → Told isPayload v (eqb (p .kind) 0x202 || (eqb (p .kind) 0x201 && ltb (p .from) (p .to)))
-  unfolding isPayload
-  payload-there h b i =
-      ap (λ (z : Bool). eqb (p .kind) 0x202 || (eqb (p .kind) 0x201 && z))
-      (more-than-none (p .from) (p .to) ∙ ap (ltb 0) (sym (bytes-length b v p st i)))
-      ∙ ap isPayload (there b v p st h)
+    pub deadline-missing : Told isDeadline h false
+    unfolding isDeadline
+    deadline-missing b i = ap isDeadline (missing b h q)
 
-  pub deadline-held : Told isDeadline v (p .held)
-  unfolding isDeadline
-  deadline-held b i = go (p .held) refl
-    where
-      go : (x : Bool) → p .held ≡ x → x ≡ isDeadline (loadIn b v)
-      go true e = ap isDeadline (there b v p st (ap not e))
-      go false e = ap isDeadline (missing b v p st (ap not e))
+    pub not-there : Told isThere h false
+    unfolding isThere
+    not-there b i = ap isThere (missing b h q)
 
-  -- ---- the name, in the block b
-  module _ (b : List ℕ) (s r : Text) where
-    pub dash-shown : not (p .held) ≡ true → r ≡ putsOf s (ascii "-") → r ≡ putsOf s (nameOrDash (loadIn b v))
+    pub dash-shown : (b : List ℕ) (s r : Text) → r ≡ putsOf s (ascii "-") → r ≡ putsOf s (nameOrDash (holds b h))
     unfolding nameOrDash
-    dash-shown h er = er ∙ ap (λ (l : Option Load). putsOf s (nameOrDash l)) (missing b v p st h)
+    dash-shown b s r er = er ∙ ap (λ (l : Option Load). putsOf s (nameOrDash l)) (missing b h q)
 
-    pub name-shown : not (p .held) ≡ false → r ≡ putsOf s (nameBytes (take (p .to - p .from) (drop (p .from) b)))
-        → r ≡ putsOf s (nameOrDash (loadIn b v))
+  -- k is its type
+  module _ {e : Found} (q : h ≡ hit.Found e) where
+    pub instruction-named : (k : ℕ) → k ≡ tagType3 (e .tag)
+        → Told isInstruction h (not (eqb k 0x002) && not (eqb k 0x0ff))
+    unfolding isInstruction
+    instruction-named k ek b i = rw ek (ap isInstruction (there b h q))
+
+    pub payload-there : (k : ℕ) → k ≡ tagType3 (e .tag)
+        → Told isPayload h (eqb k 0x202 || (eqb k 0x201 && ltb 4 (e .length)))
+    unfolding isPayload
+    payload-there k ek b i =
+        rw ek (ap (λ (z : Bool). eqb (tagType3 (e .tag)) 0x202 || (eqb (tagType3 (e .tag)) 0x201 && z))
+        (some-bytes (e .length) ∙ ap (ltb 0) (sym (bytes-length b e (whole (length b) h i q))))
+        ∙ ap isPayload (there b h q))
+
+    pub deadline-there : Told isDeadline h (eqb (e .length) 8)
+    unfolding isDeadline
+    deadline-there b i =
+        let w : FoundIn (length b) e = whole (length b) h i q in
+        four-bytes (e .length) (w .counted) ∙ ap (λ (n : ℕ). eqb n 4) (sym (bytes-length b e w))
+        ∙ ap isDeadline (there b h q)
+
+    pub is-there : Told isThere h true
+    unfolding isThere
+    is-there b i = ap isThere (there b h q)
+
+    pub name-shown : (b : List ℕ) (s r : Text) → r ≡ putsOf s (nameBytes (part b e))
+        → r ≡ putsOf s (nameOrDash (holds b h))
     unfolding nameOrDash
-    name-shown h er = er ∙ ap (λ (l : Option Load). putsOf s (nameOrDash l)) (there b v p st h)
+    name-shown b s r er = er ∙ ap (λ (l : List ℕ). putsOf s (nameBytes l)) (part-is b e)
+        ∙ ap (λ (l : Option Load). putsOf s (nameOrDash l)) (there b h q)
 
 -- ---- a line: its parts, one behind the other
 pub lack-done : (id : ℕ) (name : Option Load) (what : List ℕ) (s t1 t2 t3 t4 r : Text) → t1 ≡ putsOf s (ascii "slot ")
@@ -80,3 +104,22 @@ lack-done id name what s t1 t2 t3 t4 r e1 e2 e3 e4 er =
     join s t1 r (ascii "slot ") (decimal id ++ (ascii " " ++ N)) e1
     (join t1 t2 r (decimal id) (ascii " " ++ N) e2
     (join t2 t3 r (ascii " ") N e3 (join t3 t4 r (nameOrDash name) what e4 er)))
+
+-- ---- a deadline that is missing, or of another length; h is what was found of it
+module _ (b : List ℕ) (id : ℕ) (name : Option Load) (h : Hit) (s : Text) where
+  pub deadline-none : h ≡ hit.Nothing → (r : Text) → r ≡ putsOf s (lackLine id name (ascii " no deadline\n"))
+      → r ≡ putsOf s (deadlineLine id name (holds b h))
+  unfolding deadlineLine
+  deadline-none q r er = er ∙ ap (λ (v : Option Load). putsOf s (deadlineLine id name v)) (missing b h q)
+
+  pub deadline-unread : {e : Found} → h ≡ hit.Found e → HitIn (length b) h → (t u r : Text)
+      → t ≡ putsOf s (lackLine id name (ascii " deadline of ")) → u ≡ putsOf t (decimal (e .length - 4))
+      → r ≡ putsOf u (ascii " bytes\n")
+      → r ≡ putsOf s (deadlineLine id name (holds b h))
+  unfolding deadlineLine
+  deadline-unread {e} q i t u r et eu er =
+      let n : e .length - 4 ≡ length (bytesOf b e) = sym (bytes-length b e (whole (length b) h i q)) in
+      join s t r (lackLine id name (ascii " deadline of ")) (decimal (length (bytesOf b e)) ++ ascii " bytes\n") et
+      (join t u r (decimal (length (bytesOf b e))) (ascii " bytes\n")
+      (eu ∙ ap (λ (k : ℕ). putsOf t (decimal k)) n) er)
+      ∙ ap (λ (v : Option Load). putsOf s (deadlineLine id name v)) (there b h q)

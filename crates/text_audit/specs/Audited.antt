@@ -4,15 +4,18 @@ use mathlib.Core.Bool.{Bool, cond}
 use mathlib.Core.Option.{Option}
 use mathlib.Core.List.{List}
 use Prim.Native.Nat.{ℕ, _+_, _^_, _<_}
+use lib.ListN.{length}
 use Rattle.format.specs.Directory.{Load, Slot}
 use Rattle.format.specs.Audit.{lacksDeadline, lacksPayload, auditLine, auditLines, tally}
 use Rattle.text.specs.Put.{text, putsOf}
-use Rattle.compact_slot.specs.Seat.{loadIn, Inside}
+use Rattle.format.specs.Look.{HitIn}
+use Rattle.format.specs.declared.Hit.{Hit}
+use Rattle.theory.specs.Lookup.ByMask.{holds}
 use Rattle.text_audit.specs.declared.Audit.{Audit}
 
--- the answer to a question about what stands at a seat, in whatever block
-abbrev pub Told : (Option Load → Bool) → ℕ → Bool → Type 0
-Told asks seat answer = (b : List ℕ) → Inside b seat → answer ≡ asks (loadIn b seat)
+-- the answer to a question about what was found, in whatever block
+abbrev pub Told : (Option Load → Bool) → Hit → Bool → Type 0
+Told asks h answer = (b : List ℕ) → HitIn (length b) h → answer ≡ asks (holds b h)
 
 -- one more can be counted
 pub record Few (a : Audit) : Type 0 where

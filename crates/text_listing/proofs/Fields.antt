@@ -2,11 +2,11 @@
 use mathlib.Core.Path.{_≡_, refl, sym, ap, _∙_}
 use mathlib.Core.Option.{Option}
 use mathlib.Core.List.{List, [], _∷_, _++_}
-use Prim.Native.Nat.{ℕ, _+_, _-_}
+use Prim.Native.Nat.{ℕ, _-_}
 use native.Mathlib.Omega.{arith}
-use lib.ListN.{length, take, drop}
+use lib.ListN.{length}
 use Rattle.format.specs.Tag.{tagType3}
-use Rattle.format.specs.Look.{dataSize, bytesOf, HitIn}
+use Rattle.format.specs.Look.{bytesOf, HitIn}
 use Rattle.format.specs.Directory.{Load}
 use Rattle.format.specs.Listing.{ascii, decimal, hexType, hexBytes, nameBytes, numberLine, nameFields, structFields}
 use Rattle.format.specs.Listing.{attrData, attrLine}
@@ -16,16 +16,7 @@ use Rattle.format.specs.declared.Hit.the-variants as hit
 use Rattle.theory.specs.Lookup.ByMask.{holds}
 use Rattle.text.specs.Put.{Text, putsOf}
 use Rattle.text.proofs.Joined.{puts-none, join}
-use Rattle.compact_slot.proofs.Entries.{missing, there, whole, bytes-length}
-
--- ---- what the code reads of an entry, from its place to its end, are its bytes
-abbrev pub part : List ℕ → Found → List ℕ
-part b e = take (e .off + dataSize e - e .off) (drop (e .off) b)
-
-part-is : (b : List ℕ) (e : Found) → part b e ≡ bytesOf b e
-part-is b e =
-    let n : e .off + dataSize e - e .off ≡ dataSize e = omega arith in
-    ap (λ (k : ℕ). take k (drop (e .off) b)) n
+use Rattle.compact_slot.proofs.Entries.{missing, there, whole, bytes-length, part, part-is}
 
 -- ---- the fields that show what was found, h
 module _ (b : List ℕ) (h : Hit) (s : Text) where

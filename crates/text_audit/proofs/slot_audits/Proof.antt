@@ -59,5 +59,5 @@ returns c = run-done _ _ _ _ _ (c .before .loop .inv .2)
 pub slot-audits-spec : {M : Type 1} → statement M
 slot-audits-spec =
     tie.close
-    (tie.spec Inv-loop μ-loop loop-holds (λ c. omega arith) gather-requires slot-audit-requires (λ c. omega arith)
+    (tie.spec Inv-loop μ-loop loop-holds gather-requires slot-audit-requires (λ c. omega arith)
     (λ c. omega arith) loop-again same-length returns)
