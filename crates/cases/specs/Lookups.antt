@@ -56,7 +56,7 @@ left key = getBuffer (sized 128) listing (blank 128) 0 1 listed (stateOf 0) 0x7f
 
 -- The listing's deadline, 90 5f 01 00, under a key of size 5: four bytes read, one zeroed, and the sixth of the buffer
 -- stays.
-pub deadline-got : answered 0x3740_0005 ≡ got.Found 0x3740_0004
+pub deadline-got : answered 0x3740_0005 ≡ got.Found (record { tag = 0x3740_0004; length = 8; off = 27 })
 unfolding getOf getFits getsliceOf getsliceFits recordFits geometryFits pairFits
     searched back backs wlook splicedAt asIds be32 xor tagLength tagOf
 deadline-got = refl
@@ -74,6 +74,26 @@ short-refused = refl
 pub short-left : left 0x3740_0007 ≡ nines
 unfolding getBuffer getFits
 short-left = refl
+
+-- ---- document 02, L3: "Our deadline reader passes a 4-byte buffer and can't see that an attribute was longer." A block
+-- of one attribute 0x74 of slot 0 with six bytes, its tag at 4; the record ends behind it. Through a buffer of four, or
+-- of none, from offset 0 or 5, the answer says all of it: 4 + 6, and that the data begin at 8.
+abbrev sixTag : ℕ
+sixTag = 0x3740_0006
+
+abbrev six : List ℕ
+six = replicate 4 0 ++ toBe32 (xor allOnes sixTag) ++ (1 ∷ 2 ∷ 3 ∷ 4 ∷ 5 ∷ 6 ∷ []) ++ blank 114
+
+abbrev sixFound : ℕ → ℕ → Got
+sixFound offset size = getsliceOf (sized 128) six (blank 128) 0 1 (ending 14 sixTag) (stateOf 0) 0x7fff_fc00 0x3740_0000
+    offset (blankBuffer size)
+
+pub six-told : (sixFound 0 4 ≡ got.Found (record { tag = sixTag; length = 10; off = 8 }))
+    × (sixFound 0 0 ≡ got.Found (record { tag = sixTag; length = 10; off = 8 }))
+    × (sixFound 5 1 ≡ got.Found (record { tag = sixTag; length = 10; off = 8 }))
+unfolding getsliceOf getsliceFits recordFits geometryFits pairFits
+    searched back backs wlook splicedAt asIds be32 toBe32 xor tagLength tagOf
+six-told = (refl, refl, refl)
 
 -- ---- `lfs_dir_getgstate`: "a found answer with bit 31 set isn't an error". The end tag of a made-up record has it,
 -- type 0x7ff and size 0 at end 8, so nothing is read and twelve zeros are XORed; or size 12 at end 20, so that twelve

@@ -85,9 +85,10 @@ byType1 = 0x700f_fc00
 abbrev byType3 : ℕ
 byType3 = 0x7fff_fc00
 
--- the name of slot 0: its tag, and the name in a buffer of six bytes, the rest of it zeroed
+-- the name of slot 0: its tag, its stored length, where its data begin behind the tag at 8; and the name in a buffer of
+-- six bytes, the rest of it zeroed
 pub name-found : getsliceOf geometry listing (blank 128) 0 1 listed still byType1 0x0000_0000 0 (blank 6)
-    ≡ got.Found 0x0010_0004
+    ≡ got.Found (record { tag = 0x0010_0004; length = 8; off = 12 })
 unfolding getsliceOf getsliceFits recordFits geometryFits pairFits searched back backs wlook splicedAt asIds be32 xor
     tagLength tagOf
 name-found = refl
@@ -98,9 +99,9 @@ unfolding getsliceBuffer getsliceFits recordFits geometryFits pairFits searched 
     xor tagLength tagOf
 name-read = refl
 
--- the deadline, two bytes of it from offset 1
+-- the deadline, two bytes of it from offset 1: length and place are the entry's all the same
 pub deadline-found : getsliceOf geometry listing (blank 128) 0 1 listed still byType3 0x3740_0000 1 (blank 2)
-    ≡ got.Found 0x3740_0004
+    ≡ got.Found (record { tag = 0x3740_0004; length = 8; off = 27 })
 unfolding getsliceOf getsliceFits recordFits geometryFits pairFits searched back backs wlook splicedAt asIds be32 xor
     tagLength tagOf
 deadline-found = refl
