@@ -28,7 +28,8 @@ use Rattle.cases.specs.Listing.{q212, abc, deadline, blank, listing}
 -- payload and deadline in one commit
 pub together : auditOf (listing ++ blank 128)
     ≡ ascii "payload without deadline 0\ndeadline without payload 0\nslots 1\n"
-unfolding fetchInput blockAudit slotsAudit totalLines tally auditLines auditLine deadlineLine lackLine nameOrDash lacksPayload
+unfolding fetchInput blockAudit slotsAudit totalLines tally auditLines auditLine deadlineLine lackLine nameOrDash
+    lacksPayload
     lacksDeadline isDeadline isThere isPayload isInstruction refusedLine numberLine nameBytes nameByte isPlain decimalIn
     hexDigit dirOf acts act dir apply upd empty Regular regularFrom ruleOf ruleHolds countAfter fetchOf mdirOf erasedOf
     tooHigh pairFits geometryFits view rank seedOf forwardOf splitOf tailOf countOf counted stoppedStraight tagAfter
@@ -51,7 +52,8 @@ apart =
 
 pub lost : auditOf (apart ++ blank 128)
     ≡ ascii "slot 0 q212 no deadline\npayload without deadline 1\ndeadline without payload 0\nslots 1\n"
-unfolding fetchInput blockAudit slotsAudit totalLines tally auditLines auditLine deadlineLine lackLine nameOrDash lacksPayload
+unfolding fetchInput blockAudit slotsAudit totalLines tally auditLines auditLine deadlineLine lackLine nameOrDash
+    lacksPayload
     lacksDeadline isDeadline isThere isPayload isInstruction refusedLine numberLine nameBytes nameByte isPlain decimalIn
     hexDigit dirOf acts act dir apply upd empty Regular regularFrom ruleOf ruleHolds countAfter fetchOf mdirOf erasedOf
     tooHigh pairFits geometryFits view rank seedOf forwardOf splitOf tailOf countOf counted stoppedStraight tagAfter
@@ -72,6 +74,7 @@ pub lengths : (auditLine 8 (slotOf abc deadline) ≡ [])
     × (auditLine 8 (slotOf abc []) ≡ ascii "slot 8 q212 deadline of 0 bytes\n")
     × (auditLine 8 (slotOf [] deadline) ≡ ascii "slot 8 q212 no payload\n")
     × (auditLine 8 (slotOf [] (1 ∷ 2 ∷ [])) ≡ ascii "slot 8 q212 no payload\n")
-unfolding auditLine deadlineLine lackLine nameOrDash lacksPayload lacksDeadline isDeadline isThere isPayload isInstruction
+unfolding auditLine deadlineLine lackLine nameOrDash lacksPayload lacksDeadline isDeadline isThere isPayload
+    isInstruction
     nameBytes nameByte isPlain decimalIn
 lengths = (refl, refl, refl, refl, refl)

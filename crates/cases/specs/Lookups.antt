@@ -75,9 +75,9 @@ pub short-left : left 0x3740_0007 ≡ nines
 unfolding getBuffer getFits
 short-left = refl
 
--- ---- document 02, L3: "Our deadline reader passes a 4-byte buffer and can't see that an attribute was longer." A block
--- of one attribute 0x74 of slot 0 with six bytes, its tag at 4; the record ends behind it. Through a buffer of four, or
--- of none, from offset 0 or 5, the answer says all of it: 4 + 6, and that the data begin at 8.
+-- ---- document 02, L3: "Our deadline reader passes a 4-byte buffer and can't see that an attribute was longer." A
+-- block of one attribute 0x74 of slot 0 with six bytes, its tag at 4; the record ends behind it. Through a buffer of
+-- four, or of none, from offset 0 or 5, the answer says all of it: 4 + 6, and that the data begin at 8.
 abbrev sixTag : ℕ
 sixTag = 0x3740_0006
 

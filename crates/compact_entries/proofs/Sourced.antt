@@ -62,7 +62,8 @@ module _ (b : List ℕ) (e : Emit) (dir : LfsMdir) (d : Read b e dir) (s a : Sta
         let u : h ≡ wlook false maskMove (maskMove + 12) 0 (back b (logEnd (log b)) (logEndTag (log b)))
         = eh ∙ rw (em, et′, d .source .slots .ends, d .source .slots .endTag) in
         let m : holds b h ≡ moveOf none (log b)
-        = ap (holds b) u ∙ move-found b (log b) 12 refl (d .source .some) (R .base .reg) (R .base .eight) (omega arith) in
+        = ap (holds b) u ∙ move-found b (log b) 12 refl (d .source .some) (R .base .reg) (R .base .eight) (omega arith)
+        in
         let n : Answers noSlot h = rw u (move-answer b 12 (d .source .some) (d .source .slots .regular) (R .base .reg)
         (omega arith)) in
         er ∙ ap (emits t) (hit-items b noSlot h (hit-before (dir .off) (length b) h read-inside i) n)

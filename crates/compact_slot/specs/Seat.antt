@@ -61,7 +61,8 @@ pub record Gatherable (b : List ℕ) (end id : ℕ) : Type 0 where
   pub small : end ≤ 2 ^ 16
   pub slot : id ≤ mostSlots
 
--- what it leaves: at each class's seat stands what the search back finds, whole in the block, its tag with the slot's id
+-- what it leaves: at each class's seat stands what the search back finds, whole in the block, and its tag has the
+-- slot's id
 pub record Gathered (b : List ℕ) (l : List Act) (id : ℕ) (seats : List ℕ) : Type 0 where
   pub loads : (c : ℕ) → c < classes → holds b (hitAt seats c) ≡ find c id l
   pub inside : (c : ℕ) → c < classes → HitIn (length b) (hitAt seats c)

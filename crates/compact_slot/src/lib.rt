@@ -77,8 +77,8 @@ fn id_before(tag: u32, id: usize) -> usize
     id
 }
 
-// An entry takes its class's seat, if it is the slot's and no newer one has it. The slot's id is `slot` at the entry and
-// `id` now: the seat has the tag with that.
+// An entry takes its class's seat, if it is the slot's and no newer one has it. The slot's id is `slot` at the entry
+// and `id` now: the seat has the tag with that.
 fn note(seats: &mut [u32; 516], tag: u32, at: usize, slot: usize, id: u32)
     requires { ⌜ (at + 4 < 2 ^ 32) × (id < 2 ^ 10) ⌝ }
     ensures { λ _. ⌜ now (seats .exit) ≡ noted (now (seats .entry)) tag at slot id ⌝ }

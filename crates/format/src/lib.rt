@@ -90,8 +90,8 @@ pub enum Room {
     Refused(Refusal),
 }
 
-// An entry that was found: its tag with the difference added, so with the id that it has now; its stored length, "4 plus
-// size" (a removal is never found); and the offset in the block of its first data byte.
+// An entry that was found: its tag with the difference added, so with the id that it has now; its stored length, "4
+// plus size" (a removal is never found); and the offset in the block of its first data byte.
 #[repr(C)]
 pub struct Found {
     pub tag: u32,

@@ -12,4 +12,12 @@ use Rattle.format.specs.declared.Informed.{Informed}
 abbrev pub infoNamed : ℕ → List ℕ → Got → List ℕ → Informed
 infoNamed t name (got.Refused r) struct = infoRefused r
 infoNamed t name (got.Found u) struct =
-    record { answer = altered.Done; info = record { kind = tagType3 t % 2 ^ 8; size = infoSize (u .tag) struct; name = name } }
+    record {
+      answer = altered.Done;
+      info = record {
+        kind = tagType3 t % 2 ^ 8;
+        size = infoSize (u .tag) struct;
+        name =
+            name;
+      };
+    }

@@ -1,6 +1,7 @@
--- Document 02, L3: what the length and the place of a found answer say, of any bytes, numbers and records. The length is
--- the one that the answer's tag tells, the data stand before the record's end, and a buffer of their length gets them;
--- and the answer is the same whatever the offset and the buffer, so that a short buffer hides nothing. Assumes nothing.
+-- Document 02, L3: what the length and the place of a found answer say, of any bytes, numbers and records. The length
+-- is the one that the answer's tag tells, the data stand before the record's end, and a buffer of their length gets
+-- them; and the answer is the same whatever the offset and the buffer, so that a short buffer hides nothing. Assumes
+-- nothing.
 use mathlib.Core.Path.{_≡_, refl, sym, ap, _∙_}
 use mathlib.Core.Bool.{Bool, true, false, cond, _&&_}
 use mathlib.Core.List.{List, [], _∷_, _++_, append-nil}

@@ -34,24 +34,39 @@ module _ (b seats : List ℕ) (i : AllInside b seats) where
       → Told asks h x → x ≡ asks (slotIn b seats c)
   told asks c l h e x t = t b (rw e (i c l)) ∙ ap (λ (k : Hit). asks (holds b k)) e
 
-  -- x instruction, y payload, z deadline, w whether it is there
-  module _ (n p d : Hit) (en : n ≡ hitAt seats 0) (ep : p ≡ hitAt seats 1) (ed : d ≡ hitAt seats deadlineClass)
-      (x y : Bool) (ex : Told isInstruction n x) (ey : Told isPayload p y) where
-    pub tells-deadline : (z : Bool) → Told isDeadline d z → x && (y && not z) ≡ lacksDeadline (slotIn b seats)
-    unfolding lacksDeadline
-    tells-deadline z ez = rw (
-      told isInstruction 0 (omega arith) n en x ex,
-      told isPayload 1 (omega arith) p ep y ey,
-      told isDeadline deadlineClass (omega arith) d ed z ez,
-    )
+-- what the code has asked of a slot's seats: n, p and d are what was found of its name, its struct and its attribute, x
+-- tells whether it is an instruction, y whether it has a payload
+pub record Asked (b seats : List ℕ) (n p d : Hit) (x y : Bool) : Type 0 where
+  pub inside : AllInside b seats
+  pub name : n ≡ hitAt seats 0
+  pub struct : p ≡ hitAt seats 1
+  pub attribute : d ≡ hitAt seats deadlineClass
+  pub instruction : Told isInstruction n x
+  pub payload : Told isPayload p y
 
-    pub tells-payload : (w : Bool) → Told isThere d w → x && (w && not y) ≡ lacksPayload (slotIn b seats)
-    unfolding lacksPayload
-    tells-payload w ew = rw (
-      told isInstruction 0 (omega arith) n en x ex,
-      told isPayload 1 (omega arith) p ep y ey,
-      told isThere deadlineClass (omega arith) d ed w ew,
-    )
+module _ (b seats : List ℕ) (n p d : Hit) (x y : Bool) (k : Asked b seats n p d x y) where
+  told-name : x ≡ isInstruction (slotIn b seats 0)
+  told-name = told b seats (k .inside) isInstruction 0 (omega arith) n (k .name) x (k .instruction)
+
+  told-struct : y ≡ isPayload (slotIn b seats 1)
+  told-struct = told b seats (k .inside) isPayload 1 (omega arith) p (k .struct) y (k .payload)
+
+  -- z tells whether its deadline can be read, w whether it is there
+  pub tells-deadline : (z : Bool) → Told isDeadline d z → x && (y && not z) ≡ lacksDeadline (slotIn b seats)
+  unfolding lacksDeadline
+  tells-deadline z ez = rw (
+    told-name,
+    told-struct,
+    told b seats (k .inside) isDeadline deadlineClass (omega arith) d (k .attribute) z ez,
+  )
+
+  pub tells-payload : (w : Bool) → Told isThere d w → x && (w && not y) ≡ lacksPayload (slotIn b seats)
+  unfolding lacksPayload
+  tells-payload w ew = rw (
+    told-name,
+    told-struct,
+    told b seats (k .inside) isThere deadlineClass (omega arith) d (k .attribute) w ew,
+  )
 
 -- a slot lacks one of the two
 one-lacks : (x y z w : Bool) → x && (y && not z) ≡ true → x && (w && not y) ≡ false

@@ -30,4 +30,5 @@ pub slot-text-spec : {M : Type 1} → statement M
 slot-text-spec =
     tie.close
     (tie.spec (λ c. search needs) (λ c κs. search needs) (λ c κs. search needs) (λ c κs. search needs)
-    name-fields-requires (λ c κs. search needs) struct-fields-requires (λ c κs. search needs) (λ c. search needs) returns)
+    name-fields-requires (λ c κs. search needs) struct-fields-requires (λ c κs. search needs) (λ c. search needs)
+    returns)

@@ -161,7 +161,12 @@ slice-held b buffer i (hit.Found e) h a =
     let n : length (bytesOf b e) ≡ dataSize e
     = length-take-le (dataSize e) (drop (e .off) b) (omega (arith, h .inside, length-drop (e .off) b)) in
     let fits : leb (sliceEnd e 0 (length buffer)) (length b) ≡ true
-    = le-leb (sliceEnd e 0 (length buffer)) (length b) (omega (arith, h .inside, min-le-left (dataSize e) (length buffer)))
+    = le-leb (sliceEnd e 0 (length buffer)) (length b) (omega (
+      arith,
+      h .inside,
+      min-le-left (dataSize e) (length
+          buffer),
+    ))
     in
     let at : drop (e .off) b ≡ drop (sliceStart e 0) b = ap (λ (n : ℕ). drop n b) (sym (add-zero (e .off))) in
     let bytes : take (length buffer) (bytesOf b e)
