@@ -5,9 +5,9 @@ use libc::STDIN_FILENO;
 use text_args::Request;
 
 // The buffer has room for every text. A slot with a line has a create and a deadline, or a create and a struct of one
-// byte or more: eight bytes at least, and its line without the name has at most 24. One whose deadline can't be read has
-// all three, thirteen bytes at least, and its line at most 35. A byte of a name shows at most four. So a block of 32,768
-// bytes shows at most 4 * 32,768, and the three lines behind have at most 89 bytes.
+// byte or more: eight bytes at least, and its line without the name has at most 24. One whose deadline can't be read
+// has all three, thirteen bytes at least, and its line at most 35. A byte of a name shows at most four. So a block of
+// 32,768 bytes shows at most 4 * 32,768, and the three lines behind have at most 89 bytes.
 fn show(prog_size: u32, numbers: LfsPair, pair: &[u8]) {
     let mut text = [0u8; 131_200];
     let n = text_audit::lfs_dir_audit_as(prog_size, numbers, pair, &mut text);

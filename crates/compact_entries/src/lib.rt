@@ -142,6 +142,7 @@ pub fn entries(old: &[u8], new: &mut [u8], e: Emit, dir: LfsMdir) -> Emit
     let pair = dir.tail;
     let w = slots(old, new, e, end, etag, dir.count as u32);
     let w = tail(new, w, dir.split, pair);
+    // as lfs_dir_getgstate looks it up: no id, so that no pending move matters
     let gmask = tag::lfs_mktag(TYPE3_MASK, 0, 0);
     let gtag = tag::lfs_mktag(LFS_TYPE_MOVESTATE as u32, 0, 12);
     let h = lookup_search::find_back(old, dir.off, etag, gmask, gtag, 0);

@@ -29,7 +29,7 @@ module _ (t off diff : ℕ) where
       let size : tagLength t ≡ 4 + tagSize t = length-size t some in
       record { counted = omega arith; kept = omega arith; inside = omega arith }
 
--- nor does it stand behind a later end
+-- what stands before an end stands before a later one
 pub hit-before : (n m : ℕ) (h : Hit) → n ≤ m → HitIn n h → HitIn m h
 hit-before n m hit.Nothing l i = tt
 hit-before n m (hit.Found e) l i = record {

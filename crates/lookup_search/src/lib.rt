@@ -1,6 +1,7 @@
 // The search of a lookup: the newest entry that a mask and a key match, met on the way back from the end of a block's
 // committed log. This is the loop of traverse.rs lfs_dir_getslice; what is done with the entry that it finds stands in
-// crate `lookup`. The functions require that the end is inside the block, and are for the crates of this repository.
+// crate `lookup`, and compaction finds its move state by it. The functions require that the end is inside the block,
+// and are for the crates of this repository.
 ghost use mathlib.Core.Path.{_≡_};
 ghost use mathlib.Core.Bool.{cond};
 ghost use Prim.Native.Nat.{_+_, _^_, _≤_, _<_};

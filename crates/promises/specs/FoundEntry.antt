@@ -14,12 +14,12 @@ use lib.Dec.{leb, ltb, eqb}
 use lib.IntN.{ℤ, pos, negsuc}
 use borrow.Author.Tests.{eqb-false}
 use Rattle.format.specs.Word.{plus32, minus32}
-use Rattle.format.specs.Tag.{tagId, tagSize, tagSplice, removalSize, tagDelete, tagLength}
+use Rattle.format.specs.Tag.{tagId, tagSize, tagSplice, removalSize, tagDelete}
 use Rattle.format.specs.Back.{Met, back}
 use Rattle.format.specs.Look.{foundAt, dataSize, bytesOf, asIds, splicedAt, createAt, diffAfter, wlook}
 use Rattle.format.specs.Gstate.{gstateHasMoveHere}
-use Rattle.format.specs.Lookup.{blockOf, hasIds, searchedFrom, searched, sliceStart, sliceEnd, sliceAnswer, sliceBuffer}
-use Rattle.format.specs.Lookup.{getsliceFits, getsliceOf, getsliceBuffer}
+use Rattle.format.specs.Lookup.{blockOf, hasIds, searchedFrom, searched, sliceStart, sliceEnd, getsliceFits}
+use Rattle.format.specs.Lookup.{getsliceOf, getsliceBuffer, getFits, getOf}
 use Rattle.format.specs.declared.Geometry.{Geometry}
 use Rattle.format.specs.declared.LfsMdir.{LfsMdir}
 use Rattle.format.specs.declared.LfsGstate.{LfsGstate}
@@ -153,3 +153,9 @@ module _ (g : Geometry) (b0 b1 : List ℕ) (n0 n1 : ℕ) (dir : LfsMdir) (gdisk 
           let rest : length buffer - dataSize e ≡ 0 = omega arith in
           rw (all, rest, add-zero (e .off)) (append-nil (bytesOf block e))
       go false k = cc
+
+  -- `lfs_dir_get` answers what that does from 0 on, so all of this is said of its answer too
+  pub get-found : (buffer : List ℕ) (e : Found) → getOf g b0 b1 n0 n1 dir gdisk mask key buffer ≡ got.Found e
+      → getsliceOf g b0 b1 n0 n1 dir gdisk mask key 0 (take (tagSize key) buffer) ≡ got.Found e
+  unfolding getOf
+  get-found buffer e h = behind (getFits key buffer) _ e h .1

@@ -1,5 +1,4 @@
 -- `compact_entries::found_entry` meets its contract: nothing, or one entry. Assumes nothing.
-use Rattle.format.specs.Look.{FoundIn}
 use Rattle.compact_slot.proofs.Entries.{whole}
 use borrow.Author.Needs.{needs}
 use Rattle.compact_entries.proofs.Written.{hit-missing, hit-made}

@@ -1,7 +1,7 @@
 -- `compact_slot::gather` meets its contract. The loop keeps what a free seat may still find (`Gathering`); the offset
 -- falls, and the slot's id grows by less than it. Assumes nothing.
 use mathlib.Core.List.{map}
-use Prim.Native.Nat.{_+_, _^_, _≤_, _<_}
+use Prim.Native.Nat.{_+_, _≤_}
 use native.Mathlib.Omega.{arith}
 use Rattle.format.specs.Back.{back}
 use Rattle.theory.specs.Back.BackActs.{seen}
