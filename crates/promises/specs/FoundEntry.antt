@@ -3,22 +3,20 @@
 -- them; and the answer is the same whatever the offset and the buffer, so that a short buffer hides nothing. Assumes
 -- nothing.
 use mathlib.Core.Path.{_≡_, refl, sym, ap, _∙_}
-use mathlib.Core.Bool.{Bool, true, false, cond, _&&_}
+use mathlib.Core.Bool.{Bool, true, false, cond}
 use mathlib.Core.List.{List, [], _∷_, _++_, append-nil}
 use Prim.Native.Nat.{ℕ, _+_, _-_, _%_, _^_, _≤_, min}
 use native.Mathlib.Nat.{add-zero, le-refl}
 use native.Mathlib.Omega.{arith}
 use lib.ListN.{length, take, drop, replicate}
-use lib.Bits.{bitAnd}
-use lib.Dec.{leb, ltb, eqb}
+use lib.Dec.{leb}
 use lib.IntN.{ℤ, pos, negsuc}
 use borrow.Author.Tests.{eqb-false}
 use Rattle.format.specs.Word.{plus32, minus32}
-use Rattle.format.specs.Tag.{tagId, tagSize, tagSplice, removalSize, tagDelete}
+use Rattle.format.specs.Tag.{tagSize, tagSplice, removalSize, tagDelete}
 use Rattle.format.specs.Back.{Met, back}
-use Rattle.format.specs.Look.{foundAt, dataSize, bytesOf, asIds, splicedAt, createAt, diffAfter, wlook}
-use Rattle.format.specs.Gstate.{gstateHasMoveHere}
-use Rattle.format.specs.Lookup.{blockOf, hasIds, searchedFrom, searched, sliceStart, sliceEnd, getsliceFits}
+use Rattle.format.specs.Look.{foundAt, dataSize, bytesOf, asIds, splicedAt, diffAfter}
+use Rattle.format.specs.Lookup.{blockOf, searched, sliceStart, sliceEnd, getsliceFits}
 use Rattle.format.specs.Lookup.{getsliceOf, getsliceBuffer, getFits, getOf}
 use Rattle.format.specs.declared.Geometry.{Geometry}
 use Rattle.format.specs.declared.LfsMdir.{LfsMdir}
@@ -31,6 +29,7 @@ use Rattle.format.specs.declared.Got.{Got}
 use Rattle.format.specs.declared.Got.the-variants as got
 use Rattle.format.proofs.Tags.{length-size}
 use Rattle.format.proofs.Searched.{slice-is}
+use Rattle.theory.specs.Lookup.WhatIsFound.{AllMet, searched-has}
 use Rattle.theory.specs.Lookup.AtStart.{searched-in}
 
 -- ---- the difference counts ids, so it leaves a tag's size alone
@@ -60,43 +59,21 @@ abbrev Sized : Hit → Type 0
 Sized hit.Nothing = Unit {0}
 Sized (hit.Found e) = e .length ≡ 4 + tagSize (e .tag)
 
-wlook-sized : (ids : Bool) (mask key d : ℕ) (ms : List Met) → Whole d → Sized (wlook ids mask key d ms)
-unfolding wlook
-wlook-sized ids mask key d [] h = tt
-wlook-sized ids mask key d (m ∷ ms) h =
-    go (splicedAt ids (m .tag) (minus32 key d) && eqb (m .tag) (createAt (minus32 key d)))
-    (eqb (bitAnd (m .tag) mask) (bitAnd (minus32 key next) mask)) (tagDelete (m .tag)) refl
-    (wlook-sized ids mask key next ms (after-whole ids (m .tag) key d h))
-  where
-    next : ℕ
-    next = diffAfter ids (m .tag) key d
+found-sized : (m : Met) (d : ℕ) → Whole d → tagDelete (m .tag) ≡ false
+    → Sized (hit.Found (foundAt (m .tag) (m .off) d))
+found-sized m d w e = length-size (m .tag) (eqb-false (tagSize (m .tag)) removalSize e)
+    ∙ ap (λ (n : ℕ). 4 + n) (sym (size-kept (m .tag) d w))
 
-    go : (created hits gone : Bool) → tagDelete (m .tag) ≡ gone → Sized (wlook ids mask key next ms)
-        → Sized (cond created hit.Nothing
-        (cond hits (cond gone hit.Nothing (hit.Found (foundAt (m .tag) (m .off) next))) (wlook ids mask key next ms)))
-    go true hits gone e k = tt
-    go false true true e k = tt
-    go false true false e k =
-        length-size (m .tag) (eqb-false (tagSize (m .tag)) removalSize e)
-        ∙ ap (λ (n : ℕ). 4 + n) (sym (size-kept (m .tag) next (after-whole ids (m .tag) key d h)))
-    go false false gone e k = k
+-- of the tags that are met nothing is asked
+any-met : (ms : List Met) → AllMet (λ (m : Met). Unit {0}) ms
+any-met [] = tt
+any-met (m ∷ ms) = (tt, any-met ms)
 
 searched-sized : (b : List ℕ) (dir : LfsMdir) (gdisk : LfsGstate) (mask key : ℕ) → Sized (searched b dir gdisk mask key)
-unfolding searched
 searched-sized b dir gdisk mask key =
-    go (hasIds mask && gstateHasMoveHere gdisk (dir .pair)) (eqb (tagId (gdisk .tag)) (tagId key))
-    (ltb (tagId (gdisk .tag)) (tagId key))
-  where
-    from : (d : ℕ) → Whole d → Sized (searchedFrom b dir mask key d)
-    from d h = wlook-sized (hasIds mask) mask key d (back b (dir .off) (dir .etag)) h
-
-    go : (p q r : Bool)
-        → Sized (cond p (cond q hit.Nothing (cond r (searchedFrom b dir mask key (minus32 0 (2 ^ 10)))
-        (searchedFrom b dir mask key 0))) (searchedFrom b dir mask key 0))
-    go true true r = tt
-    go true false true = from (minus32 0 (2 ^ 10)) refl
-    go true false false = from 0 refl
-    go false q r = from 0 refl
+    searched-has Sized (λ (m : Met). Unit {0}) Whole tt after-whole (λ m d _ w e. found-sized m d w e) b dir gdisk mask
+    key
+    refl refl (any-met (back b (dir .off) (dir .etag)))
 
 -- ---- an answer that is found is the search's
 behind : (test : Bool) (x : Got) (e : Found) → cond test x (got.Refused Invalid) ≡ got.Found e

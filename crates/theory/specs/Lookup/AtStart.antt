@@ -1,22 +1,20 @@
 -- A lookup at offset 0 on the bytes of a block: it reads nothing behind where the walk back begins, and it answers what
 -- the place it finds holds. Assumes nothing.
 use mathlib.Core.Path.{_≡_, refl, sym, ap, _∙_}
-use mathlib.Core.Bool.{Bool, true, false, cond, _&&_}
+use mathlib.Core.Bool.{Bool, true, false}
 use mathlib.Core.List.{List, [], _∷_}
 use Prim.Native.Nat.{ℕ, zero, suc, _+_, _-_, _%_, _^_, _≤_, _<_, min}
 use native.Mathlib.Omega.{arith}
 use native.Mathlib.Nat.{zero-add, add-zero, suc-add, min-zero, zero-min, suc-min-suc, min-le-left}
 use lib.ListN.{length, take, drop, getD, length-drop}
 use lib.Seq.{take-nil, take-take, getD-take, length-take-le}
-use lib.Bits.{bitAnd}
-use lib.Dec.{leb, ltb, eqb}
+use lib.Dec.{leb}
 use borrow.Author.Tests.{leb-true, le-leb}
-use Rattle.format.specs.Word.{be32, xor, minus32}
-use Rattle.format.specs.Tag.{tagId, tagDelete, tagLength}
+use Rattle.format.specs.Word.{be32, xor}
+use Rattle.format.specs.Tag.{tagLength}
 use Rattle.format.specs.Back.{Met, hop, backs, back}
-use Rattle.format.specs.Look.{foundAt, dataSize, bytesOf, HitIn, splicedAt, createAt, diffAfter, wlook}
-use Rattle.format.specs.Gstate.{gstateHasMoveHere}
-use Rattle.format.specs.Lookup.{hasIds, searchedFrom, searched, sliceStart, sliceEnd, sliceAnswer, sliceBuffer}
+use Rattle.format.specs.Look.{dataSize, bytesOf, HitIn, wlook}
+use Rattle.format.specs.Lookup.{searched, sliceStart, sliceEnd, sliceAnswer, sliceBuffer}
 use Rattle.format.specs.Answer.{gotWord}
 use Rattle.format.specs.declared.LfsMdir.{LfsMdir}
 use Rattle.format.specs.declared.Hit.{Hit}
@@ -26,12 +24,15 @@ use Rattle.format.specs.declared.LfsGstate.{LfsGstate}
 use Rattle.format.proofs.Words.{be32-at, tagLength-ge}
 use Rattle.format.proofs.Searched.{found-in}
 use Rattle.theory.specs.Lookup.ByMask.{holds, Answers}
+use Rattle.theory.specs.Lookup.WhatIsFound.{AllMet, wlook-has, searched-has}
 use Rattle.format.specs.Machine.{heldWord, heldBuffer}
 
 -- ---- what the walk back meets stands whole before n, and so does what the search finds there
+abbrev pub Within : ℕ → Met → Type 0
+Within n m = m .off + tagLength (m .tag) ≤ n
+
 abbrev pub MetIn : ℕ → List Met → Type 0
-MetIn n [] = Unit {0}
-MetIn n (m ∷ ms) = (m .off + tagLength (m .tag) ≤ n) × MetIn n ms
+MetIn n ms = AllMet (Within n) ms
 
 backs-in : (k : ℕ) (b : List ℕ) (off t n : ℕ) → off ≤ n → MetIn n (backs k b off t)
 unfolding backs
@@ -51,41 +52,16 @@ unfolding back
 back-in b off t n h = backs-in (suc off) b off t n h
 
 pub wlook-in : (n : ℕ) (ids : Bool) (mask key d : ℕ) (ms : List Met) → MetIn n ms → HitIn n (wlook ids mask key d ms)
-unfolding wlook
-wlook-in n ids mask key d [] h = tt
-wlook-in n ids mask key d (m ∷ ms) h =
-    go (splicedAt ids (m .tag) (minus32 key d) && eqb (m .tag) (createAt (minus32 key d)))
-    (eqb (bitAnd (m .tag) mask) (bitAnd (minus32 key (diffAfter ids (m .tag) key d)) mask)) (tagDelete (m .tag)) refl
-    (wlook-in n ids mask key (diffAfter ids (m .tag) key d) ms (h .1))
-  where
-    go : (a b c : Bool) → tagDelete (m .tag) ≡ c → HitIn n (wlook ids mask key (diffAfter ids (m .tag) key d) ms)
-        → HitIn n (cond a hit.Nothing
-        (cond b (cond c hit.Nothing (hit.Found (foundAt (m .tag) (m .off) (diffAfter ids (m .tag) key d))))
-        (wlook ids mask key (diffAfter ids (m .tag) key d) ms)))
-    go true b c e k = tt
-    go false true true e k = tt
-    go false true false e k = found-in (m .tag) (m .off) (diffAfter ids (m .tag) key d) n e (h .0)
-    go false false c e k = k
+wlook-in n ids mask key d ms h =
+    wlook-has (HitIn n) (Within n) (λ (d : ℕ). Unit {0}) tt (λ i t k d w. tt)
+    (λ m d w _ e. found-in (m .tag) (m .off) d n e w) ids mask key d ms tt h
 
 -- so a lookup whose record ends before n finds nothing behind n, with a pending move or without
 pub searched-in : (n : ℕ) (b : List ℕ) (dir : LfsMdir) (gdisk : LfsGstate) (mask key : ℕ) → dir .off ≤ n
     → HitIn n (searched b dir gdisk mask key)
-unfolding searched
 searched-in n b dir gdisk mask key h =
-    go (hasIds mask && gstateHasMoveHere gdisk (dir .pair)) (eqb (tagId (gdisk .tag)) (tagId key))
-    (ltb (tagId (gdisk .tag)) (tagId key)) (from (minus32 0 (2 ^ 10))) (from 0)
-  where
-    from : (d : ℕ) → HitIn n (searchedFrom b dir mask key d)
-    from d = wlook-in n (hasIds mask) mask key d (back b (dir .off) (dir .etag)) (back-in b (dir .off) (dir .etag) n h)
-
-    go : (p q r : Bool) → HitIn n (searchedFrom b dir mask key (minus32 0 (2 ^ 10)))
-        → HitIn n (searchedFrom b dir mask key 0)
-        → HitIn n (cond p (cond q hit.Nothing (cond r (searchedFrom b dir mask key (minus32 0 (2 ^ 10)))
-        (searchedFrom b dir mask key 0))) (searchedFrom b dir mask key 0))
-    go true true r h k = tt
-    go true false true h k = h
-    go true false false h k = k
-    go false q r h k = k
+    searched-has (HitIn n) (Within n) (λ (d : ℕ). Unit {0}) tt (λ i t k d w. tt)
+    (λ m d w _ e. found-in (m .tag) (m .off) d n e w) b dir gdisk mask key tt tt (back-in b (dir .off) (dir .etag) n h)
 
 -- ---- two blocks that agree up to e
 pub piece : (p k : ℕ) (l : List ℕ) → take k (drop p l) ≡ drop p (take (p + k) l)
