@@ -29,12 +29,11 @@ use Rattle.cases.specs.Listing.{q212, abc, deadline, blank, listing}
 pub together : auditOf (listing ++ blank 128)
     ≡ ascii "payload without deadline 0\ndeadline without payload 0\nslots 1\n"
 unfolding fetchInput blockAudit slotsAudit totalLines tally auditLines auditLine deadlineLine lackLine nameOrDash
-    lacksPayload
-    lacksDeadline isDeadline isThere isPayload isInstruction refusedLine numberLine nameBytes nameByte isPlain decimalIn
-    hexDigit dirOf acts act dir apply upd empty Regular regularFrom ruleOf ruleHolds countAfter fetchOf mdirOf erasedOf
-    tooHigh pairFits geometryFits view rank seedOf forwardOf splitOf tailOf countOf counted stoppedStraight tagAfter
-    span eventLength log committed walk walkFrom walkIn classOf readBehind bodyLength tagFlipped tagLength be32 le32
-    toLe32 xor crc crcByte crcBits crcBit
+    lacksPayload lacksDeadline isDeadline isThere isPayload isInstruction refusedLine numberLine nameBytes nameByte
+    isPlain decimalIn hexDigit dirOf acts act dir apply upd empty Regular regularFrom ruleOf ruleHolds countAfter
+    fetchOf mdirOf erasedOf tooHigh pairFits geometryFits view rank seedOf forwardOf splitOf tailOf countOf counted
+    stoppedStraight tagAfter span eventLength log committed walk walkFrom walkIn classOf readBehind bodyLength
+    tagFlipped tagLength be32 le32 toLe32 xor crc crcByte crcBits crcBit
 together = refl
 
 -- a create, the name q212, the inline file abc and the check of the first commit; then the deadline, with no check
@@ -53,12 +52,11 @@ apart =
 pub lost : auditOf (apart ++ blank 128)
     ≡ ascii "slot 0 q212 no deadline\npayload without deadline 1\ndeadline without payload 0\nslots 1\n"
 unfolding fetchInput blockAudit slotsAudit totalLines tally auditLines auditLine deadlineLine lackLine nameOrDash
-    lacksPayload
-    lacksDeadline isDeadline isThere isPayload isInstruction refusedLine numberLine nameBytes nameByte isPlain decimalIn
-    hexDigit dirOf acts act dir apply upd empty Regular regularFrom ruleOf ruleHolds countAfter fetchOf mdirOf erasedOf
-    tooHigh pairFits geometryFits view rank seedOf forwardOf splitOf tailOf countOf counted stoppedStraight tagAfter
-    span eventLength log committed walk walkFrom walkIn classOf readBehind bodyLength tagFlipped tagLength be32 le32
-    toLe32 xor crc crcByte crcBits crcBit
+    lacksPayload lacksDeadline isDeadline isThere isPayload isInstruction refusedLine numberLine nameBytes nameByte
+    isPlain decimalIn hexDigit dirOf acts act dir apply upd empty Regular regularFrom ruleOf ruleHolds countAfter
+    fetchOf mdirOf erasedOf tooHigh pairFits geometryFits view rank seedOf forwardOf splitOf tailOf countOf counted
+    stoppedStraight tagAfter span eventLength log committed walk walkFrom walkIn classOf readBehind bodyLength
+    tagFlipped tagLength be32 le32 toLe32 xor crc crcByte crcBits crcBit
 lost = refl
 
 -- ---- a slot with the deadline d, with a payload and without
@@ -75,6 +73,5 @@ pub lengths : (auditLine 8 (slotOf abc deadline) ≡ [])
     × (auditLine 8 (slotOf [] deadline) ≡ ascii "slot 8 q212 no payload\n")
     × (auditLine 8 (slotOf [] (1 ∷ 2 ∷ [])) ≡ ascii "slot 8 q212 no payload\n")
 unfolding auditLine deadlineLine lackLine nameOrDash lacksPayload lacksDeadline isDeadline isThere isPayload
-    isInstruction
-    nameBytes nameByte isPlain decimalIn
+    isInstruction nameBytes nameByte isPlain decimalIn
 lengths = (refl, refl, refl, refl, refl)

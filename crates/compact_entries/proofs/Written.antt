@@ -83,8 +83,8 @@ pub hit-items : (b : List ℕ) (id : ℕ) (h : Hit) → HitIn (length b) h → A
     → hitItems b h ≡ classItems id (holds b h)
 unfolding holds
 hit-items b id hit.Nothing i a = refl
-hit-items b id (hit.Found f) i a = rw (bytes-length b f i) (ap (λ (t : ℕ). one (record { tag = t; body = bytesOf b f }))
-    a)
+hit-items b id (hit.Found f) i a =
+    rw (bytes-length b f i) (ap (λ (t : ℕ). one (record { tag = t; body = bytesOf b f })) a)
   where
     one : Item → List Item
     one x = x ∷ []

@@ -19,8 +19,8 @@ module _ (b : List ℕ) (h : Hit) where
   unfolding holds
   missing q = sym (ap (holds b) q)
 
-  pub there : {e : Found} → h ≡ hit.Found e → some (record { type = tagType3 (e .tag); bytes = bytesOf b e }) ≡ holds b
-      h
+  pub there : {e : Found} → h ≡ hit.Found e
+      → some (record { type = tagType3 (e .tag); bytes = bytesOf b e }) ≡ holds b h
   unfolding holds
   there q = sym (ap (holds b) q)
 

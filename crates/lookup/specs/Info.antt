@@ -14,10 +14,5 @@ infoNamed t name (got.Refused r) struct = infoRefused r
 infoNamed t name (got.Found u) struct =
     record {
       answer = altered.Done;
-      info = record {
-        kind = tagType3 t % 2 ^ 8;
-        size = infoSize (u .tag) struct;
-        name =
-            name;
-      };
+      info = record { kind = tagType3 t % 2 ^ 8; size = infoSize (u .tag) struct; name = name };
     }

@@ -47,9 +47,8 @@ module _ (b : List ℕ) (ids : Bool) (mask key off t d : ℕ) (u : Hit) (inv : u
       -- f is the difference behind the tag, l the key there
       module _ (q : s && eqb t c ≡ false) (f : ℕ) (ef : f ≡ cond s (plus32 d (asIds (tagSplice t))) d) (l : ℕ)
           (el : l ≡ minus32 key f) where
-        past-create : u ≡ cond (eqb (bitAnd t mask) (bitAnd l mask)) (cond (tagDelete t) hit.Nothing (hit.Found (foundAt
-            t at f)))
-            (wlook ids mask key f older)
+        past-create : u ≡ cond (eqb (bitAnd t mask) (bitAnd l mask))
+            (cond (tagDelete t) hit.Nothing (hit.Found (foundAt t at f))) (wlook ids mask key f older)
         unfolding wlook
         past-create = here ∙ rw (← ek, ← es, ← ec, q, ← ef, ← el)
 

@@ -72,8 +72,7 @@ any-met (m ∷ ms) = (tt, any-met ms)
 searched-sized : (b : List ℕ) (dir : LfsMdir) (gdisk : LfsGstate) (mask key : ℕ) → Sized (searched b dir gdisk mask key)
 searched-sized b dir gdisk mask key =
     searched-has Sized (λ (m : Met). Unit {0}) Whole tt after-whole (λ m d _ w e. found-sized m d w e) b dir gdisk mask
-    key
-    refl refl (any-met (back b (dir .off) (dir .etag)))
+    key refl refl (any-met (back b (dir .off) (dir .etag)))
 
 -- ---- an answer that is found is the search's
 behind : (test : Bool) (x : Got) (e : Found) → cond test x (got.Refused Invalid) ≡ got.Found e

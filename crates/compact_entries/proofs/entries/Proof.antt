@@ -18,8 +18,8 @@ tail-requires c κs = omega (
 find-back-requires : tie.Need-find-back-requires
 find-back-requires c κs =
     read-inside _ _ _ (c .before .before .before .before .before .before .before .before .before .before .before .before
-    .before .before .before .pre) _ _ (c .before .before .before .before .before .before .before .before .slots
-    .ensures)
+    .before .before .before .pre) _ _ (c .before .before .before .before .before .before .before .before
+    .slots .ensures)
 
 found-entry-requires : tie.Need-found-entry-requires
 found-entry-requires c κs =
@@ -39,8 +39,7 @@ returns c =
     let p = c .before .before .before .before .before .before .before .before .before .before .before .before .before
     .before .before .before .before .before .before .before .pre in
     let slots = c .before .before .before .before .before .before .before .before .before .before .before .before
-    .before
-    .slots .ensures in
+    .before .slots .ensures in
     let back = c .before .before .before .before .find-back .ensures in
     entries-done _ _ _ p _ _ slots _ (c .before .before .before .before .before .before .before .before .before .tail
     .ensures) _ _ (c .before .before .before .before .before .before .lfs-mktag .ensures)

@@ -42,9 +42,8 @@ loop-again c =
     let l = c .before .before .before .before .before .before .loop in
     let more = c .before .before .before .before .before .loop-test .taken in
     let laid = seat-laid (a .old .now) (a .id) (a .seats .now) (l .class) (p .inside (l .class) more)
-    (p .named (l .class) more) _ (c .before .before .before .found .ensures) _ _ (c .before .before .found-entry
-    .ensures)
-    in (
+    (p .named (l .class) more) _ (c .before .before .before .found .ensures) _ _
+    (c .before .before .found-entry .ensures) in (
       omega arith,
       omega (arith, class-within _ _ (a .id) (slotIn (a .old .now) (a .seats .now) (l .class)) laid),
       search needs,

@@ -6,8 +6,8 @@ use Rattle.text_audit.proofs.name_or_dash.Statement.{statement}
 use Rattle.text_audit.proofs.name_or_dash.Tie as tie
 
 returns : tie.Need-returns
-returns c = dash-shown _ (c .before .before .before .before .before .enum-told .given .1) _ _ _ (c .before .before .puts
-    .ensures)
+returns c = dash-shown _ (c .before .before .before .before .before .enum-told .given .1) _ _ _
+    (c .before .before .puts .ensures)
 
 sub-to : tie.Need-sub-to
 sub-to c = whole _ _ (c .before .before .before .before .before .before .before .pre) (c .before .before .before .name

@@ -136,14 +136,10 @@ slice-held b buffer i hit.Nothing h a = (refl, refl)
 slice-held b buffer i (hit.Found e) h a =
     let n : length (bytesOf b e) ≡ dataSize e
     = length-take-le (dataSize e) (drop (e .off) b) (omega (arith, h .inside, length-drop (e .off) b)) in
+    let read : sliceEnd e 0 (length buffer) ≤ length b
+    = omega (arith, h .inside, min-le-left (dataSize e) (length buffer)) in
     let fits : leb (sliceEnd e 0 (length buffer)) (length b) ≡ true
-    = le-leb (sliceEnd e 0 (length buffer)) (length b) (omega (
-      arith,
-      h .inside,
-      min-le-left (dataSize e) (length
-          buffer),
-    ))
-    in
+    = le-leb (sliceEnd e 0 (length buffer)) (length b) read in
     let at : drop (e .off) b ≡ drop (sliceStart e 0) b = ap (λ (n : ℕ). drop n b) (sym (add-zero (e .off))) in
     let bytes : take (length buffer) (bytesOf b e)
     ≡ take (min (dataSize e) (length buffer)) (drop (sliceStart e 0) b)

@@ -38,9 +38,8 @@ module _ (P : Hit → Type 0) (A : Met → Type 0) (D : ℕ → Type 0) (nothing
       after = diffAfter ids (m .tag) key d
 
       go : (created hits gone : Bool) → tagDelete (m .tag) ≡ gone → P (wlook ids mask key after ms)
-          → P (cond created hit.Nothing
-          (cond hits (cond gone hit.Nothing (hit.Found (foundAt (m .tag) (m .off) after))) (wlook ids mask key after
-          ms)))
+          → P (cond created hit.Nothing (cond hits
+          (cond gone hit.Nothing (hit.Found (foundAt (m .tag) (m .off) after))) (wlook ids mask key after ms)))
       go true hits gone e k = nothing
       go false true true e k = nothing
       go false true false e k = one m after (a .0) (next ids (m .tag) key d h) e
