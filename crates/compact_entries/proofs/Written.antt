@@ -19,6 +19,7 @@ use Rattle.format.specs.Commit.{Item}
 use Rattle.format.specs.Compaction.{classItems, slotItems, dirItems, isNoTail, tailItems}
 use Rattle.format.specs.declared.LfsPair.{LfsPair}
 use Rattle.format.proofs.Words.{mkTag-sum}
+use Rattle.format.proofs.Searched.{hit-in, bytes-length}
 use Rattle.commit_lay.specs.Laid.{Laid, putsOf, bodyOf}
 use Rattle.commit_lay.proofs.Puts.{puts-app}
 use Rattle.format.specs.Look.{dataSize, bytesOf, FoundIn, HitIn}
@@ -28,7 +29,6 @@ use Rattle.format.specs.declared.Hit.the-variants as hit
 use Rattle.theory.specs.Lookup.ByMask.{holds, Answers}
 use Rattle.compact_slot.specs.Seat.{hitAt}
 use Rattle.compact_slot.specs.Slots.{slotIn}
-use Rattle.compact_slot.proofs.Entries.{bytes-length}
 use Rattle.compact_entries.specs.Emitted.{Standing, emitted, emits, createItem, hitItems}
 use Rattle.compact_entries.proofs.Joined.{emits-app}
 
@@ -74,7 +74,7 @@ module _ (b : List ℕ) (s : Standing) (h : Hit) where
       → r ≡ emitted s (record { tag = f .tag; body = bodyOf b (f .off) (f .length - 4) }) → r ≡ emits s (hitItems b h)
   unfolding emits bodyOf
   hit-made f q i r er =
-      let w : FoundIn (length b) f = rw q at i in
+      let w : FoundIn (length b) f = hit-in (length b) h i q in
       er ∙ rw (ne-eqb (dataSize f) removalSize (λ z. omega (arith, w .kept)))
       (sym (ap (λ (x : Hit). emits s (hitItems b x)) q))
 

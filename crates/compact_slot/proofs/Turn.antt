@@ -9,19 +9,19 @@ use lib.ListN.{length, length-set, length-replicate, set, replicate, getD-replic
 use lib.Seq.{getD-set-same, getD-set-other}
 use lib.Dec.{eqb, leb, ltb}
 use borrow.Author.Tests.{eq-eqb, ne-eqb, eqb-true, eqb-false, lt-ltb, ltb-true, ltb-false, le-leb, lt-leb}
-use Rattle.format.specs.Tag.{tagType1, tagType3, tagChunk, tagId, tagSize, removalSize, tagDelete, tagLength, tagOf}
+use Rattle.format.specs.Tag.{tagType1, tagType3, tagChunk, tagId, tagSize, tagDelete, tagLength, tagOf}
 use Rattle.format.specs.Kind.{isName, typeName, typeDirStruct, typeUserAttr, typeCreate, typeDelete}
-use Rattle.format.specs.Back.{back}
+use Rattle.format.specs.Back.{Met, back}
 use Rattle.format.specs.Directory.{classes, Load, Act, mk, rm, put, skip, isStruct, isAttr, loadOf, act}
 use Rattle.format.specs.Look.{HitIn}
 use Rattle.format.specs.declared.Hit.the-variants as hit
-use Rattle.format.proofs.Tags.{of-type3, of-size, length-size}
-use Rattle.format.proofs.Searched.{found-bytes, found-in}
+use Rattle.format.proofs.Tags.{of-size}
+use Rattle.format.proofs.Searched.{found-in}
 use Rattle.theory.specs.Walk.Step.{both-true}
 use Rattle.theory.specs.Directory.Machine.{find}
 use Rattle.theory.specs.Directory.Types.{type1-of}
 use Rattle.theory.specs.Back.BackActs.{seen}
-use Rattle.theory.specs.Lookup.ByMask.{bytesAt, holds, Answers}
+use Rattle.theory.specs.Lookup.ByMask.{bytesAt, holds, Answers, metAs, met-held}
 use Rattle.lookup_back.specs.Step.{Ends, tagBefore}
 use Rattle.lookup_back.proofs.Step.{back-over, back-on}
 use Rattle.compact_slot.specs.Seat.{seatTag, seatOff, hitOf, hitAt, seatClass, createdAt, idBefore, seated, noted}
@@ -99,40 +99,34 @@ module _ (b : List ℕ) (t at id : ℕ) (low : id < 2 ^ 10) where
   same-gone : tagDelete (named t id) ≡ tagDelete t
   same-gone = rw (of-size (tagType3 t) id (tagSize t) (omega arith))
 
-  seat-is : hitOf (named t id) (at + 4) ≡ cond (tagDelete t) hit.Nothing
-      (hit.Found (record { tag = named t id; length = tagLength t; off = at + 4 }))
+  abbrev m : Met
+  m = record { tag = t; off = at }
+
+  seat-is : hitOf (named t id) (at + 4) ≡ cond (tagDelete t) hit.Nothing (hit.Found (metAs m (named t id)))
   unfolding hitOf
   seat-is = rw (ne-eqb (at + 4) 0 (λ q. omega arith), same-gone, same-length)
 
-  seat-load : holds b (hitOf (named t id) (at + 4)) ≡ loadOf t (bytesAt b (record { tag = t; off = at }))
+  -- so it is free, or has an entry of this id
+  seat-held : (holds b (hitOf (named t id) (at + 4)) ≡ loadOf t (bytesAt b m))
+      × Answers id (hitOf (named t id) (at + 4))
   unfolding holds
-  seat-load = rw seat-is (go (tagDelete t))
+  seat-held = rw seat-is (go (tagDelete t) refl)
     where
-      go : (gone : Bool) → holds b (cond gone hit.Nothing
-          (hit.Found (record { tag = named t id; length = tagLength t; off = at + 4 })))
-          ≡ cond gone none (some (record { type = tagType3 t; bytes = bytesAt b (record { tag = t; off = at }) }))
-      go true = refl
-      go false = rw (of-type3 (tagType3 t) id (tagSize t) (omega arith) low (omega arith), found-bytes t at 0 b)
+      go : (gone : Bool) → tagDelete t ≡ gone
+          → (holds b (cond gone hit.Nothing (hit.Found (metAs m (named t id))))
+          ≡ cond gone none (some (record { type = tagType3 t; bytes = bytesAt b m })))
+          × Answers id (cond gone hit.Nothing (hit.Found (metAs m (named t id))))
+      go true e = (refl, tt)
+      go false e = met-held b m id (named t id) refl low e
 
   seat-inside : at + tagLength t ≤ length b → HitIn (length b) (hitOf (named t id) (at + 4))
   seat-inside h = rw seat-is (go (tagDelete t) refl)
     where
-      go : (gone : Bool) → tagDelete t ≡ gone → HitIn (length b) (cond gone hit.Nothing
-          (hit.Found (record { tag = named t id; length = tagLength t; off = at + 4 })))
+      go : (gone : Bool) → tagDelete t ≡ gone
+          → HitIn (length b) (cond gone hit.Nothing (hit.Found (metAs m (named t id))))
       go true e = tt
       go false e = let f = found-in t at 0 (length b) e h in
           record { counted = f .counted; kept = f .kept; inside = f .inside }
-
-  seat-named : Answers id (hitOf (named t id) (at + 4))
-  seat-named = rw seat-is (go (tagDelete t) refl)
-    where
-      go : (gone : Bool) → tagDelete t ≡ gone → Answers id (cond gone hit.Nothing
-          (hit.Found (record { tag = named t id; length = tagLength t; off = at + 4 })))
-      go true e = tt
-      go false e =
-          let z : tagLength t ≡ 4 + tagSize t = length-size t (eqb-false (tagSize t) removalSize e) in
-          let n : tagLength t - 4 ≡ tagSize t = omega arith in
-          rw (n, of-type3 (tagType3 t) id (tagSize t) (omega arith) low (omega arith))
 
 -- ---- the walk so far: a seat that is taken holds what the search finds, and for one that is free the search goes on
 -- what is known of a seat, tag and offset
@@ -315,8 +309,8 @@ module _ (b : List ℕ) (all : List Act) (id t at : ℕ) (l : List Act) (slot : 
           let tag : seatTag next c ≡ named t id = ap (λ (s : List ℕ). seatTag s c) n ∙ rw same (s .0) in
           let off : seatOff next c ≡ at + 4 = ap (λ (s : List ℕ). seatOff s c) n ∙ rw same (s .1) in
           rw (tag, off, ez, on, em, eq, ne-eqb (at + 4) 0 (λ q. omega arith)) (
-            sym (seat-load b t at id low),
-            λ i. record { inside = seat-inside b t at id low whole; named′ = seat-named b t at id low },
+            sym (seat-held b t at id low .0),
+            λ i. record { inside = seat-inside b t at id low whole; named′ = seat-held b t at id low .1 },
           )
 
   pub turns : Gathering b all id (act t d ∷ l) slot seats → Gathering b all id l (idBefore t slot) next

@@ -8,7 +8,7 @@ use lib.Dec.{leb}
 use lib.ListN.{length, take, drop, replicate, length-append, length-drop, length-replicate}
 use lib.Seq.{length-take-le, take-at}
 use borrow.Author.Tests.{leb-true, le-leb, lt-leb}
-use Rattle.format.specs.Look.{dataSize, HitIn}
+use Rattle.format.specs.Look.{dataSize}
 use Rattle.format.specs.Lookup.{sliceStart, sliceEnd, sliceAnswer, sliceBuffer}
 use Rattle.format.specs.declared.Refusal.the-variants.{Corrupt}
 use Rattle.format.specs.declared.Got.the-variants as got
@@ -76,6 +76,3 @@ slice-length b goff d (hit.Found e) = go (leb (sliceEnd e goff (length d)) (leng
 module _ (h u : Hit) (e : h ≡ u) where
   pub of-hit : {A : Type 0} (f : Hit → A) {w : Hit} → h ≡ w → f w ≡ f u
   of-hit f q = ap f (sym q ∙ e)
-
-pub hit-inside : (end : ℕ) (h : Hit) {e : Found} → HitIn end h → h ≡ hit.Found e → 4 ≤ e .length
-hit-inside end h i q = (rw q at i) .counted

@@ -17,10 +17,10 @@ use Rattle.format.specs.Audit.{isInstruction, isPayload, isDeadline, isThere, n
 use Rattle.format.specs.declared.Found.{Found}
 use Rattle.format.specs.declared.Hit.{Hit}
 use Rattle.format.specs.declared.Hit.the-variants as hit
-use Rattle.theory.specs.Lookup.ByMask.{holds}
+use Rattle.format.proofs.Searched.{hit-in, bytes-length, part, part-is}
+use Rattle.theory.specs.Lookup.ByMask.{holds, missing, there}
 use Rattle.text.specs.Put.{Text, putsOf}
 use Rattle.text.proofs.Joined.{join}
-use Rattle.compact_slot.proofs.Entries.{missing, there, whole, bytes-length, part, part-is}
 use Rattle.text_audit.specs.Audited.{Told}
 
 -- some bytes are behind the tag's four
@@ -74,13 +74,13 @@ module _ (h : Hit) where
     unfolding isPayload
     payload-there k ek b i =
         rw ek (ap (λ (z : Bool). eqb (tagType3 (e .tag)) 0x202 || (eqb (tagType3 (e .tag)) 0x201 && z))
-        (some-bytes (e .length) ∙ ap (ltb 0) (sym (bytes-length b e (whole (length b) h i q))))
+        (some-bytes (e .length) ∙ ap (ltb 0) (sym (bytes-length b e (hit-in (length b) h i q))))
         ∙ ap isPayload (there b h q))
 
     pub deadline-there : Told isDeadline h (eqb (e .length) 8)
     unfolding isDeadline
     deadline-there b i =
-        let w : FoundIn (length b) e = whole (length b) h i q in
+        let w : FoundIn (length b) e = hit-in (length b) h i q in
         four-bytes (e .length) (w .counted) ∙ ap (λ (n : ℕ). eqb n 4) (sym (bytes-length b e w))
         ∙ ap isDeadline (there b h q)
 
@@ -118,7 +118,7 @@ module _ (b : List ℕ) (id : ℕ) (name : Option Load) (h : Hit) (s : Text) whe
       → r ≡ putsOf s (deadlineLine id name (holds b h))
   unfolding deadlineLine
   deadline-unread {e} q i t u r et eu er =
-      let n : e .length - 4 ≡ length (bytesOf b e) = sym (bytes-length b e (whole (length b) h i q)) in
+      let n : e .length - 4 ≡ length (bytesOf b e) = sym (bytes-length b e (hit-in (length b) h i q)) in
       join s t r (lackLine id name (ascii " deadline of ")) (decimal (length (bytesOf b e)) ++ ascii " bytes\n") et
       (join t u r (decimal (length (bytesOf b e))) (ascii " bytes\n")
       (eu ∙ ap (λ (k : ℕ). putsOf t (decimal k)) n) er)

@@ -13,10 +13,10 @@ use Rattle.format.specs.Listing.{attrData, attrLine}
 use Rattle.format.specs.declared.Found.{Found}
 use Rattle.format.specs.declared.Hit.{Hit}
 use Rattle.format.specs.declared.Hit.the-variants as hit
-use Rattle.theory.specs.Lookup.ByMask.{holds}
+use Rattle.format.proofs.Searched.{hit-in, bytes-length, part, part-is}
+use Rattle.theory.specs.Lookup.ByMask.{holds, missing, there}
 use Rattle.text.specs.Put.{Text, putsOf}
 use Rattle.text.proofs.Joined.{puts-none, join}
-use Rattle.compact_slot.proofs.Entries.{missing, there, whole, bytes-length, part, part-is}
 
 -- ---- the fields that show what was found, h
 module _ (b : List ℕ) (h : Hit) (s : Text) where
@@ -58,7 +58,7 @@ module _ (b : List ℕ) (h : Hit) (s : Text) where
         join s t1 r (ascii " ") (hexType K ++ numberLine (ascii " ") (length (bytesOf b e))) e1
         (join t1 t2 r (hexType K) (numberLine (ascii " ") (length (bytesOf b e)))
         (e2 ∙ ap (λ (n : ℕ). putsOf t1 (hexType n)) ek)
-        (er ∙ ap (λ (n : ℕ). putsOf t2 (numberLine (ascii " ") n)) (sym (bytes-length b e (whole (length b) h i q)))))
+        (er ∙ ap (λ (n : ℕ). putsOf t2 (numberLine (ascii " ") n)) (sym (bytes-length b e (hit-in (length b) h i q)))))
         ∙ ap (λ (l : Option Load). putsOf s (structFields l)) (there b h q)
 
     pub attr-shown : (id : ℕ) (t1 t2 t3 t4 t5 t6 r : Text) → t1 ≡ putsOf s (ascii "attr ") → t2 ≡ putsOf t1 (decimal id)

@@ -1,12 +1,12 @@
 -- `compact_entries::found_entry` meets its contract: nothing, or one entry. Assumes nothing.
-use Rattle.compact_slot.proofs.Entries.{whole}
+use Rattle.format.proofs.Searched.{hit-in}
 use borrow.Author.Needs.{needs}
 use Rattle.compact_entries.proofs.Written.{hit-missing, hit-made}
 use Rattle.compact_entries.proofs.found_entry.Statement.{statement}
 use Rattle.compact_entries.proofs.found_entry.Tie as tie
 
 sub-entry : tie.Need-sub-entry
-sub-entry c = whole _ _ (c .before .before .before .before .before .before .before .pre .1)
+sub-entry c = hit-in _ _ (c .before .before .before .before .before .before .before .pre .1)
     (c .before .before .before .h .given .1) .counted
 
 returns : tie.Need-returns

@@ -1,6 +1,6 @@
 -- `text_audit::deadline_line` meets its contract: none, or its length. Assumes nothing.
 use borrow.Author.Needs.{needs}
-use Rattle.compact_slot.proofs.Entries.{whole}
+use Rattle.format.proofs.Searched.{hit-in}
 use Rattle.text_audit.proofs.Told.{deadline-none, deadline-unread}
 use Rattle.text_audit.proofs.deadline_line.Statement.{statement}
 use Rattle.text_audit.proofs.deadline_line.Tie as tie
@@ -10,7 +10,7 @@ returns c = deadline-none _ _ _ _ _ (c .before .before .before .before .before .
     .before .lack-line .ensures)
 
 sub-decimal : tie.Need-sub-decimal
-sub-decimal c = whole _ _ (c .before .before .before .before .before .before .before .before .before .before .before
+sub-decimal c = hit-in _ _ (c .before .before .before .before .before .before .before .before .before .before .before
     .before .pre .1) (c .before .before .before .before .before .before .before .before .attribute .given .1) .counted
 
 returns-2 : tie.Need-returns-2

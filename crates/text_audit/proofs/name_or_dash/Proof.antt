@@ -1,6 +1,6 @@
 -- `text_audit::name_or_dash` meets its contract: a dash, or the name. Assumes nothing.
 use borrow.Author.Needs.{needs}
-use Rattle.compact_slot.proofs.Entries.{whole}
+use Rattle.format.proofs.Searched.{hit-in}
 use Rattle.text_audit.proofs.Told.{dash-shown, name-shown}
 use Rattle.text_audit.proofs.name_or_dash.Statement.{statement}
 use Rattle.text_audit.proofs.name_or_dash.Tie as tie
@@ -10,11 +10,11 @@ returns c = dash-shown _ (c .before .before .before .before .before .enum-told .
     (c .before .before .puts .ensures)
 
 sub-to : tie.Need-sub-to
-sub-to c = whole _ _ (c .before .before .before .before .before .before .before .pre) (c .before .before .before .name
+sub-to c = hit-in _ _ (c .before .before .before .before .before .before .before .pre) (c .before .before .before .name
     .given .1) .counted
 
 part-name-bytes-end : tie.Need-part-name-bytes-end
-part-name-bytes-end c = whole _ _ (c .before .before .before .before .before .before .before .before .pre) (c .before
+part-name-bytes-end c = hit-in _ _ (c .before .before .before .before .before .before .before .before .pre) (c .before
     .before .before .before .name .given .1) .inside
 
 returns-2 : tie.Need-returns-2

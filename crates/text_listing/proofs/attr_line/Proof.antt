@@ -1,6 +1,6 @@
 -- `text_listing::attr_line` meets its contract: nothing, or a line. Assumes nothing.
 use borrow.Author.Needs.{needs}
-use Rattle.compact_slot.proofs.Entries.{whole}
+use Rattle.format.proofs.Searched.{hit-in}
 use Rattle.text_listing.proofs.Fields.{attr-missing, attr-shown}
 use Rattle.text_listing.proofs.attr_line.Statement.{statement}
 use Rattle.text_listing.proofs.attr_line.Tie as tie
@@ -9,11 +9,11 @@ returns : tie.Need-returns
 returns c = attr-missing _ _ _ (c .enum-told .given .1) _
 
 sub-to : tie.Need-sub-to
-sub-to c = whole _ _ (c .before .before .before .before .before .before .before .pre) (c .before .before .before
+sub-to c = hit-in _ _ (c .before .before .before .before .before .before .before .pre) (c .before .before .before
     .attribute .given .1) .counted
 
 part-attr-data-end : tie.Need-part-attr-data-end
-part-attr-data-end c = whole _ _ (c .before .before .before .before .before .before .before .before .before .before
+part-attr-data-end c = hit-in _ _ (c .before .before .before .before .before .before .before .before .before .before
     .before .before .before .before .before .before .before .before .before .before .before .before .before .before
     .before .before .before .before .before .before .before .before .pre) (c .before .before .before .before .before
     .before .before .before .before .before .before .before .before .before .before .before .before .before .before

@@ -1,6 +1,6 @@
 -- `text_listing::name_fields` meets its contract: two dashes, or type and name. Assumes nothing.
 use borrow.Author.Needs.{needs}
-use Rattle.compact_slot.proofs.Entries.{whole}
+use Rattle.format.proofs.Searched.{hit-in}
 use Rattle.text_listing.proofs.Fields.{name-missing, name-shown}
 use Rattle.text_listing.proofs.name_fields.Statement.{statement}
 use Rattle.text_listing.proofs.name_fields.Tie as tie
@@ -10,11 +10,11 @@ returns c = name-missing _ _ _ (c .before .before .before .before .before .enum-
     .puts .ensures)
 
 sub-to : tie.Need-sub-to
-sub-to c = whole _ _ (c .before .before .before .before .before .before .before .pre) (c .before .before .before .name
+sub-to c = hit-in _ _ (c .before .before .before .before .before .before .before .pre) (c .before .before .before .name
     .given .1) .counted
 
 part-name-bytes-end : tie.Need-part-name-bytes-end
-part-name-bytes-end c = whole _ _ (c .before .before .before .before .before .before .before .before .before .before
+part-name-bytes-end c = hit-in _ _ (c .before .before .before .before .before .before .before .before .before .before
     .before .before .before .before .before .before .before .before .before .before .before .before .before .pre) (c
     .before .before .before .before .before .before .before .before .before .before .before .before .before .before
     .before .before .before .before .before .name .given .1) .inside

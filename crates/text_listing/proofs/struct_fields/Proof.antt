@@ -1,6 +1,6 @@
 -- `text_listing::struct_fields` meets its contract: two dashes, or type and length. Assumes nothing.
 use borrow.Author.Needs.{needs}
-use Rattle.compact_slot.proofs.Entries.{whole}
+use Rattle.format.proofs.Searched.{hit-in}
 use Rattle.text_listing.proofs.Fields.{struct-missing, struct-shown}
 use Rattle.text_listing.proofs.struct_fields.Statement.{statement}
 use Rattle.text_listing.proofs.struct_fields.Tie as tie
@@ -10,7 +10,7 @@ returns c = struct-missing _ _ _ (c .before .before .before .before .before .enu
     .puts .ensures)
 
 sub-number-line : tie.Need-sub-number-line
-sub-number-line c = whole _ _ (c .before .before .before .before .before .before .before .before .before .before .before
+sub-number-line c = hit-in _ _ (c .before .before .before .before .before .before .before .before .before .before .before
     .before .before .before .before .before .before .before .pre) (c .before .before .before .before .before .before
     .before .before .before .before .before .before .before .before .content .given .1) .counted
 

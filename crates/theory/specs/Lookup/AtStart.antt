@@ -6,8 +6,8 @@ use mathlib.Core.List.{List, [], _∷_}
 use Prim.Native.Nat.{ℕ, zero, suc, _+_, _-_, _%_, _^_, _≤_, _<_, min}
 use native.Mathlib.Omega.{arith}
 use native.Mathlib.Nat.{zero-add, add-zero, suc-add, min-zero, zero-min, suc-min-suc, min-le-left}
-use lib.ListN.{length, take, drop, getD, length-drop}
-use lib.Seq.{take-nil, take-take, getD-take, length-take-le}
+use lib.ListN.{length, take, drop, getD}
+use lib.Seq.{take-nil, take-take, getD-take}
 use lib.Dec.{leb}
 use borrow.Author.Tests.{leb-true, le-leb}
 use Rattle.format.specs.Word.{be32, xor}
@@ -22,7 +22,7 @@ use Rattle.format.specs.declared.Hit.the-variants as hit
 use Rattle.format.specs.declared.Word.the-variants as word
 use Rattle.format.specs.declared.LfsGstate.{LfsGstate}
 use Rattle.format.proofs.Words.{be32-at, tagLength-ge}
-use Rattle.format.proofs.Searched.{found-in}
+use Rattle.format.proofs.Searched.{found-in, bytes-length}
 use Rattle.theory.specs.Lookup.ByMask.{holds, Answers}
 use Rattle.theory.specs.Lookup.WhatIsFound.{AllMet, wlook-has, searched-has}
 use Rattle.format.specs.Machine.{heldWord, heldBuffer}
@@ -134,8 +134,7 @@ pub slice-held : (b buffer : List ℕ) (i : ℕ) (f : Hit) → HitIn (length b) 
 unfolding holds
 slice-held b buffer i hit.Nothing h a = (refl, refl)
 slice-held b buffer i (hit.Found e) h a =
-    let n : length (bytesOf b e) ≡ dataSize e
-    = length-take-le (dataSize e) (drop (e .off) b) (omega (arith, h .inside, length-drop (e .off) b)) in
+    let n : length (bytesOf b e) ≡ dataSize e = bytes-length b e h in
     let read : sliceEnd e 0 (length buffer) ≤ length b
     = omega (arith, h .inside, min-le-left (dataSize e) (length buffer)) in
     let fits : leb (sliceEnd e 0 (length buffer)) (length b) ≡ true

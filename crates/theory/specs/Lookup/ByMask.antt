@@ -15,8 +15,9 @@ use Rattle.format.specs.Word.{plus32, minus32}
 use Rattle.format.specs.Tag.{tagType1, tagType3, tagSplice, tagId, tagSize, removalSize, tagDelete, tagLength, tagOf}
 use Rattle.format.specs.Kind.{typeSplice, typeCreate, typeDelete, isSplice}
 use Rattle.format.specs.Back.{Met}
-use Rattle.format.specs.Look.{foundAt, dataSize, bytesOf, asIds, splicedAt, wlook}
+use Rattle.format.specs.Look.{dataSize, bytesOf, asIds, splicedAt, wlook}
 use Rattle.format.specs.Directory.{Load, Act, mk, rm, put, skip, dir, apply, empty, upd, loadOf, act}
+use Rattle.format.specs.declared.Found.{Found}
 use Rattle.format.specs.declared.Hit.{Hit}
 use Rattle.format.specs.declared.Hit.the-variants as hit
 use Rattle.format.proofs.Tags.{of-chunk, of-fields, of-valid, of-type1, of-type3, of-id, length-size}
@@ -30,6 +31,16 @@ use Rattle.theory.specs.Lookup.Masks.{Query, hitAct}
 unfoldable pub holds : List ℕ → Hit → Option Load
 holds b hit.Nothing = none
 holds b (hit.Found e) = some (record { type = tagType3 (e .tag); bytes = bytesOf b e })
+
+module _ (b : List ℕ) (h : Hit) where
+  pub missing : h ≡ hit.Nothing → none ≡ holds b h
+  unfolding holds
+  missing q = sym (ap (holds b) q)
+
+  pub there : {e : Found} → h ≡ hit.Found e
+      → some (record { type = tagType3 (e .tag); bytes = bytesOf b e }) ≡ holds b h
+  unfolding holds
+  there q = sym (ap (holds b) q)
 
 -- its tag, "the tag plus the difference", has the id that was asked for
 abbrev pub Answers : ℕ → Hit → Type 0
@@ -114,22 +125,23 @@ answers t diff T asked i s hd ha e is small =
     ap (λ (x : ℕ). plus32 x diff) (sym (of-fields t small) ∙ ap (λ (x : ℕ). tagOf (tagType3 t) x (tagSize t)) (sym is))
     ∙ answer-word (tagType3 t) (tagSize t) diff T asked i s hd (omega arith) ha (omega arith) e
 
--- so the entry found has the tag's own type, size and bytes
-found-held : (b : List ℕ) (m : Met) (diff T asked i s : ℕ) → diff < 2 ^ 32 → asked < 2 ^ 10
-    → minus32 (tagOf T asked s) diff ≡ tagOf T i s → i ≡ tagId (m .tag) → m .tag < 2 ^ 31
+-- an entry that was met, with another id in its tag, w
+abbrev pub metAs : Met → ℕ → Found
+metAs m w = record { tag = w; length = tagLength (m .tag); off = m .off + 4 }
+
+-- it has the met tag's own type and bytes, and answers the id
+pub met-held : (b : List ℕ) (m : Met) (id w : ℕ) → w ≡ tagOf (tagType3 (m .tag)) id (tagSize (m .tag)) → id < 2 ^ 10
     → tagDelete (m .tag) ≡ false
-    → (holds b (hit.Found (foundAt (m .tag) (m .off) diff))
-    ≡ some (record { type = tagType3 (m .tag); bytes = bytesAt b m }))
-    × Answers asked (hit.Found (foundAt (m .tag) (m .off) diff))
+    → (holds b (hit.Found (metAs m w)) ≡ some (record { type = tagType3 (m .tag); bytes = bytesAt b m }))
+    × Answers id (hit.Found (metAs m w))
 unfolding holds
-found-held b m diff T asked i s hd ha e is small kept =
+met-held b m id w ew low kept =
     let t : ℕ = m .tag in
-    let w : plus32 t diff ≡ tagOf (tagType3 t) asked (tagSize t) = answers t diff T asked i s hd ha e is small in
-    let k : tagType3 (plus32 t diff) ≡ tagType3 t
-    = ap tagType3 w ∙ of-type3 (tagType3 t) asked (tagSize t) (omega arith) ha (omega arith) in
+    let k : tagType3 w ≡ tagType3 t
+    = ap tagType3 ew ∙ of-type3 (tagType3 t) id (tagSize t) (omega arith) low (omega arith) in
     let z : tagLength t ≡ 4 + tagSize t = length-size t (eqb-false (tagSize t) removalSize kept) in
     let n : tagLength t - 4 ≡ tagSize t = omega arith in
-    (rw (k, found-bytes t (m .off) diff b), w ∙ rw (k, n))
+    (rw (k, found-bytes t (m .off) 0 b), ew ∙ rw (k, n))
 
 seen-act : (b : List ℕ) (m : Met) → seen b m ≡ act (m .tag) (bytesAt b m)
 unfolding seen
@@ -259,7 +271,8 @@ module _ (b : List ℕ) (mask T c s asked : ℕ) (q : Query mask T c) (hs : s < 
           sub true eh false er =
               let is : j ≡ i = eqb-true j i (both-true (eqb j i) (eqb c k) eh .0) in
               rw (sp .0, e, miss (put j k v) ea i (omega (arith, i-low)), eh, er, sp .1, er)
-              (found-held b m d T asked i s hd ha e (sym is ∙ sp .2) (sp .3) er)
+              (met-held b m asked (plus32 (m .tag) d)
+              (answers (m .tag) d T asked i s hd ha e (sym is ∙ sp .2) (sp .3)) ha er)
           sub false eh rb er = rw (sp .0, e, miss (put j k v) ea i (omega (arith, i-low)), eh)
               (ih d i hd (omega (arith, len)) e)
       go skip ea sp ru h ih = rw (sp, e, miss skip ea i (omega (arith, i-low))) (ih d i hd (rw ea at h) e)

@@ -1,12 +1,12 @@
 -- `lookup::moved::read` meets its contract: what was found is what should be (`Moves.antt`). Assumes nothing.
-use Rattle.lookup_search.proofs.Slices.{hit-inside}
+use Rattle.format.proofs.Searched.{hit-in}
 use Rattle.lookup.proofs.Moves.{move-none, move-some}
 use borrow.Author.Needs.{needs}
 use Rattle.lookup.proofs.moved.read.Statement.{statement}
 use Rattle.lookup.proofs.moved.read.Tie as tie
 
 xored-at-requires : tie.Need-xored-at-requires
-xored-at-requires c κs = hit-inside _ _ (c .before .before .before .newest .ensures .1) (c .before .e .given .1)
+xored-at-requires c κs = hit-in _ _ (c .before .before .before .newest .ensures .1) (c .before .e .given .1) .counted
 
 returns : tie.Need-returns
 returns c = let a = c .before .before .before .before .before .before .args in move-none (a .b .now) (a .dir) (a .gdisk)

@@ -2,14 +2,15 @@
 use mathlib.Core.Path.{_∙_}
 use lib.ListN.{length}
 use Rattle.format.specs.Lookup.{sliceAnswer, sliceBuffer}
-use Rattle.lookup_search.proofs.Slices.{of-hit, hit-inside}
+use Rattle.format.proofs.Searched.{hit-in}
+use Rattle.lookup_search.proofs.Slices.{of-hit}
 use borrow.Author.Needs.{needs}
 use Rattle.lookup_search.proofs.slice.read.Statement.{statement}
 use Rattle.lookup_search.proofs.slice.read.Tie as tie
 
 read-at-requires : tie.Need-read-at-requires
-read-at-requires c κs = hit-inside _ _ (c .before .before .before .before .newest .ensures .1)
-    (c .before .before .e .given .1)
+read-at-requires c κs = hit-in _ _ (c .before .before .before .before .newest .ensures .1)
+    (c .before .before .e .given .1) .counted
 
 returns : tie.Need-returns
 returns c = let a = c .before .before .before .before .before .args in let n = c .before .before .newest in let told =
