@@ -10,7 +10,8 @@ returns c = struct-missing _ _ _ (c .before .before .before .before .before .enu
     .puts .ensures)
 
 sub-number-line : tie.Need-sub-number-line
-sub-number-line c = hit-in _ _ (c .before .before .before .before .before .before .before .before .before .before .before
+sub-number-line c = hit-in _ _ (c .before .before .before .before .before .before .before .before .before .before
+    .before
     .before .before .before .before .before .before .before .pre) (c .before .before .before .before .before .before
     .before .before .before .before .before .before .before .before .content .given .1) .counted
 
