@@ -197,7 +197,7 @@ module _ (dat : List ℕ) (entries : List Entry) (w : Bool) (b0 b1 : List ℕ) (
         (roomOf prog B (logEnd (log B)) (logEndTag (log B))) (coincides allOnes (logEndTag (log B)) I ct) refl)
 
 -- ---- all of it
-module _ (g : Geometry) (b0 b1 : List ℕ) (n0 n1 count seed : ℕ) (entries : List Entry) (dat : List ℕ) (n : ℕ) where
+module _ (g : Geometry) (b0 b1 : List ℕ) (n0 n1 count seed rules : ℕ) (entries : List Entry) (dat : List ℕ) (n : ℕ) where
   abbrev decidedT : Trio → Trio
   decidedT t = sealT (passOf entries dat (decideT g n t))
 
@@ -301,7 +301,7 @@ module _ (g : Geometry) (b0 b1 : List ℕ) (n0 n1 count seed : ℕ) (entries : L
         dat) (T (startedOf v (blockAt v b0 b1) m))) (sym (a .place))
         (ran-started (a .w) m (a .end) (a .endTag) (a .count))
 
-  pub ran : Ran b0 b1 n (verdictOf g b0 b1 n0 n1 count seed entries dat) (ranOf g b0 b1 n0 n1 count seed entries dat n)
+  pub ran : Ran b0 b1 n (verdictOf g b0 b1 n0 n1 count seed rules entries dat) (ranOf g b0 b1 n0 n1 count seed rules entries dat n)
   unfolding verdictOf ranOf begunOf
   ran = go (commitFits g (length b0) (length b1) n0 n1 (length entries) (length dat)) refl
     where

@@ -43,7 +43,7 @@ fn run(
     stores: u32,
 ) -> State
     ensures { λ r. ⌜ trio r (now (b0 .exit)) (now (b1 .exit)) ≡ ranOf g (now (b0 .entry)) (now (b1 .entry)) n0 n1
-        «block_count» seed (now (entries .entry)) (now (dat .entry)) stores ⌝ }
+        «block_count» seed rules (now (entries .entry)) (now (dat .entry)) stores ⌝ }
 {
     let s0 = commit_steps::begin(g, b0, b1, n0, n1, block_count, seed, entries.len(), dat);
     let s1 = each(entries, dat, b0, b1, s0);
@@ -65,9 +65,9 @@ pub fn lfs_dir_commit(
     entries: &[Entry],
     dat: &[u8],
 ) -> Committed
-    ensures { λ r. ⌜ (r ≡ commitOf g (now (b0 .entry)) (now (b1 .entry)) n0 n1 «block_count» seed
+    ensures { λ r. ⌜ (r ≡ commitOf g (now (b0 .entry)) (now (b1 .entry)) n0 n1 «block_count» seed rules
         (now (entries .entry)) (now (dat .entry)))
-        × CommitLeaves g (now (b0 .entry)) (now (b1 .entry)) n0 n1 «block_count» seed
+        × CommitLeaves g (now (b0 .entry)) (now (b1 .entry)) n0 n1 «block_count» seed rules
         (now (entries .entry)) (now (dat .entry)) (now (b0 .exit)) (now (b1 .exit)) ⌝ }
 {
     let all = commit_steps::unlimited();
@@ -89,9 +89,9 @@ pub fn lfs_dir_commit_stores(
     dat: &[u8],
     stores: u32,
 ) -> Stored
-    ensures { λ r. ⌜ (r ≡ commitStoresOf g (now (b0 .entry)) (now (b1 .entry)) n0 n1 «block_count» seed
+    ensures { λ r. ⌜ (r ≡ commitStoresOf g (now (b0 .entry)) (now (b1 .entry)) n0 n1 «block_count» seed rules
         (now (entries .entry)) (now (dat .entry)) stores)
-        × CommitStoresLeaves g (now (b0 .entry)) (now (b1 .entry)) n0 n1 «block_count» seed
+        × CommitStoresLeaves g (now (b0 .entry)) (now (b1 .entry)) n0 n1 «block_count» seed rules
         (now (entries .entry)) (now (dat .entry)) stores (now (b0 .exit)) (now (b1 .exit)) ⌝ }
 {
     let s = run(g, b0, b1, n0, n1, block_count, seed, entries, dat, stores);

@@ -32,7 +32,7 @@ module _ (second : Bool) (b : List ℕ) (m : LfsMdir) (x : Bool) (is : x ≡ Reg
   starts-regular h = rw (← is, h)
 
 -- ---- `begin`: x is what `pair_fits` answers, with the other two tests
-module _ (g : Geometry) (b0 b1 : List ℕ) (n0 n1 count seed entries : ℕ) (dat : List ℕ) (p : Bool)
+module _ (g : Geometry) (b0 b1 : List ℕ) (n0 n1 count seed rules entries : ℕ) (dat : List ℕ) (p : Bool)
     (is : p ≡ pairFits g (length b0) (length b1) n0 n1) where
   abbrev pub tested : Bool
   tested = p && leb (length dat) mostData && leb entries mostEntries
@@ -53,23 +53,23 @@ module _ (g : Geometry) (b0 b1 : List ℕ) (n0 n1 count seed entries : ℕ) (dat
       first false b c e = cc
 
   pub begins-broken : (s : State) → not tested ≡ true → s ≡ refusedState Invalid
-      → s ≡ begunOf g b0 b1 n0 n1 count seed entries dat
+      → s ≡ begunOf g b0 b1 n0 n1 count seed rules entries dat
   unfolding begunOf
   begins-broken s h e = rw (← tested-is, h) e
 
   module _ (h : not tested ≡ false) where
     pub begins-refused : (s : State) (r : Refusal) → fetchOf g b0 b1 n0 n1 count seed ≡ fetched.Refused r
-        → s ≡ refusedState r → s ≡ begunOf g b0 b1 n0 n1 count seed entries dat
+        → s ≡ refusedState r → s ≡ begunOf g b0 b1 n0 n1 count seed rules entries dat
     unfolding begunOf
     begins-refused s r f e = rw (← tested-is, h, f) e
 
     module _ (m : LfsMdir) (t : ℕ) (f : fetchOf g b0 b1 n0 n1 count seed ≡ fetched.Found m t) where
       pub begins-first : (s : State) → m .pair .n0 ≡ n0 → s ≡ startedOf false b0 m
-          → s ≡ begunOf g b0 b1 n0 n1 count seed entries dat
+          → s ≡ begunOf g b0 b1 n0 n1 count seed rules entries dat
       unfolding begunOf
       begins-first s q e = rw (← tested-is, h, f, eq-eqb (m .pair .n0) n0 q) e
 
       pub begins-second : (s : State) → (m .pair .n0 ≡ n0 → ⊥) → s ≡ startedOf true b1 m
-          → s ≡ begunOf g b0 b1 n0 n1 count seed entries dat
+          → s ≡ begunOf g b0 b1 n0 n1 count seed rules entries dat
       unfolding begunOf
       begins-second s q e = rw (← tested-is, h, f, ne-eqb (m .pair .n0) n0 q) e

@@ -79,7 +79,7 @@ fetchedBy (fetched.Refused r) n0 b0 b1 = refusedState r
 fetchedBy (fetched.Found m s) n0 b0 b1 = startedOf (isSecond n0 m) (blockAt (isSecond n0 m) b0 b1) m
 
 unfoldable pub begunOf : Geometry → List ℕ → List ℕ → ℕ → ℕ → ℕ → ℕ → ℕ → List ℕ → State
-begunOf g b0 b1 n0 n1 count seed entries dat =
+begunOf g b0 b1 n0 n1 count seed rules entries dat =
     cond (not (commitFits g (length b0) (length b1) n0 n1 entries (length dat))) (refusedState Invalid)
     (fetchedBy (fetchOf g b0 b1 n0 n1 count seed) n0 b0 b1)
 

@@ -72,7 +72,7 @@ pub fn begin(
     entries: usize,
     dat: &[u8],
 ) -> State
-    ensures { λ r. ⌜ r ≡ begunOf g (now (b0 .entry)) (now (b1 .entry)) n0 n1 «block_count» seed entries
+    ensures { λ r. ⌜ r ≡ begunOf g (now (b0 .entry)) (now (b1 .entry)) n0 n1 «block_count» seed rules entries
         (now (dat .entry)) ⌝ }
 {
     let fits = sizes::pair_fits(g, b0.len(), b1.len(), n0, n1)

@@ -78,20 +78,20 @@ second-leaves : (n : ℕ) (b0 b1 : List ℕ) (v : CompactVerdict) (r : Stored) (
 second-leaves n b0 b1 (compactRefused x) r c er ec = (er, (ec, refl))
 second-leaves n b0 b1 (compactAccepted w rev is size) r c er ec = (er, (ec, refl))
 
-module _ (g : Geometry) (b0 b1 : List ℕ) (n0 n1 count seed : ℕ) where
+module _ (g : Geometry) (b0 b1 : List ℕ) (n0 n1 count seed rules : ℕ) where
   -- the contract of the call with a limit of n stores
   abbrev pub Called : ℕ → Stored → List ℕ → List ℕ → Type 0
   Called n r c0 c1 =
-      (r ≡ compactStoresOf g b0 b1 n0 n1 count seed n)
-      × ((c0 ≡ compactImages g b0 b1 n0 n1 count seed n .b0) × (c1 ≡ compactImages g b0 b1 n0 n1 count seed n .b1))
+      (r ≡ compactStoresOf g b0 b1 n0 n1 count seed rules n)
+      × ((c0 ≡ compactImages g b0 b1 n0 n1 count seed rules n .b0) × (c1 ≡ compactImages g b0 b1 n0 n1 count seed rules n .b1))
 
   -- with demand 3, which a call keeps whatever it leaves
   pub kept : (n : ℕ) (r : Stored) (c0 c1 : List ℕ) → Bytes b0 → Bytes b1 → Called n r c0 c1
-      → (r ≡ compactStoresOf g b0 b1 n0 n1 count seed n) × CompactStoresLeaves g b0 b1 n0 n1 count seed n c0 c1
+      → (r ≡ compactStoresOf g b0 b1 n0 n1 count seed rules n) × CompactStoresLeaves g b0 b1 n0 n1 count seed rules n c0 c1
   kept n r c0 c1 y0 y1 h =
-      (h .0, (h .1 .0, h .1 .1, rw (h .1 .0, h .1 .1) (stopped-compaction g b0 b1 n0 n1 count seed n y0 y1)))
+      (h .0, (h .1 .0, h .1 .1, rw (h .1 .0, h .1 .1) (stopped-compaction g b0 b1 n0 n1 count seed rules n y0 y1)))
 
-  leaves : (n : ℕ) (v : CompactVerdict) → compactVerdict g b0 b1 n0 n1 count seed ≡ v → (r : Stored) (c0 c1 : List ℕ)
+  leaves : (n : ℕ) (v : CompactVerdict) → compactVerdict g b0 b1 n0 n1 count seed rules ≡ v → (r : Stored) (c0 c1 : List ℕ)
       → Leaves n b0 b1 v r c0 c1 → Called n r c0 c1
   unfolding compactStoresOf compactImages
   leaves n v e r c0 c1 h = rw e h
@@ -102,7 +102,7 @@ module _ (g : Geometry) (b0 b1 : List ℕ) (n0 n1 count seed : ℕ) where
   called-refused n r f = leaves n (compactRefused r) (rw (← f)) (stored.Refused r) b0 b1 (refl, (refl, refl))
 
   module _ (m : LfsMdir) (s : ℕ) (f : fetched.Found m s ≡ fetchOf g b0 b1 n0 n1 count seed) where
-    verdict-of : (w : Bool) → isSecond n0 m ≡ w → compactVerdict g b0 b1 n0 n1 count seed
+    verdict-of : (w : Bool) → isSecond n0 m ≡ w → compactVerdict g b0 b1 n0 n1 count seed rules
         ≡ placedAt w (compactable (g .«prog_size») false (blockAt w b0 b1) (log (blockAt w b0 b1)))
     unfolding compactVerdict
     verdict-of w e = rw (← f, e) (placed-at (g .«prog_size») w (blockAt w b0 b1))
@@ -165,38 +165,38 @@ module _ (g : Geometry) (b0 b1 : List ℕ) (n0 n1 count seed : ℕ) where
 
   -- ---- the call with no limit: c0 and c1 are what the other leaves
   abbrev pub Answered : Committed → List ℕ → List ℕ → Type 0
-  Answered r c0 c1 = (r ≡ compactOf g b0 b1 n0 n1 count seed) × CompactLeaves g b0 b1 n0 n1 count seed c0 c1
+  Answered r c0 c1 = (r ≡ compactOf g b0 b1 n0 n1 count seed rules) × CompactLeaves g b0 b1 n0 n1 count seed rules c0 c1
 
   module _ (c0 c1 : List ℕ) (y0 : Bytes b0) (y1 : Bytes b1)
-      (l : CompactStoresLeaves g b0 b1 n0 n1 count seed unlimited c0 c1) where
-    abbrev e0 : c0 ≡ compactImages g b0 b1 n0 n1 count seed unlimited .b0
+      (l : CompactStoresLeaves g b0 b1 n0 n1 count seed rules unlimited c0 c1) where
+    abbrev e0 : c0 ≡ compactImages g b0 b1 n0 n1 count seed rules unlimited .b0
     e0 = l .0
 
-    abbrev e1 : c1 ≡ compactImages g b0 b1 n0 n1 count seed unlimited .b1
+    abbrev e1 : c1 ≡ compactImages g b0 b1 n0 n1 count seed rules unlimited .b1
     e1 = l .1
 
-    left : CompactLeaves g b0 b1 n0 n1 count seed c0 c1
-    left = (l .0, l .1, λ n. stopped-compaction g b0 b1 n0 n1 count seed n y0 y1)
+    left : CompactLeaves g b0 b1 n0 n1 count seed rules c0 c1
+    left = (l .0, l .1, λ n. stopped-compaction g b0 b1 n0 n1 count seed rules n y0 y1)
 
-    pub answered-refused : (r : Refusal) → stored.Refused r ≡ compactStoresOf g b0 b1 n0 n1 count seed unlimited
+    pub answered-refused : (r : Refusal) → stored.Refused r ≡ compactStoresOf g b0 b1 n0 n1 count seed rules unlimited
         → Answered (committed.Refused r) c0 c1
     unfolding compactOf compactStoresOf
-    answered-refused r h = (go (compactVerdict g b0 b1 n0 n1 count seed) h, left)
+    answered-refused r h = (go (compactVerdict g b0 b1 n0 n1 count seed rules) h, left)
       where
         go : (v : CompactVerdict) → stored.Refused r ≡ compactMade unlimited v
-            → committed.Refused r ≡ compactAnswer (fetchOf g (compactImages g b0 b1 n0 n1 count seed unlimited .b0)
-            (compactImages g b0 b1 n0 n1 count seed unlimited .b1) n0 n1 count seed) v
+            → committed.Refused r ≡ compactAnswer (fetchOf g (compactImages g b0 b1 n0 n1 count seed rules unlimited .b0)
+            (compactImages g b0 b1 n0 n1 count seed rules unlimited .b1) n0 n1 count seed) v
         go (compactRefused x) k = let q : r ≡ x = cc in ap committed.Refused q
         go (compactAccepted w rev is size) k = cc
 
-    pub answered-made : (k : ℕ) → stored.Made k ≡ compactStoresOf g b0 b1 n0 n1 count seed unlimited → (f : Fetched)
+    pub answered-made : (k : ℕ) → stored.Made k ≡ compactStoresOf g b0 b1 n0 n1 count seed rules unlimited → (f : Fetched)
         → f ≡ fetchOf g c0 c1 n0 n1 count seed
         → Answered (committedAs f) c0 c1
     unfolding compactOf compactStoresOf
-    answered-made k h f ef = (go (compactVerdict g b0 b1 n0 n1 count seed) h, left)
+    answered-made k h f ef = (go (compactVerdict g b0 b1 n0 n1 count seed rules) h, left)
       where
         go : (v : CompactVerdict) → stored.Made k ≡ compactMade unlimited v
-            → committedAs f ≡ compactAnswer (fetchOf g (compactImages g b0 b1 n0 n1 count seed unlimited .b0)
-            (compactImages g b0 b1 n0 n1 count seed unlimited .b1) n0 n1 count seed) v
+            → committedAs f ≡ compactAnswer (fetchOf g (compactImages g b0 b1 n0 n1 count seed rules unlimited .b0)
+            (compactImages g b0 b1 n0 n1 count seed rules unlimited .b1) n0 n1 count seed) v
         go (compactRefused x) k = cc
         go (compactAccepted w rev is size) k = ap committedAs ef ∙ rw (e0, e1)

@@ -23,8 +23,8 @@ pub fn lfs_dir_compact_stores(
     seed: u32,
     stores: u32,
 ) -> Stored
-    ensures { λ r. ⌜ r ≡ compactStoresOf g (now (b0 .entry)) (now (b1 .entry)) n0 n1 «block_count» seed stores ⌝ }
-    ensures { λ _. ⌜ CompactStoresLeaves g (now (b0 .entry)) (now (b1 .entry)) n0 n1 «block_count» seed stores
+    ensures { λ r. ⌜ r ≡ compactStoresOf g (now (b0 .entry)) (now (b1 .entry)) n0 n1 «block_count» seed rules stores ⌝ }
+    ensures { λ _. ⌜ CompactStoresLeaves g (now (b0 .entry)) (now (b1 .entry)) n0 n1 «block_count» seed rules stores
         (now (b0 .exit)) (now (b1 .exit)) ⌝ }
 {
     match fetch::lfs_dir_fetch(g, b0, b1, n0, n1, block_count, seed) {
@@ -51,8 +51,8 @@ pub fn lfs_dir_compact(
     block_count: u32,
     seed: u32,
 ) -> Committed
-    ensures { λ r. ⌜ r ≡ compactOf g (now (b0 .entry)) (now (b1 .entry)) n0 n1 «block_count» seed ⌝ }
-    ensures { λ _. ⌜ CompactLeaves g (now (b0 .entry)) (now (b1 .entry)) n0 n1 «block_count» seed
+    ensures { λ r. ⌜ r ≡ compactOf g (now (b0 .entry)) (now (b1 .entry)) n0 n1 «block_count» seed rules ⌝ }
+    ensures { λ _. ⌜ CompactLeaves g (now (b0 .entry)) (now (b1 .entry)) n0 n1 «block_count» seed rules
         (now (b0 .exit)) (now (b1 .exit)) ⌝ }
 {
     match lfs_dir_compact_stores(g, b0, b1, n0, n1, block_count, seed, UNLIMITED) {

@@ -20,3 +20,6 @@ pub mod Searched
 -- The room behind a log, and the order of a commit's refusals.
 pub mod Rooms
 pub mod Refusals
+-- Which logs are regular: document 01's rule and littlefs's; the slots that a directory is made to reach.
+pub mod Growing
+pub mod Slots

@@ -15,18 +15,20 @@ use Rattle.format.specs.Room.{firstUnerased, roomOf}
 use Rattle.format.specs.Entries.{bad, judge}
 use Rattle.format.specs.Writer.{refused, appended}
 use Rattle.format.specs.declared.Entry.{Entry}
+use Rattle.format.specs.declared.Rules.{Rules}
 use Rattle.format.specs.declared.Refusal.the-variants.{BadEntry, Irregular, Misaligned, TopBit, NotErased}
 use Rattle.format.specs.declared.Room.the-variants.{Refused}
 
-module _ (prog : ℕ) (second : Bool) (b : List ℕ) (es : List Event) (entries : List Entry) (dat : List ℕ) where
-  -- a log that is not regular is refused for it, whatever the entries
-  pub irregular-first : Regular es ≡ false → appended prog second b es entries dat ≡ refused Irregular
+module _ (r : Rules) (prog : ℕ) (second : Bool) (b : List ℕ) (es : List Event) (entries : List Entry)
+    (dat : List ℕ) where
+  -- a log that is not regular by the rule r is refused for it, whatever the entries
+  pub irregular-first : Regular r es ≡ false → appended r prog second b es entries dat ≡ refused Irregular
   unfolding appended
   irregular-first h = rw h
 
   -- a bad entry is refused for itself, whether there is room or not
-  pub bad-before-space : Regular es ≡ true → (i : ℕ) → judge dat 0 (countOf 0 es) entries ≡ bad i
-      → appended prog second b es entries dat ≡ refused (BadEntry i)
+  pub bad-before-space : Regular r es ≡ true → (i : ℕ) → judge dat 0 (countOf 0 es) entries ≡ bad i
+      → appended r prog second b es entries dat ≡ refused (BadEntry i)
   unfolding appended
   bad-before-space h i k = rw (h, k)
 

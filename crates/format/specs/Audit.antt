@@ -8,10 +8,11 @@ use Prim.Native.Nat.{ℕ, suc, _+_}
 use lib.ListN.{length}
 use lib.Dec.{ltb, eqb}
 use Rattle.format.specs.Log.{log}
-use Rattle.format.specs.Regular.{Regular}
+use Rattle.format.specs.Regular.{Regular, rulesOf}
 use Rattle.format.specs.Directory.{Load, Slot, dirOf}
 use Rattle.format.specs.Listing.{ascii, decimal, nameBytes, numberLine, refusedLine, fetchInput, fetchedText}
-use Rattle.format.specs.Listing.{inputProg, inputPair}
+use Rattle.format.specs.Listing.{ruledText, inputProg, inputPair, inputRules}
+use Rattle.format.specs.declared.Rules.{Rules}
 use Rattle.format.specs.declared.LfsPair.{LfsPair}
 use Rattle.format.specs.declared.LfsMdir.{LfsMdir}
 use Rattle.format.specs.declared.Refusal.the-variants.{Irregular}
@@ -89,13 +90,15 @@ unfoldable pub slotsAudit : List Slot → List ℕ
 slotsAudit D = auditLines 0 D ++ totalLines (tally lacksDeadline D) (tally lacksPayload D) (length D)
 
 -- ---- the whole text
--- A log that isn't regular has no directory: -202, and nothing else.
-unfoldable pub blockAudit : LfsMdir → List ℕ → List ℕ
-blockAudit m b = cond (Regular (log b)) (slotsAudit (dirOf (log b))) (refusedLine Irregular)
+-- A log that isn't regular, by the rule that was asked for, has no directory: -202, and nothing else.
+unfoldable pub blockAudit : Rules → LfsMdir → List ℕ → List ℕ
+blockAudit r m b = cond (Regular r (log b)) (slotsAudit (dirOf (log b))) (refusedLine Irregular)
 
--- the audit of a pair of that program size, whose blocks have those numbers; and of an input as the listing takes it
-abbrev pub auditAs : ℕ → LfsPair → List ℕ → List ℕ
-auditAs prog p input = fetchedText blockAudit p input (fetchInput prog p input)
+-- the audit, by that rule, of a pair of that program size, whose blocks have those numbers; and of an input as the
+-- listing takes it
+abbrev pub auditAs : ℕ → LfsPair → ℕ → List ℕ → List ℕ
+auditAs prog p rules input = ruledText rules
+    (fetchedText (blockAudit (rulesOf rules)) p input (fetchInput prog p input))
 
 abbrev pub auditOf : List ℕ → List ℕ
-auditOf input = auditAs inputProg inputPair input
+auditOf input = auditAs inputProg inputPair inputRules input

@@ -14,7 +14,7 @@ use Rattle.format.specs.Walk.{Event}
 use Rattle.format.specs.Log.{log}
 use Rattle.format.specs.Record.{noTail, tailOf, splitOf}
 use Rattle.format.specs.Fetch.{fetchOf}
-use Rattle.format.specs.Regular.{Regular}
+use Rattle.format.specs.Regular.{Regular, rulesFit, rulesOf}
 use Rattle.format.specs.Directory.{classes, Load, Slot, dirOf, moveOf}
 use Rattle.format.specs.Tag.{tagOf}
 use Rattle.format.specs.Commit.{Item, checkTag}
@@ -24,8 +24,9 @@ use Rattle.format.specs.Writer.{committedAs}
 use Rattle.format.specs.Writer.{unlimited}
 use Rattle.format.specs.declared.Geometry.{Geometry}
 use Rattle.format.specs.declared.LfsPair.{LfsPair}
+use Rattle.format.specs.declared.Rules.{Rules}
 use Rattle.format.specs.declared.Refusal.{Refusal}
-use Rattle.format.specs.declared.Refusal.the-variants.{Irregular, NoSpace, Coincidence}
+use Rattle.format.specs.declared.Refusal.the-variants.{Invalid, Irregular, NoSpace, Coincidence}
 use Rattle.format.specs.declared.Fetched.{Fetched}
 use Rattle.format.specs.declared.Fetched.the-variants as fetched
 use Rattle.format.specs.declared.Committed.{Committed}
@@ -87,19 +88,21 @@ placedAnew prog block second rev is =
     (compactAccepted second rev is (checkSize prog (compactCheckAt is))))
 
 -- "-202 | the committed log isn't regular"; "revision plus one (wrapping)"
-unfoldable pub compactable : ℕ → Bool → List ℕ → List Event → CompactVerdict
-compactable prog second b es =
-    cond (not (Regular es)) (compactRefused Irregular)
+unfoldable pub compactable : Rules → ℕ → Bool → List ℕ → List Event → CompactVerdict
+compactable r prog second b es =
+    cond (not (Regular r es)) (compactRefused Irregular)
     (placedAnew prog (length b) second (plus32 (le32 b) 1) (compactionItems es))
 
--- "Compaction: the same without -201 and -203": -22 and fetch's own refusals come from fetch
-abbrev pub compactFetched : ℕ → List ℕ → List ℕ → ℕ → Fetched → CompactVerdict
-compactFetched prog b0 b1 n0 (fetched.Refused r) = compactRefused r
-compactFetched prog b0 b1 n0 (fetched.Found m s) =
-    compactable prog (isSecond n0 m) (blockAt (isSecond n0 m) b0 b1) (log (blockAt (isSecond n0 m) b0 b1))
+-- "Compaction: the same without -201 and -203": -22 of the sizes and numbers, and fetch's own refusals, come from fetch
+abbrev pub compactFetched : Rules → ℕ → List ℕ → List ℕ → ℕ → Fetched → CompactVerdict
+compactFetched r prog b0 b1 n0 (fetched.Refused q) = compactRefused q
+compactFetched r prog b0 b1 n0 (fetched.Found m s) =
+    compactable r prog (isSecond n0 m) (blockAt (isSecond n0 m) b0 b1) (log (blockAt (isSecond n0 m) b0 b1))
 
-unfoldable pub compactVerdict : Geometry → List ℕ → List ℕ → ℕ → ℕ → ℕ → ℕ → CompactVerdict
-compactVerdict g b0 b1 n0 n1 count seed = compactFetched (g .«prog_size») b0 b1 n0 (fetchOf g b0 b1 n0 n1 count seed)
+unfoldable pub compactVerdict : Geometry → List ℕ → List ℕ → ℕ → ℕ → ℕ → ℕ → ℕ → CompactVerdict
+compactVerdict g b0 b1 n0 n1 count seed rules =
+    cond (not (rulesFit rules)) (compactRefused Invalid)
+    (compactFetched (rulesOf rules) (g .«prog_size») b0 b1 n0 (fetchOf g b0 b1 n0 n1 count seed))
 
 -- ---- what both calls leave and answer
 -- the stores: the erase, the revision, the entries, check tag and checksum; "padding isn't stored"
@@ -124,17 +127,17 @@ abbrev pub compactMade : ℕ → CompactVerdict → Stored
 compactMade n (compactRefused r) = stored.Refused r
 compactMade n (compactAccepted second rev is size) = stored.Made (min n (compactStores is))
 
-module _ (g : Geometry) (b0 b1 : List ℕ) (n0 n1 count seed : ℕ) where
+module _ (g : Geometry) (b0 b1 : List ℕ) (n0 n1 count seed rules : ℕ) where
   -- the images after n stores: of the call with a limit, and, all stores made, of `lfs_dir_compact`
   unfoldable pub compactImages : ℕ → Images
-  compactImages n = compactImagesAfter n b0 b1 (compactVerdict g b0 b1 n0 n1 count seed)
+  compactImages n = compactImagesAfter n b0 b1 (compactVerdict g b0 b1 n0 n1 count seed rules)
 
   -- `lfs_dir_compact`: "An accepted call answers what fetch gives on the finished pair from the same seed."
   unfoldable pub compactOf : Committed
   compactOf =
       compactAnswer (fetchOf g (compactImages unlimited .b0) (compactImages unlimited .b1) n0 n1 count seed)
-      (compactVerdict g b0 b1 n0 n1 count seed)
+      (compactVerdict g b0 b1 n0 n1 count seed rules)
 
   -- `lfs_dir_compact_stores`
   unfoldable pub compactStoresOf : ℕ → Stored
-  compactStoresOf n = compactMade n (compactVerdict g b0 b1 n0 n1 count seed)
+  compactStoresOf n = compactMade n (compactVerdict g b0 b1 n0 n1 count seed rules)

@@ -1,10 +1,11 @@
 -- Document 01: "a simple directory machine: slots inserted, removed, attributes set". The directory of a log is what
--- its entries make of an empty one. Assumes nothing.
+-- its entries make of an empty one. It is one machine for both rules: what is set in a slot that is not there makes it,
+-- which in a log that is regular by document 01 never happens, and by littlefs's rule for a name alone. Assumes nothing.
 use mathlib.Core.Bool.{Bool, cond}
 use mathlib.Core.Option.{Option, none, some}
 use mathlib.Core.List.{List, [], _∷_, _++_, reverse}
-use Prim.Native.Nat.{ℕ, suc, _+_, _^_}
-use lib.ListN.{take, drop, set, getD}
+use Prim.Native.Nat.{ℕ, suc, _+_, _-_, _^_}
+use lib.ListN.{length, take, drop, replicate, set, getD}
 use lib.Dec.{eqb}
 use Rattle.format.specs.Tag.{tagType1, tagType3, tagChunk, tagId, tagDelete}
 use Rattle.format.specs.Kind.{isName, typeDirStruct, typeUserAttr, typeCreate, typeDelete, typeMove}
@@ -37,11 +38,15 @@ pub data Act : Type 0 where
   put : ℕ → ℕ → Option Load → Act
   skip : Act
 
+-- "the slots in between are made, empty": as many behind the last one as make a slot j
+unfoldable pub reaching : ℕ → List Slot → List Slot
+reaching j D = D ++ replicate (suc j - length D) empty
+
 -- "slots inserted, removed, attributes set"
 unfoldable pub apply : List Slot → Act → List Slot
 apply D (mk j) = take j D ++ empty ∷ drop j D
 apply D (rm j) = take j D ++ drop (suc j) D
-apply D (put j c v) = set D j (upd (getD D j empty) c v)
+apply D (put j c v) = set (reaching j D) j (upd (getD D j empty) c v)
 apply D skip = D
 
 -- acts newest first

@@ -14,11 +14,12 @@ use lib.Dec.{leb, ltb, eqb}
 use Rattle.format.specs.Log.{log}
 use Rattle.format.specs.Answer.{refusalNumber}
 use Rattle.format.specs.Fetch.{fetchOf}
-use Rattle.format.specs.Regular.{Regular}
+use Rattle.format.specs.Regular.{Regular, rulesFit, rulesOf}
 use Rattle.format.specs.Directory.{Load, Slot, dirOf}
 use Rattle.format.specs.Writer.{blockAt, isSecond}
 use Rattle.format.specs.Compaction.{isNoTail}
 use Rattle.format.specs.declared.Geometry.{Geometry}
+use Rattle.format.specs.declared.Rules.{Rules}
 use Rattle.format.specs.declared.LfsPair.{LfsPair}
 use Rattle.format.specs.declared.LfsMdir.{LfsMdir}
 use Rattle.format.specs.declared.Refusal.{Refusal}
@@ -136,13 +137,13 @@ integer (negsuc n) = ascii "-" ++ decimal (suc n)
 unfoldable pub refusedLine : Refusal → List ℕ
 refusedLine r = ascii "refused " ++ (integer (refusalNumber r) ++ ascii "\n")
 
--- "for -202 after the erased line"
-unfoldable pub dirLines : List ℕ → List ℕ
-dirLines b = cond (Regular (log b)) (slotLines 0 (dirOf (log b))) (refusedLine Irregular)
+-- "for -202 after the erased line"; which logs are regular goes by the rule that was asked for
+unfoldable pub dirLines : Rules → List ℕ → List ℕ
+dirLines r b = cond (Regular r (log b)) (slotLines 0 (dirOf (log b))) (refusedLine Irregular)
 
 -- the record, and the directory behind it
-unfoldable pub blockText : LfsMdir → List ℕ → List ℕ
-blockText m b = recordLines m ++ dirLines b
+unfoldable pub blockText : Rules → LfsMdir → List ℕ → List ℕ
+blockText r m b = recordLines m ++ dirLines r b
 
 -- What fetch answers for an input, both images one behind the other: "block size is half the length, .. block count 0,
 -- seed 0; an odd length or one above 65,536 is -22". The program size and the two block numbers are given.
@@ -161,19 +162,27 @@ fetchedText shows p input (Refused r) = refusedLine r
 fetchedText shows p input (Found m s) =
     shows m (blockAt (isSecond (p .n0) m) (take (length input / 2) input) (drop (length input / 2) input))
 
--- the listing of a pair of that program size, whose blocks have those numbers
-abbrev pub listingAs : ℕ → LfsPair → List ℕ → List ℕ
-listingAs prog p input = fetchedText blockText p input (fetchInput prog p input)
+-- a text that goes by a rule: 0 or 1, "any other -22"
+abbrev pub ruledText : ℕ → List ℕ → List ℕ
+ruledText rules text = cond (not (rulesFit rules)) (refusedLine Invalid) text
 
--- document 01's own: "program size 16, numbers 0 and 1"
+-- the listing, by that rule, of a pair of that program size, whose blocks have those numbers
+abbrev pub listingAs : ℕ → LfsPair → ℕ → List ℕ → List ℕ
+listingAs prog p rules input = ruledText rules
+    (fetchedText (blockText (rulesOf rules)) p input (fetchInput prog p input))
+
+-- document 01's own: "program size 16, numbers 0 and 1", and its rule
 abbrev pub inputProg : ℕ
 inputProg = 16
 
 abbrev pub inputPair : LfsPair
 inputPair = record { n0 = 0; n1 = 1 }
 
+abbrev pub inputRules : ℕ
+inputRules = 0
+
 abbrev pub listingOf : List ℕ → List ℕ
-listingOf input = listingAs inputProg inputPair input
+listingOf input = listingAs inputProg inputPair inputRules input
 
 -- what is left in a buffer that the text was written to: the text as far as there is room, and behind it what was there
 abbrev pub writtenTo : List ℕ → List ℕ → List ℕ

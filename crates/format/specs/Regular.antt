@@ -1,4 +1,5 @@
--- Document 01, The added writer: the rules that entries run against, and which logs are regular. Assumes nothing.
+-- Document 01, The added writer: the rules that entries run against, and which logs are regular: by its rule, or by
+-- littlefs's beside it. Assumes nothing.
 use mathlib.Core.Bool.{Bool, true, false, cond, _&&_, _||_}
 use mathlib.Core.List.{List, [], _∷_}
 use Prim.Native.Nat.{ℕ, suc, _+_, _-_}
@@ -7,7 +8,10 @@ use Rattle.format.specs.Tag.{tagType3, tagId, tagSize, removalSize}
 use Rattle.format.specs.Kind.{typeFile, typeDirectory, typeSuperblock, typeDirStruct, typeInlineStruct}
 use Rattle.format.specs.Kind.{typeCtzStruct, typeUserAttr, typeCreate, typeDelete, typeForward, typeTail}
 use Rattle.format.specs.Kind.{typeHardTail, typeMove, noSlot}
+use Rattle.format.specs.Count.{countNamed}
 use Rattle.format.specs.Walk.{Event, ent, chk, inv}
+use Rattle.format.specs.declared.Rules.{Rules}
+use Rattle.format.specs.declared.Rules.the-variants.{Document, Littlefs}
 
 -- Which rule a type falls under.
 pub data Rule : Type 0 where
@@ -59,14 +63,59 @@ countAfter move c = c
 countAfter forward c = c
 countAfter bad c = c
 
--- The events of a log pass the rules from a count on, and "every check tag's size is 4 to 1,022".
-unfoldable pub regularFrom : ℕ → List Event → Bool
-regularFrom c [] = true
-regularFrom c (ent t d ∷ es) = ruleHolds (ruleOf true (tagType3 t)) c (tagId t) (tagSize t)
-    && regularFrom (countAfter (ruleOf true (tagType3 t)) c) es
-regularFrom c (chk t x ∷ es) = between 4 1_022 (tagSize t) && regularFrom c es
-regularFrom c (inv ∷ es) = regularFrom c es
+-- ---- littlefs's rule
+-- "The same, but as long as no create or delete has come, a name (0x001, 0x002, 0x0ff) with an id at or above the count,
+-- and at most 1,022, first raises the count to id + 1; the slots in between are made, empty." So names may make slots
+-- from the beginning of a log, or never.
+abbrev pub grows : Rules → Bool
+grows Document = false
+grows Littlefs = true
+
+-- "as long as no create or delete has come"
+unfoldable pub growsAfter : Bool → Rule → Bool
+growsAfter g create = false
+growsAfter g delete = false
+growsAfter g name = g
+growsAfter g inlined = g
+growsAfter g eight = g
+growsAfter g attribute = g
+growsAfter g tail = g
+growsAfter g move = g
+growsAfter g forward = g
+growsAfter g bad = g
+
+-- "a name .. with an id at or above the count, and at most 1,022, first raises the count to id + 1"
+unfoldable pub countRaised : Bool → Rule → ℕ → ℕ → ℕ
+countRaised g create c id = c
+countRaised g delete c id = c
+countRaised g name c id = cond (g && leb id 1_022) (countNamed c id) c
+countRaised g inlined c id = c
+countRaised g eight c id = c
+countRaised g attribute c id = c
+countRaised g tail c id = c
+countRaised g move c id = c
+countRaised g forward c id = c
+countRaised g bad c id = c
+
+-- ---- a log
+-- The events of a log pass the rules from a count on, and "every check tag's size is 4 to 1,022". `g`: names may make
+-- slots.
+unfoldable pub regularFrom : Bool → ℕ → List Event → Bool
+regularFrom g c [] = true
+regularFrom g c (ent t d ∷ es) =
+    ruleHolds (ruleOf true (tagType3 t)) (countRaised g (ruleOf true (tagType3 t)) c (tagId t)) (tagId t) (tagSize t)
+    && regularFrom (growsAfter g (ruleOf true (tagType3 t)))
+    (countAfter (ruleOf true (tagType3 t)) (countRaised g (ruleOf true (tagType3 t)) c (tagId t))) es
+regularFrom g c (chk t x ∷ es) = between 4 1_022 (tagSize t) && regularFrom g c es
+regularFrom g c (inv ∷ es) = regularFrom g c es
 
 -- "A log is regular if every check tag's size is 4 to 1,022 and its committed entries pass these rules from c = 0".
-unfoldable pub Regular : List Event → Bool
-Regular es = regularFrom 0 es
+unfoldable pub Regular : Rules → List Event → Bool
+Regular r es = regularFrom (grows r) 0 es
+
+-- ---- the rule as a call takes it: 0 document 01's, 1 littlefs's too; "any other -22"
+abbrev pub rulesFit : ℕ → Bool
+rulesFit n = leb n 1
+
+abbrev pub rulesOf : ℕ → Rules
+rulesOf n = cond (eqb n 0) Document Littlefs

@@ -11,7 +11,7 @@ use Rattle.format.specs.Log.{log, logEnd, logEndTag}
 use Rattle.format.specs.Record.{countOf}
 use Rattle.format.specs.Arith.{downTo}
 use Rattle.format.specs.Fetch.{pairFits, fetchOf}
-use Rattle.format.specs.Regular.{Regular}
+use Rattle.format.specs.Regular.{Regular, rulesFit, rulesOf}
 use Rattle.format.specs.Commit.{Item, checkTag}
 use Rattle.format.specs.Stores.{entriesLength, appending, coincides}
 use Rattle.format.specs.Room.{roomOf}
@@ -19,6 +19,7 @@ use Rattle.format.specs.Entries.{itemsOf, Judged, judge, bad, good}
 use Rattle.format.specs.declared.Geometry.{Geometry}
 use Rattle.format.specs.declared.LfsMdir.{LfsMdir}
 use Rattle.format.specs.declared.Entry.{Entry}
+use Rattle.format.specs.declared.Rules.{Rules}
 use Rattle.format.specs.declared.Refusal.{Refusal}
 use Rattle.format.specs.declared.Refusal.the-variants.{Invalid, BadEntry, Irregular, NoSpace, Coincidence}
 use Rattle.format.specs.declared.Room.{Room}
@@ -61,9 +62,10 @@ mostData = 65_536
 abbrev pub mostEntries : ℕ
 mostEntries = 8_192
 
-unfoldable pub commitFits : Geometry → ℕ → ℕ → ℕ → ℕ → ℕ → ℕ → Bool
-commitFits g length0 length1 n0 n1 entries bytes = pairFits g length0 length1 n0 n1 && leb bytes mostData
-    && leb entries mostEntries
+-- the sizes and numbers, and which rule
+unfoldable pub commitFits : Geometry → ℕ → ℕ → ℕ → ℕ → ℕ → ℕ → ℕ → Bool
+commitFits g length0 length1 n0 n1 rules entries bytes = pairFits g length0 length1 n0 n1 && leb bytes mostData
+    && leb entries mostEntries && rulesFit rules
 
 -- A call is refused, or accepted: whether the second block answers, and so is appended to, the entries, and their
 -- check's size.
@@ -95,10 +97,11 @@ abbrev pub judgedBy : Judged → Verdict → Verdict
 judgedBy (bad i) v = refused (BadEntry i)
 judgedBy (good c) v = v
 
--- "-202 | the committed log isn't regular", before -201
-unfoldable pub appended : ℕ → Bool → List ℕ → List Event → List Entry → List ℕ → Verdict
-appended prog second b es entries dat =
-    cond (not (Regular es)) (refused Irregular)
+-- "-202 | the committed log isn't regular", by the rule that was asked for, before -201. Entries run against the count
+-- by document 01's rules, whichever it was.
+unfoldable pub appended : Rules → ℕ → Bool → List ℕ → List Event → List Entry → List ℕ → Verdict
+appended r prog second b es entries dat =
+    cond (not (Regular r es)) (refused Irregular)
     (judgedBy (judge dat 0 (countOf 0 es) entries) (placed prog second b es (itemsOf dat entries)))
 
 -- The record's pair has the answering block's number first.
@@ -111,11 +114,11 @@ fetchedThen (fetched.Refused r) on = refused r
 fetchedThen (fetched.Found m s) on = on m
 
 -- "Commit: -22, fetch's own refusals, -202, -201, -28, -203, -204", with L1's three in -203's place.
-unfoldable pub verdictOf : Geometry → List ℕ → List ℕ → ℕ → ℕ → ℕ → ℕ → List Entry → List ℕ → Verdict
-verdictOf g b0 b1 n0 n1 count seed entries dat =
-    cond (not (commitFits g (length b0) (length b1) n0 n1 (length entries) (length dat))) (refused Invalid)
+unfoldable pub verdictOf : Geometry → List ℕ → List ℕ → ℕ → ℕ → ℕ → ℕ → ℕ → List Entry → List ℕ → Verdict
+verdictOf g b0 b1 n0 n1 count seed rules entries dat =
+    cond (not (commitFits g (length b0) (length b1) n0 n1 rules (length entries) (length dat))) (refused Invalid)
     (fetchedThen (fetchOf g b0 b1 n0 n1 count seed)
-    (λ m. appended (g .«prog_size») (isSecond n0 m) (blockAt (isSecond n0 m) b0 b1)
+    (λ m. appended (rulesOf rules) (g .«prog_size») (isSecond n0 m) (blockAt (isSecond n0 m) b0 b1)
     (log (blockAt (isSecond n0 m) b0 b1)) entries dat))
 
 -- ---- what both calls leave and answer
@@ -154,17 +157,17 @@ abbrev pub storesMade : ℕ → Verdict → Stored
 storesMade n (refused r) = stored.Refused r
 storesMade n (accepted second is size) = stored.Made (min n (allStores is))
 
-module _ (g : Geometry) (b0 b1 : List ℕ) (n0 n1 count seed : ℕ) (entries : List Entry) (dat : List ℕ) where
+module _ (g : Geometry) (b0 b1 : List ℕ) (n0 n1 count seed rules : ℕ) (entries : List Entry) (dat : List ℕ) where
   -- the images after n stores: of the call with a limit, and, all stores made, of `lfs_dir_commit`
   unfoldable pub commitImages : ℕ → Images
-  commitImages n = imagesAfter n b0 b1 (verdictOf g b0 b1 n0 n1 count seed entries dat)
+  commitImages n = imagesAfter n b0 b1 (verdictOf g b0 b1 n0 n1 count seed rules entries dat)
 
   -- `lfs_dir_commit`
   unfoldable pub commitOf : Committed
   commitOf =
       answerOf (fetchOf g (commitImages unlimited .b0) (commitImages unlimited .b1) n0 n1 count seed)
-      (verdictOf g b0 b1 n0 n1 count seed entries dat)
+      (verdictOf g b0 b1 n0 n1 count seed rules entries dat)
 
   -- `lfs_dir_commit_stores`
   unfoldable pub commitStoresOf : ℕ → Stored
-  commitStoresOf n = storesMade n (verdictOf g b0 b1 n0 n1 count seed entries dat)
+  commitStoresOf n = storesMade n (verdictOf g b0 b1 n0 n1 count seed rules entries dat)

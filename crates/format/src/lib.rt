@@ -57,6 +57,13 @@ pub struct Entry {
     pub len: u32,
 }
 
+// Which logs are regular: by document 01's rule alone, or by littlefs's too. littlefs's own compaction writes no creates:
+// there the names alone make the slots.
+pub enum Rules {
+    Document,
+    Littlefs,
+}
+
 // Document 01's table of refusals: one case for each line of it, with what comes back; in the place of its -203 stand
 // the three reasons of document 02, L1.
 pub enum Refusal {

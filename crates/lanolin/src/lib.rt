@@ -36,9 +36,9 @@ pub extern "C" fn lanolin_commit(
     entries: &[Entry],
     dat: &[u8],
 ) -> CommittedOut
-    ensures { λ r. ⌜ (r ≡ committedOut seed (commitOf g (now (b0 .entry)) (now (b1 .entry)) n0 n1 «block_count» seed
+    ensures { λ r. ⌜ (r ≡ committedOut seed (commitOf g (now (b0 .entry)) (now (b1 .entry)) n0 n1 «block_count» seed rules
         (now (entries .entry)) (now (dat .entry))))
-        × CommitLeaves g (now (b0 .entry)) (now (b1 .entry)) n0 n1 «block_count» seed
+        × CommitLeaves g (now (b0 .entry)) (now (b1 .entry)) n0 n1 «block_count» seed rules
         (now (entries .entry)) (now (dat .entry)) (now (b0 .exit)) (now (b1 .exit)) ⌝ }
 {
     let c = commit::lfs_dir_commit(g, b0, b1, n0, n1, block_count, seed, entries, dat);
@@ -58,9 +58,9 @@ pub extern "C" fn lanolin_commit_stores(
     dat: &[u8],
     stores: u32,
 ) -> StoredOut
-    ensures { λ r. ⌜ (r ≡ storedOut (commitStoresOf g (now (b0 .entry)) (now (b1 .entry)) n0 n1 «block_count» seed
+    ensures { λ r. ⌜ (r ≡ storedOut (commitStoresOf g (now (b0 .entry)) (now (b1 .entry)) n0 n1 «block_count» seed rules
         (now (entries .entry)) (now (dat .entry)) stores))
-        × CommitStoresLeaves g (now (b0 .entry)) (now (b1 .entry)) n0 n1 «block_count» seed
+        × CommitStoresLeaves g (now (b0 .entry)) (now (b1 .entry)) n0 n1 «block_count» seed rules
         (now (entries .entry)) (now (dat .entry)) stores (now (b0 .exit)) (now (b1 .exit)) ⌝ }
 {
     let s = commit::lfs_dir_commit_stores(

@@ -21,8 +21,8 @@ pub extern "C" fn lanolin_compact(
     seed: u32,
 ) -> CommittedOut
     ensures { λ r. ⌜ r ≡ committedOut seed (compactOf g (now (b0 .entry)) (now (b1 .entry)) n0 n1 «block_count»
-        seed) ⌝ }
-    ensures { λ _. ⌜ CompactLeaves g (now (b0 .entry)) (now (b1 .entry)) n0 n1 «block_count» seed
+        seed rules) ⌝ }
+    ensures { λ _. ⌜ CompactLeaves g (now (b0 .entry)) (now (b1 .entry)) n0 n1 «block_count» seed rules
         (now (b0 .exit)) (now (b1 .exit)) ⌝ }
 {
     committed_out(
@@ -42,9 +42,9 @@ pub extern "C" fn lanolin_compact_stores(
     seed: u32,
     stores: u32,
 ) -> StoredOut
-    ensures { λ r. ⌜ r ≡ storedOut (compactStoresOf g (now (b0 .entry)) (now (b1 .entry)) n0 n1 «block_count» seed
+    ensures { λ r. ⌜ r ≡ storedOut (compactStoresOf g (now (b0 .entry)) (now (b1 .entry)) n0 n1 «block_count» seed rules
         stores) ⌝ }
-    ensures { λ _. ⌜ CompactStoresLeaves g (now (b0 .entry)) (now (b1 .entry)) n0 n1 «block_count» seed stores
+    ensures { λ _. ⌜ CompactStoresLeaves g (now (b0 .entry)) (now (b1 .entry)) n0 n1 «block_count» seed rules stores
         (now (b0 .exit)) (now (b1 .exit)) ⌝ }
 {
     stored_out(compact::lfs_dir_compact_stores(g, b0, b1, n0, n1, block_count, seed, stores))

@@ -33,7 +33,7 @@ use Rattle.theory.specs.Commit.AcceptedVerdict.{past, past-room, found-then, go
 use Rattle.theory.specs.Compact.AcceptedVerdict as anew
 
 -- ---- a commit
-module _ (g : Geometry) (b0 b1 : List ℕ) (n0 n1 count seed : ℕ) (entries : List Entry) (dat : List ℕ) where
+module _ (g : Geometry) (b0 b1 : List ℕ) (n0 n1 count seed rules : ℕ) (entries : List Entry) (dat : List ℕ) where
   -- b is the block that answers
   pub record CommitConditions (second : Bool) (b : List ℕ) (is : List Item) (size : ℕ) : Type 0 where
     -- not -22: no "size or number above is broken"
@@ -60,19 +60,19 @@ module _ (g : Geometry) (b0 b1 : List ℕ) (n0 n1 count seed : ℕ) (entries : L
     pub check : size ≡ checkSize (g .«prog_size») (checkAt (log b) is)
 
 -- of a verdict that says the same
-alike : (g : Geometry) (b0 b1 : List ℕ) (n0 n1 count seed : ℕ) (entries : List Entry) (dat : List ℕ) (w v : Bool)
+alike : (g : Geometry) (b0 b1 : List ℕ) (n0 n1 count seed rules : ℕ) (entries : List Entry) (dat : List ℕ) (w v : Bool)
     (is js : List Item) (k l : ℕ) → w ≡ v → is ≡ js → k ≡ l
-    → CommitConditions g b0 b1 n0 n1 count seed entries dat w (blockAt w b0 b1) is k
-    → CommitConditions g b0 b1 n0 n1 count seed entries dat v (blockAt v b0 b1) js l
-alike g b0 b1 n0 n1 count seed entries dat w v is js k l e f h c = rw (← e, ← f, ← h) c
+    → CommitConditions g b0 b1 n0 n1 count seed rules entries dat w (blockAt w b0 b1) is k
+    → CommitConditions g b0 b1 n0 n1 count seed rules entries dat v (blockAt v b0 b1) js l
+alike g b0 b1 n0 n1 count seed rules entries dat w v is js k l e f h c = rw (← e, ← f, ← h) c
 
-module _ (g : Geometry) (b0 b1 : List ℕ) (n0 n1 count seed : ℕ) (entries : List Entry) (dat : List ℕ) (second : Bool)
+module _ (g : Geometry) (b0 b1 : List ℕ) (n0 n1 count seed rules : ℕ) (entries : List Entry) (dat : List ℕ) (second : Bool)
     (is : List Item) (size : ℕ) where
   abbrev prog : ℕ
   prog = g .«prog_size»
 
-  conditions : verdictOf g b0 b1 n0 n1 count seed entries dat ≡ accepted second is size
-      → CommitConditions g b0 b1 n0 n1 count seed entries dat second (blockAt second b0 b1) is size
+  conditions : verdictOf g b0 b1 n0 n1 count seed rules entries dat ≡ accepted second is size
+      → CommitConditions g b0 b1 n0 n1 count seed rules entries dat second (blockAt second b0 b1) is size
   unfolding verdictOf appended placed
   conditions h =
       let p = past (not (commitFits g (length b0) (length b1) n0 n1 (length entries) (length dat))) Invalid _ second is
@@ -92,7 +92,7 @@ module _ (g : Geometry) (b0 b1 : List ℕ) (n0 n1 count seed : ℕ) (entries : L
       let place : isSecond n0 (f .m) ≡ second = cc in
       let items : I ≡ is = cc in
       let check : checkSize prog (checkAt (log b) I) ≡ size = cc in
-      alike g b0 b1 n0 n1 count seed entries dat w second I is (checkSize prog (checkAt (log b) I)) size place items
+      alike g b0 b1 n0 n1 count seed rules entries dat w second I is (checkSize prog (checkAt (log b) I)) size place items
       check
       (record {
         fits = not-false _ (p .0);
@@ -111,8 +111,8 @@ module _ (g : Geometry) (b0 b1 : List ℕ) (n0 n1 count seed : ℕ) (entries : L
         check = refl;
       })
 
-  accepts : CommitConditions g b0 b1 n0 n1 count seed entries dat second (blockAt second b0 b1) is size
-      → verdictOf g b0 b1 n0 n1 count seed entries dat ≡ accepted second is size
+  accepts : CommitConditions g b0 b1 n0 n1 count seed rules entries dat second (blockAt second b0 b1) is size
+      → verdictOf g b0 b1 n0 n1 count seed rules entries dat ≡ accepted second is size
   unfolding verdictOf appended placed
   accepts c = rw (
     c .fits,
@@ -128,12 +128,12 @@ module _ (g : Geometry) (b0 b1 : List ℕ) (n0 n1 count seed : ℕ) (entries : L
     c .lucky,
   )
 
-  pub commit-accepted-exactly : (verdictOf g b0 b1 n0 n1 count seed entries dat ≡ accepted second is size)
-      ↔ CommitConditions g b0 b1 n0 n1 count seed entries dat second (blockAt second b0 b1) is size
+  pub commit-accepted-exactly : (verdictOf g b0 b1 n0 n1 count seed rules entries dat ≡ accepted second is size)
+      ↔ CommitConditions g b0 b1 n0 n1 count seed rules entries dat second (blockAt second b0 b1) is size
   commit-accepted-exactly = (conditions, accepts)
 
 -- ---- a compaction
-module _ (g : Geometry) (b0 b1 : List ℕ) (n0 n1 count seed : ℕ) where
+module _ (g : Geometry) (b0 b1 : List ℕ) (n0 n1 count seed rules : ℕ) where
   -- b is the block that answers
   pub record CompactConditions (second : Bool) (b : List ℕ) (rev : ℕ) (is : List Item) (size : ℕ) : Type 0 where
     -- not -22, and none of fetch's own refusals
@@ -153,16 +153,16 @@ module _ (g : Geometry) (b0 b1 : List ℕ) (n0 n1 count seed : ℕ) where
     pub items : is ≡ compactionItems (log b)
     pub check : size ≡ checkSize (g .«prog_size») (compactCheckAt is)
 
-alike-anew : (g : Geometry) (b0 b1 : List ℕ) (n0 n1 count seed : ℕ) (w v : Bool) (r s : ℕ) (is js : List Item) (k l : ℕ)
+alike-anew : (g : Geometry) (b0 b1 : List ℕ) (n0 n1 count seed rules : ℕ) (w v : Bool) (r s : ℕ) (is js : List Item) (k l : ℕ)
     → w ≡ v → r ≡ s → is ≡ js → k ≡ l
-    → CompactConditions g b0 b1 n0 n1 count seed w (blockAt w b0 b1) r is k
-    → CompactConditions g b0 b1 n0 n1 count seed v (blockAt v b0 b1) s js l
-alike-anew g b0 b1 n0 n1 count seed w v r s is js k l e d f h c = rw (← e, ← d, ← f, ← h) c
+    → CompactConditions g b0 b1 n0 n1 count seed rules w (blockAt w b0 b1) r is k
+    → CompactConditions g b0 b1 n0 n1 count seed rules v (blockAt v b0 b1) s js l
+alike-anew g b0 b1 n0 n1 count seed rules w v r s is js k l e d f h c = rw (← e, ← d, ← f, ← h) c
 
-module _ (g : Geometry) (b0 b1 : List ℕ) (n0 n1 count seed : ℕ) (second : Bool) (rev : ℕ) (is : List Item)
+module _ (g : Geometry) (b0 b1 : List ℕ) (n0 n1 count seed rules : ℕ) (second : Bool) (rev : ℕ) (is : List Item)
     (size : ℕ) where
-  compact-conditions : compactVerdict g b0 b1 n0 n1 count seed ≡ compactAccepted second rev is size
-      → CompactConditions g b0 b1 n0 n1 count seed second (blockAt second b0 b1) rev is size
+  compact-conditions : compactVerdict g b0 b1 n0 n1 count seed rules ≡ compactAccepted second rev is size
+      → CompactConditions g b0 b1 n0 n1 count seed rules second (blockAt second b0 b1) rev is size
   unfolding compactVerdict compactable placedAnew
   compact-conditions h =
       let p : ℕ = g .«prog_size» in
@@ -180,7 +180,7 @@ module _ (g : Geometry) (b0 b1 : List ℕ) (n0 n1 count seed : ℕ) (second : Bo
       let next : R ≡ rev = cc in
       let items : I ≡ is = cc in
       let check : checkSize p (compactCheckAt I) ≡ size = cc in
-      alike-anew g b0 b1 n0 n1 count seed (isSecond n0 (f .0)) second R rev I is (checkSize p (compactCheckAt I)) size
+      alike-anew g b0 b1 n0 n1 count seed rules (isSecond n0 (f .0)) second R rev I is (checkSize p (compactCheckAt I)) size
       place next items check
       (record {
         dir = f .0;
@@ -196,11 +196,11 @@ module _ (g : Geometry) (b0 b1 : List ℕ) (n0 n1 count seed : ℕ) (second : Bo
         check = refl;
       })
 
-  compact-accepts : CompactConditions g b0 b1 n0 n1 count seed second (blockAt second b0 b1) rev is size
-      → compactVerdict g b0 b1 n0 n1 count seed ≡ compactAccepted second rev is size
+  compact-accepts : CompactConditions g b0 b1 n0 n1 count seed rules second (blockAt second b0 b1) rev is size
+      → compactVerdict g b0 b1 n0 n1 count seed rules ≡ compactAccepted second rev is size
   unfolding compactVerdict compactable placedAnew
   compact-accepts c = rw (c .found, c .place, c .regular, ← c .items, ← c .next, c .room, ← c .check, c .lucky)
 
-  pub compact-accepted-exactly : (compactVerdict g b0 b1 n0 n1 count seed ≡ compactAccepted second rev is size)
-      ↔ CompactConditions g b0 b1 n0 n1 count seed second (blockAt second b0 b1) rev is size
+  pub compact-accepted-exactly : (compactVerdict g b0 b1 n0 n1 count seed rules ≡ compactAccepted second rev is size)
+      ↔ CompactConditions g b0 b1 n0 n1 count seed rules second (blockAt second b0 b1) rev is size
   compact-accepted-exactly = (compact-conditions, compact-accepts)

@@ -246,19 +246,19 @@ module _ (g : Geometry) (b0 b1 : List ℕ) (n0 n1 count seed : ℕ) where
   fetch-told = fetched-determined seed _ (fetch-possible g b0 b1 n0 n1 count seed)
 
   pub commit-told : (entries : List Entry) (dat : List ℕ)
-      → CommittedTold seed (commitOf g b0 b1 n0 n1 count seed entries dat)
+      → CommittedTold seed (commitOf g b0 b1 n0 n1 count seed rules entries dat)
   commit-told entries dat =
-      committed-determined CommitRefuses (λ r h. h) seed _ (commit-possible g b0 b1 n0 n1 count seed entries dat)
+      committed-determined CommitRefuses (λ r h. h) seed _ (commit-possible g b0 b1 n0 n1 count seed rules entries dat)
 
   pub commit-stores-told : (entries : List Entry) (dat : List ℕ) (n : ℕ)
-      → StoredTold (commitStoresOf g b0 b1 n0 n1 count seed entries dat n)
+      → StoredTold (commitStoresOf g b0 b1 n0 n1 count seed rules entries dat n)
   commit-stores-told entries dat n =
-      stored-determined CommitRefuses (λ r h. h) _ (commit-stores-possible g b0 b1 n0 n1 count seed entries dat n)
+      stored-determined CommitRefuses (λ r h. h) _ (commit-stores-possible g b0 b1 n0 n1 count seed rules entries dat n)
 
-  pub compact-told : CommittedTold seed (compactOf g b0 b1 n0 n1 count seed)
+  pub compact-told : CommittedTold seed (compactOf g b0 b1 n0 n1 count seed rules)
   compact-told =
-      committed-determined CompactRefuses compact-written seed _ (compact-possible g b0 b1 n0 n1 count seed)
+      committed-determined CompactRefuses compact-written seed _ (compact-possible g b0 b1 n0 n1 count seed rules)
 
-  pub compact-stores-told : (n : ℕ) → StoredTold (compactStoresOf g b0 b1 n0 n1 count seed n)
+  pub compact-stores-told : (n : ℕ) → StoredTold (compactStoresOf g b0 b1 n0 n1 count seed rules n)
   compact-stores-told n =
-      stored-determined CompactRefuses compact-written _ (compact-stores-possible g b0 b1 n0 n1 count seed n)
+      stored-determined CompactRefuses compact-written _ (compact-stores-possible g b0 b1 n0 n1 count seed rules n)

@@ -129,8 +129,8 @@ compact-made n (compactRefused r) h = h
 compact-made n (compactAccepted second rev is size) h = tt
 
 -- ---- the four calls that write: without a limit of stores, and with one
-module _ (g : Geometry) (b0 b1 : List ℕ) (n0 n1 count seed : ℕ) where
-  verdict-possible : (entries : List Entry) (dat : List ℕ) → Commits (verdictOf g b0 b1 n0 n1 count seed entries dat)
+module _ (g : Geometry) (b0 b1 : List ℕ) (n0 n1 count seed rules : ℕ) where
+  verdict-possible : (entries : List Entry) (dat : List ℕ) → Commits (verdictOf g b0 b1 n0 n1 count seed rules entries dat)
   unfolding verdictOf
   verdict-possible entries dat =
       through Commits (not (commitFits g (length b0) (length b1) n0 n1 (length entries) (length dat))) commit22
@@ -139,33 +139,33 @@ module _ (g : Geometry) (b0 b1 : List ℕ) (n0 n1 count seed : ℕ) where
       appended-possible (g .«prog_size») (isSecond n0 m) b (log b) entries dat))
 
   pub commit-possible : (entries : List Entry) (dat : List ℕ)
-      → CommittedOr CommitRefuses (commitOf g b0 b1 n0 n1 count seed entries dat)
+      → CommittedOr CommitRefuses (commitOf g b0 b1 n0 n1 count seed rules entries dat)
   unfolding commitOf
   commit-possible entries dat =
-      let after : Images = commitImages g b0 b1 n0 n1 count seed entries dat unlimited in
+      let after : Images = commitImages g b0 b1 n0 n1 count seed rules entries dat unlimited in
       verdict-answer (fetchOf g (after .b0) (after .b1) n0 n1 count seed)
-      (verdictOf g b0 b1 n0 n1 count seed entries dat)
+      (verdictOf g b0 b1 n0 n1 count seed rules entries dat)
       (fetch-possible g (after .b0) (after .b1) n0 n1 count seed) (verdict-possible entries dat)
 
   pub commit-stores-possible : (entries : List Entry) (dat : List ℕ) (n : ℕ)
-      → StoredOr CommitRefuses (commitStoresOf g b0 b1 n0 n1 count seed entries dat n)
+      → StoredOr CommitRefuses (commitStoresOf g b0 b1 n0 n1 count seed rules entries dat n)
   unfolding commitStoresOf
   commit-stores-possible entries dat n =
-      verdict-made n (verdictOf g b0 b1 n0 n1 count seed entries dat) (verdict-possible entries dat)
+      verdict-made n (verdictOf g b0 b1 n0 n1 count seed rules entries dat) (verdict-possible entries dat)
 
-  compact-verdict-possible : Compacts (compactVerdict g b0 b1 n0 n1 count seed)
+  compact-verdict-possible : Compacts (compactVerdict g b0 b1 n0 n1 count seed rules)
   unfolding compactVerdict
   compact-verdict-possible =
       compact-fetched (g .«prog_size») b0 b1 n0 (fetchOf g b0 b1 n0 n1 count seed)
       (fetch-possible g b0 b1 n0 n1 count seed)
 
-  pub compact-possible : CommittedOr CompactRefuses (compactOf g b0 b1 n0 n1 count seed)
+  pub compact-possible : CommittedOr CompactRefuses (compactOf g b0 b1 n0 n1 count seed rules)
   unfolding compactOf
   compact-possible =
-      let after : Images = compactImages g b0 b1 n0 n1 count seed unlimited in
-      compact-answer (fetchOf g (after .b0) (after .b1) n0 n1 count seed) (compactVerdict g b0 b1 n0 n1 count seed)
+      let after : Images = compactImages g b0 b1 n0 n1 count seed rules unlimited in
+      compact-answer (fetchOf g (after .b0) (after .b1) n0 n1 count seed) (compactVerdict g b0 b1 n0 n1 count seed rules)
       (fetch-possible g (after .b0) (after .b1) n0 n1 count seed) compact-verdict-possible
 
-  pub compact-stores-possible : (n : ℕ) → StoredOr CompactRefuses (compactStoresOf g b0 b1 n0 n1 count seed n)
+  pub compact-stores-possible : (n : ℕ) → StoredOr CompactRefuses (compactStoresOf g b0 b1 n0 n1 count seed rules n)
   unfolding compactStoresOf
-  compact-stores-possible n = compact-made n (compactVerdict g b0 b1 n0 n1 count seed) compact-verdict-possible
+  compact-stores-possible n = compact-made n (compactVerdict g b0 b1 n0 n1 count seed rules) compact-verdict-possible

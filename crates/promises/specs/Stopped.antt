@@ -20,46 +20,46 @@ use Rattle.format.specs.declared.Committed.the-variants as committed
 use Rattle.theory.specs.Stopped.Commit.{stopped-commit, commit-refetched}
 use Rattle.theory.specs.Stopped.Compaction.{block-bytes, stopped-compaction, compact-refetched}
 
-module _ (g : Geometry) (b0 b1 : List ℕ) (n0 n1 count seed : ℕ) where
+module _ (g : Geometry) (b0 b1 : List ℕ) (n0 n1 count seed rules : ℕ) where
   -- ---- DEMAND 3
   -- every pair, every accepted commit, every n
   pub commit-stopped : (entries : List Entry) (dat : List ℕ) (n : ℕ)
-      → CommitStopped g b0 b1 n0 n1 count seed entries dat
-      (commitImages g b0 b1 n0 n1 count seed entries dat n .b0)
-      (commitImages g b0 b1 n0 n1 count seed entries dat n .b1)
-  commit-stopped = stopped-commit g b0 b1 n0 n1 count seed
+      → CommitStopped g b0 b1 n0 n1 count seed rules entries dat
+      (commitImages g b0 b1 n0 n1 count seed rules entries dat n .b0)
+      (commitImages g b0 b1 n0 n1 count seed rules entries dat n .b1)
+  commit-stopped = stopped-commit g b0 b1 n0 n1 count seed rules
 
   -- every pair of bytes, every accepted compaction, every n
   pub compact-stopped : (n : ℕ) → Bytes b0 → Bytes b1
-      → CompactStopped g b0 b1 n0 n1 count seed
-      (compactImages g b0 b1 n0 n1 count seed n .b0) (compactImages g b0 b1 n0 n1 count seed n .b1)
-  compact-stopped = stopped-compaction g b0 b1 n0 n1 count seed
+      → CompactStopped g b0 b1 n0 n1 count seed rules
+      (compactImages g b0 b1 n0 n1 count seed rules n .b0) (compactImages g b0 b1 n0 n1 count seed rules n .b1)
+  compact-stopped = stopped-compaction g b0 b1 n0 n1 count seed rules
 
   -- ---- an accepted call is done
   pub commit-done : (entries : List Entry) (dat : List ℕ) (second : Bool) (is : List Item) (size : ℕ)
-      → verdictOf g b0 b1 n0 n1 count seed entries dat ≡ accepted second is size
-      → (m : LfsMdir) × (s : ℕ) × (commitOf g b0 b1 n0 n1 count seed entries dat ≡ committed.Done m s)
+      → verdictOf g b0 b1 n0 n1 count seed rules entries dat ≡ accepted second is size
+      → (m : LfsMdir) × (s : ℕ) × (commitOf g b0 b1 n0 n1 count seed rules entries dat ≡ committed.Done m s)
   unfolding commitOf
   commit-done entries dat second is size h =
-      let f = commit-refetched g b0 b1 n0 n1 count seed entries dat second is size h in
+      let f = commit-refetched g b0 b1 n0 n1 count seed rules entries dat second is size h in
       (f .0, f .1, rw (h, f .2))
 
   pub compact-done : Bytes b0 → Bytes b1 → (second : Bool) (rev : ℕ) (is : List Item) (size : ℕ)
-      → compactVerdict g b0 b1 n0 n1 count seed ≡ compactAccepted second rev is size
-      → (m : LfsMdir) × (s : ℕ) × (compactOf g b0 b1 n0 n1 count seed ≡ committed.Done m s)
+      → compactVerdict g b0 b1 n0 n1 count seed rules ≡ compactAccepted second rev is size
+      → (m : LfsMdir) × (s : ℕ) × (compactOf g b0 b1 n0 n1 count seed rules ≡ committed.Done m s)
   unfolding compactOf
   compact-done y0 y1 second rev is size h =
-      let f = compact-refetched g b0 b1 n0 n1 count seed second rev is size h (block-bytes second b0 b1 y0 y1) in
+      let f = compact-refetched g b0 b1 n0 n1 count seed rules second rev is size h (block-bytes second b0 b1 y0 y1) in
       (f .0, f .1, rw (h, f .2))
 
   -- ---- so a refused one has altered nothing (demand 1, of the calls without a limit)
   pub commit-all-refused : (entries : List Entry) (dat : List ℕ) (r : Refusal)
-      → commitOf g b0 b1 n0 n1 count seed entries dat ≡ committed.Refused r
-      → commitImages g b0 b1 n0 n1 count seed entries dat unlimited ≡ images b0 b1
+      → commitOf g b0 b1 n0 n1 count seed rules entries dat ≡ committed.Refused r
+      → commitImages g b0 b1 n0 n1 count seed rules entries dat unlimited ≡ images b0 b1
   unfolding commitImages
-  commit-all-refused entries dat r h = go (verdictOf g b0 b1 n0 n1 count seed entries dat) refl
+  commit-all-refused entries dat r h = go (verdictOf g b0 b1 n0 n1 count seed rules entries dat) refl
     where
-      go : (v : Verdict) → verdictOf g b0 b1 n0 n1 count seed entries dat ≡ v
+      go : (v : Verdict) → verdictOf g b0 b1 n0 n1 count seed rules entries dat ≡ v
           → imagesAfter unlimited b0 b1 v ≡ images b0 b1
       go (refused q) e = refl
       go (accepted w is size) e =
@@ -68,12 +68,12 @@ module _ (g : Geometry) (b0 b1 : List ℕ) (n0 n1 count seed : ℕ) where
           cc
 
   pub compact-all-refused : Bytes b0 → Bytes b1 → (r : Refusal)
-      → compactOf g b0 b1 n0 n1 count seed ≡ committed.Refused r
-      → compactImages g b0 b1 n0 n1 count seed unlimited ≡ images b0 b1
+      → compactOf g b0 b1 n0 n1 count seed rules ≡ committed.Refused r
+      → compactImages g b0 b1 n0 n1 count seed rules unlimited ≡ images b0 b1
   unfolding compactImages
-  compact-all-refused y0 y1 r h = go (compactVerdict g b0 b1 n0 n1 count seed) refl
+  compact-all-refused y0 y1 r h = go (compactVerdict g b0 b1 n0 n1 count seed rules) refl
     where
-      go : (v : CompactVerdict) → compactVerdict g b0 b1 n0 n1 count seed ≡ v
+      go : (v : CompactVerdict) → compactVerdict g b0 b1 n0 n1 count seed rules ≡ v
           → compactImagesAfter unlimited b0 b1 v ≡ images b0 b1
       go (compactRefused q) e = refl
       go (compactAccepted w rev is size) e =

@@ -37,8 +37,8 @@ begins sum prev [] ct h k m = first-byte ct prev k h
 begins sum prev (i ∷ is) ct h k m = first-byte (i .tag) prev (m .0 .0) h
 
 -- ---- the call: the images after n stores, by the end and the end tag that were there before
-module _ (g : Geometry) (b0 b1 : List ℕ) (n0 n1 count seed : ℕ) (entries : List Entry) (dat : List ℕ) (second : Bool)
-    (is : List Item) (size : ℕ) (h : verdictOf g b0 b1 n0 n1 count seed entries dat ≡ accepted second is size)
+module _ (g : Geometry) (b0 b1 : List ℕ) (n0 n1 count seed rules : ℕ) (entries : List Entry) (dat : List ℕ) (second : Bool)
+    (is : List Item) (size : ℕ) (h : verdictOf g b0 b1 n0 n1 count seed rules entries dat ≡ accepted second is size)
     (n : ℕ) (some : 1 ≤ n) where
   abbrev old : List ℕ
   old = blockAt second b0 b1
@@ -50,7 +50,7 @@ module _ (g : Geometry) (b0 b1 : List ℕ) (n0 n1 count seed : ℕ) (entries : L
   etag = logEndTag (log old)
 
   abbrev left : Images
-  left = commitImages g b0 b1 n0 n1 count seed entries dat n
+  left = commitImages g b0 b1 n0 n1 count seed rules entries dat n
 
   abbrev bytes : List ℕ
   bytes = commitBytes allOnes etag is (checkTag size)
@@ -60,17 +60,17 @@ module _ (g : Geometry) (b0 b1 : List ℕ) (n0 n1 count seed : ℕ) (entries : L
 
   -- what every accepted commit has: its bytes, room for them, and a block that keeps its length
   long : length bytes ≡ allStores is
-  long = stopped.bytes-length g b0 b1 n0 n1 count seed entries dat second is size h
+  long = stopped.bytes-length g b0 b1 n0 n1 count seed rules entries dat second is size h
 
   fits : end + allStores is ≤ length old
-  fits = stopped.room g b0 b1 n0 n1 count seed entries dat second is size h
+  fits = stopped.room g b0 b1 n0 n1 count seed rules entries dat second is size h
 
   same-length : length (storedTo old is size n) ≡ length old
-  same-length = stopped.stored-length g b0 b1 n0 n1 count seed entries dat second is size h made (omega arith)
+  same-length = stopped.stored-length g b0 b1 n0 n1 count seed rules entries dat second is size h made (omega arith)
 
   no-reason : NoReason (g .«prog_size») old end etag
   no-reason = clean-exactly (g .«prog_size») old end etag .0
-      (commit-accepted-exactly g b0 b1 n0 n1 count seed entries dat second is size .0 h .clean)
+      (commit-accepted-exactly g b0 b1 n0 n1 count seed rules entries dat second is size .0 h .clean)
 
   stored-byte : getD (storedTo old is size n) end 0 ≡ getD bytes 0 0
   unfolding appending
@@ -85,13 +85,13 @@ module _ (g : Geometry) (b0 b1 : List ℕ) (n0 n1 count seed : ℕ) (entries : L
   small : getD bytes 0 0 < 0xff
   small =
       begins allOnes etag is (checkTag size) (no-reason .top)
-      (stopped.ok g b0 b1 n0 n1 count seed entries dat second is size h .check .small)
-      (stopped.takes g b0 b1 n0 n1 count seed entries dat second is size h .made)
+      (stopped.ok g b0 b1 n0 n1 count seed rules entries dat second is size h .check .small)
+      (stopped.takes g b0 b1 n0 n1 count seed rules entries dat second is size h .made)
 
   pub torn-at-end : roomOf (g .«prog_size») (blockAt second (left .b0) (left .b1)) end etag ≡ Refused (NotErased end)
   torn-at-end =
       ap (λ (b : List ℕ). roomOf (g .«prog_size») b end etag)
-      (stopped.commit-written g b0 b1 n0 n1 count seed entries dat second is size h n .0)
+      (stopped.commit-written g b0 b1 n0 n1 count seed rules entries dat second is size h n .0)
       ∙ not-erased-exactly (g .«prog_size») (storedTo old is size n) end etag end .1 (
         no-reason .aligned,
         no-reason .top,

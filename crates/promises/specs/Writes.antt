@@ -22,15 +22,15 @@ compact-kept : (n : ℕ) (b0 b1 : List ℕ) (v : CompactVerdict) (r : Refusal) �
 compact-kept n b0 b1 (compactRefused q) r h = refl
 compact-kept n b0 b1 (compactAccepted second rev is size) r h = cc
 
-module _ (g : Geometry) (b0 b1 : List ℕ) (n0 n1 count seed : ℕ) where
+module _ (g : Geometry) (b0 b1 : List ℕ) (n0 n1 count seed rules : ℕ) where
   pub commit-refused : (entries : List Entry) (dat : List ℕ) (n : ℕ) (r : Refusal)
-      → commitStoresOf g b0 b1 n0 n1 count seed entries dat n ≡ stored.Refused r
-      → commitImages g b0 b1 n0 n1 count seed entries dat n ≡ images b0 b1
+      → commitStoresOf g b0 b1 n0 n1 count seed rules entries dat n ≡ stored.Refused r
+      → commitImages g b0 b1 n0 n1 count seed rules entries dat n ≡ images b0 b1
   unfolding commitStoresOf commitImages
-  commit-refused entries dat n r = commit-kept n b0 b1 (verdictOf g b0 b1 n0 n1 count seed entries dat) r
+  commit-refused entries dat n r = commit-kept n b0 b1 (verdictOf g b0 b1 n0 n1 count seed rules entries dat) r
 
   pub compact-refused : (n : ℕ) (r : Refusal)
-      → compactStoresOf g b0 b1 n0 n1 count seed n ≡ stored.Refused r
-      → compactImages g b0 b1 n0 n1 count seed n ≡ images b0 b1
+      → compactStoresOf g b0 b1 n0 n1 count seed rules n ≡ stored.Refused r
+      → compactImages g b0 b1 n0 n1 count seed rules n ≡ images b0 b1
   unfolding compactStoresOf compactImages
-  compact-refused n r = compact-kept n b0 b1 (compactVerdict g b0 b1 n0 n1 count seed) r
+  compact-refused n r = compact-kept n b0 b1 (compactVerdict g b0 b1 n0 n1 count seed rules) r

@@ -4,13 +4,13 @@ use mathlib.Core.Path.{_≡_, refl}
 use mathlib.Core.Bool.{Bool, true, false, cond}
 use mathlib.Core.Option.{Option, none, some}
 use mathlib.Core.List.{List, [], _∷_, _++_, reverse, reverseAux}
-use Prim.Native.Nat.{ℕ, zero, suc, _+_, _^_, _≤_, _<_}
+use Prim.Native.Nat.{ℕ, zero, suc, _+_, _-_, _^_, _≤_, _<_}
 use native.Mathlib.Omega.{arith}
-use lib.ListN.{length, take, drop, getD, set}
+use lib.ListN.{length, take, drop, getD, set, replicate}
 use lib.Dec.{eqb}
 use borrow.Author.Tests.{eqb-true}
 use Rattle.format.specs.Walk.{Event}
-use Rattle.format.specs.Directory.{Slot, Load, classes, put, Act, mk, rm, skip, empty, upd, dir, apply, dirOf, acts}
+use Rattle.format.specs.Directory.{Slot, Load, classes, put, Act, mk, rm, skip, empty, upd, dir, reaching, apply, dirOf, acts}
 use Rattle.theory.specs.Directory.Rebuild.{AllHeld, puts, emit, rebuild}
 use Rattle.theory.specs.Blocks.ActItems.{LoadOk, TypeOf, AllOk}
 
@@ -93,6 +93,15 @@ ok-set [] i s h k = tt
 ok-set (x ∷ D) zero s h k = (k, h .1)
 ok-set (x ∷ D) (suc i) s h k = (h .0, ok-set D i s (h .1) k)
 
+-- slots that are made are empty
+ok-made : (n : ℕ) → OkSlots (replicate n empty)
+ok-made zero = tt
+ok-made (suc n) = (ok-empty, ok-made n)
+
+ok-reaching : (D : List Slot) (j : ℕ) → OkSlots D → OkSlots (reaching j D)
+unfolding reaching
+ok-reaching D j h = ok-app D (replicate (suc j - length D) empty) h (ok-made (suc j - length D))
+
 ok-upd : (s : Slot) (c j : ℕ) (v : Option Load) → OkSlot s → PutOk (put j c v) → OkSlot (upd s c v)
 unfolding upd
 ok-upd s c j v ok p k w h = go (eqb k c) refl v p h
@@ -111,7 +120,7 @@ ok-dir (mk j ∷ l) h = let r = ok-dir l (h .1) in ok-app (take j (dir l)) (empt
     (ok-empty, ok-drop j (dir l) r)
 ok-dir (rm j ∷ l) h = let r = ok-dir l (h .1) in ok-app (take j (dir l)) (drop (suc j) (dir l)) (ok-take j (dir l) r)
     (ok-drop (suc j) (dir l) r)
-ok-dir (put j c v ∷ l) h = let r = ok-dir l (h .1) in ok-set (dir l) j (upd (getD (dir l) j empty) c v) r
+ok-dir (put j c v ∷ l) h = let r = ok-dir l (h .1) in ok-set (reaching j (dir l)) j (upd (getD (dir l) j empty) c v) (ok-reaching (dir l) j r)
     (ok-upd (getD (dir l) j empty) c j v (ok-get (dir l) j r) (h .0))
 ok-dir (skip ∷ l) h = ok-dir l (h .1)
 

@@ -17,6 +17,8 @@ use Rattle.format.specs.Walk.{Event}
 use Rattle.format.specs.Log.{log, logEnd, logEndTag}
 use Rattle.format.specs.View.{at}
 use Rattle.format.specs.Regular.{between, Regular}
+use Rattle.format.specs.declared.Rules.{Rules}
+use Rattle.format.specs.declared.Rules.the-variants.{Littlefs}
 use Rattle.format.specs.Commit.{checkTag, Item, itemsHold}
 use Rattle.format.specs.Stores.{erasedByte, erased, allErased, fill, entriesLength, appending, coincides}
 use Rattle.format.specs.Directory.{acts}
@@ -69,8 +71,8 @@ no-coincidence [] sum p ct h = go
 pub record Accepts (b : List ℕ) (es : List Event) (is : List Item) (size : ℕ) : Type 0 where
   pub old : log b ≡ es
   pub nonempty : es ≢ []
-  -- "-202 | the committed log isn't regular"
-  pub regular : Regular es ≡ true
+  -- "-202 | the committed log isn't regular", by littlefs's rule, the wider one
+  pub regular : Regular Littlefs es ≡ true
   -- "-201 | an entry is bad"
   pub made : AllMade is
   pub hold : itemsHold (slotsAfterAll 0 (acts es)) is ≡ true
@@ -109,10 +111,11 @@ module _ (b : List ℕ) (es : List Event) (is : List Item) (size : ℕ) (a : Acc
         lucky = no-coincidence is allOnes (logEndTag es) (checkTag size) (a .lucky);
       }
 
-  -- the finished log is regular again, so that the next commit is not refused for it
-  pub finished-regular : Regular (es ++ commitEvents allOnes (logEndTag es) is (checkTag size)) ≡ true
-  finished-regular =
-      regular-again es allOnes (logEndTag es) is (checkTag size) (a .regular) (a .hold)
+  -- the finished log is regular again, by each rule by which it was, so that the next commit is not refused for it
+  pub finished-regular : (r : Rules) → Regular r es ≡ true
+      → Regular r (es ++ commitEvents allOnes (logEndTag es) is (checkTag size)) ≡ true
+  finished-regular r h =
+      regular-again r es allOnes (logEndTag es) is (checkTag size) h (a .hold)
       (rw (of-size typeCheck noSlot size (omega (arith, check-size .1))) (a .check))
 
   -- DEMAND 3: b answers, at place w, and o is the other block

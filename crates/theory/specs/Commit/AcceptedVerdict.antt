@@ -19,7 +19,9 @@ use Rattle.format.specs.Log.{log, logEnd, logEndTag}
 use Rattle.format.specs.Record.{countOf}
 use Rattle.format.specs.View.{at}
 use Rattle.format.specs.Fetch.{geometryFits, imagesFit, pairFits, fetchOf}
-use Rattle.format.specs.Regular.{Regular}
+use Rattle.format.specs.Regular.{Regular, rulesFit, rulesOf}
+use Rattle.format.specs.declared.Rules.{Rules}
+use Rattle.format.specs.declared.Rules.the-variants.{Littlefs}
 use Rattle.format.specs.Commit.{Item, checkTag}
 use Rattle.format.specs.Stores.{allErased, entriesLength, coincides}
 use Rattle.format.specs.Entries.{itemsOf, Judged, judge, bad, good}
@@ -38,6 +40,7 @@ use Rattle.format.specs.declared.Fetched.{Fetched}
 use Rattle.format.specs.declared.Fetched.the-variants as fetched
 use Rattle.format.proofs.Tags.{of-length}
 use Rattle.format.proofs.Rooms.{clean-holds}
+use Rattle.format.proofs.Growing.{widest}
 use Rattle.theory.specs.Walk.Step.{both-true}
 use Rattle.theory.specs.Log.TwoBlocks.{viewAt, view-log}
 use Rattle.format.specs.Directory.{acts}
@@ -132,11 +135,12 @@ fits-prog g h =
     let u = both-true (leb 4 p) (leb p 512) (t .0) in
     (leb-true 4 p (u .0), leb-true p 512 (u .1))
 
-module _ (g : Geometry) (l0 l1 n0 n1 e d : ℕ) (fits : commitFits g l0 l1 n0 n1 e d ≡ true) where
+module _ (g : Geometry) (l0 l1 n0 n1 rules e d : ℕ) (fits : commitFits g l0 l1 n0 n1 rules e d ≡ true) where
   pub fits-images : imagesFit g l0 l1 ≡ true
   unfolding commitFits pairFits
   fits-images =
-      let r = both-true (pairFits g l0 l1 n0 n1 && leb d mostData) (leb e mostEntries) fits in
+      let f = both-true (pairFits g l0 l1 n0 n1 && leb d mostData && leb e mostEntries) (rulesFit rules) fits in
+      let r = both-true (pairFits g l0 l1 n0 n1 && leb d mostData) (leb e mostEntries) (f .0) in
       let s = both-true (pairFits g l0 l1 n0 n1) (leb d mostData) (r .0) in
       both-true (imagesFit g l0 l1) (not (eqb n0 n1)) (s .0) .0
 
@@ -147,7 +151,7 @@ module _ (g : Geometry) (l0 l1 n0 n1 e d : ℕ) (fits : commitFits g l0 l1 n0 n1
 
 -- ---- the tests of good entries
 module _ (prog : ℕ) (some : 4 ≤ prog) (most : prog ≤ 512) (b : List ℕ) (es : List Event) (old : log b ≡ es)
-    (nonempty : es ≢ []) (regular : Regular es ≡ true) (dat : List ℕ) (entries : List Entry) (c : ℕ)
+    (nonempty : es ≢ []) (regular : Regular Littlefs es ≡ true) (dat : List ℕ) (entries : List Entry) (c : ℕ)
     (all : judge dat 0 (countOf 0 es) entries ≡ good c) where
   placed-accepts : (second w : Bool) (is : List Item) (size : ℕ)
       → placed prog second b es (itemsOf dat entries) ≡ accepted w is size
@@ -194,32 +198,33 @@ module _ (prog : ℕ) (some : 4 ≤ prog) (most : prog ≤ 512) (b : List ℕ) (
 
 -- ---- the verdict
 -- what an accepted commit appends to: the block at place `second` of the two, which answers, with the revision rev
-pub record AppendsTo (b0 b1 : List ℕ) (entries : List Entry) (dat : List ℕ) (second : Bool) (is : List Item)
+pub record AppendsTo (r : Rules) (b0 b1 : List ℕ) (entries : List Entry) (dat : List ℕ) (second : Bool) (is : List Item)
     (size : ℕ) : Type 0 where
   pub rev : ℕ
   pub items : is ≡ itemsOf dat entries
   pub answers : viewAt second (blockAt second b0 b1) (blockAt (not second) b0 b1)
       ≡ at second rev (log (blockAt second b0 b1))
+  pub ruled : Regular r (log (blockAt second b0 b1)) ≡ true
   pub accepts : Accepts (blockAt second b0 b1) (log (blockAt second b0 b1)) (itemsOf dat entries) size
 
-module _ (g : Geometry) (b0 b1 : List ℕ) (n0 n1 count seed : ℕ) (entries : List Entry) (dat : List ℕ) (second : Bool)
+module _ (g : Geometry) (b0 b1 : List ℕ) (n0 n1 count seed rules : ℕ) (entries : List Entry) (dat : List ℕ) (second : Bool)
     (is : List Item) (size : ℕ) where
-  pub accepted-commit : verdictOf g b0 b1 n0 n1 count seed entries dat ≡ accepted second is size
-      → AppendsTo b0 b1 entries dat second is size
+  pub accepted-commit : verdictOf g b0 b1 n0 n1 count seed rules entries dat ≡ accepted second is size
+      → AppendsTo (rulesOf rules) b0 b1 entries dat second is size
   unfolding verdictOf appended
   accepted-commit h =
-      let p = past (not (commitFits g (length b0) (length b1) n0 n1 (length entries) (length dat))) Invalid _ second is
+      let p = past (not (commitFits g (length b0) (length b1) n0 n1 rules (length entries) (length dat))) Invalid _ second is
       size h in
-      let prog = fits-prog g (fits-geometry g (length b0) (length b1) n0 n1 (length entries) (length dat)
+      let prog = fits-prog g (fits-geometry g (length b0) (length b1) n0 n1 rules (length entries) (length dat)
       (not-false _ (p .0))) in
       let f = found-then (fetchOf g b0 b1 n0 n1 count seed) _ second is size (p .1) in
       let a = found-answers g b0 b1 n0 n1 count seed (f .m) (f .s) (f .found) in
-      let t : appended (g .«prog_size») (a .w) (blockAt (a .w) b0 b1) (log (blockAt (a .w) b0 b1)) entries dat
+      let t : appended (rulesOf rules) (g .«prog_size») (a .w) (blockAt (a .w) b0 b1) (log (blockAt (a .w) b0 b1)) entries dat
       ≡ accepted second is size = rw (a .place) at (f .then) in
-      let q = past (not (Regular (log (blockAt (a .w) b0 b1)))) Irregular _ second is size t in
+      let q = past (not (Regular (rulesOf rules) (log (blockAt (a .w) b0 b1)))) Irregular _ second is size t in
       let j = good-then (judge dat 0 (countOf 0 (log (blockAt (a .w) b0 b1))) entries) _ second is size (q .1) in
       let some : log (blockAt (a .w) b0 b1) ≢ [] = view-log (a .w) (blockAt (a .w) b0 b1) (blockAt (not (a .w)) b0 b1)
       (a .rev) (log (blockAt (a .w) b0 b1)) (a .answers) .1 in
       let k = placed-accepts (g .«prog_size») (prog .0) (prog .1) (blockAt (a .w) b0 b1) (log (blockAt (a .w) b0 b1))
-      refl some (not-false _ (q .0)) dat entries (j .c) (j .all) (a .w) second is size (j .then) in
-      rw (k .0) (record { rev = a .rev; items = k .1; answers = a .answers; accepts = k .2 })
+      refl some (widest (rulesOf rules) _ (not-false _ (q .0))) dat entries (j .c) (j .all) (a .w) second is size (j .then) in
+      rw (k .0) (record { rev = a .rev; items = k .1; answers = a .answers; ruled = not-false _ (q .0); accepts = k .2 })

@@ -17,6 +17,7 @@ use Rattle.format.specs.Walk.{Event}
 use Rattle.format.specs.Log.{log}
 use Rattle.format.specs.View.{at}
 use Rattle.format.specs.Regular.{between, Regular}
+use Rattle.format.specs.declared.Rules.the-variants.{Document, Littlefs}
 use Rattle.format.specs.Commit.{checkTag, Item, itemsHold}
 use Rattle.format.specs.Stores.{compacted, compacting, coincides}
 use Rattle.format.specs.Directory.{dirOf}
@@ -38,9 +39,9 @@ use Rattle.theory.specs.Compact.RegularAgain.{compact-regular}
 -- ---- compaction of the block x, whose log is es and whose revision is v: ts are the entries that touch no slot (tail,
 -- move state), `size` the check's, and m bytes stay erased behind
 pub record Compacts (x : List ℕ) (v : ℕ) (es : List Event) (ts : List Item) (size m : ℕ) : Type 0 where
-  -- "-202 | the committed log isn't regular"
+  -- "-202 | the committed log isn't regular", by littlefs's rule, the wider one
   pub old : log x ≡ es
-  pub regular : Regular es ≡ true
+  pub regular : Regular Littlefs es ≡ true
   pub made : AllMade ts
   pub hold : itemsHold (length (dirOf es)) ts ≡ true
   pub still : Still ts
@@ -79,8 +80,8 @@ module _ (x : List ℕ) (v : ℕ) (es : List Event) (ts : List Item) (size m : �
             (a .lucky);
       }
 
-  -- the new log is regular
-  pub compacted-regular : Regular (commitEvents (crc allOnes (toLe32 (plus32 v 1))) allOnes (compactItems (dirOf es) ts)
+  -- the new log is regular by document 01's rule: "for each id create"
+  pub compacted-regular : Regular Document (commitEvents (crc allOnes (toLe32 (plus32 v 1))) allOnes (compactItems (dirOf es) ts)
       (checkTag size)) ≡ true
   compacted-regular =
       compact-regular (dirOf es) ts (crc allOnes (toLe32 (plus32 v 1))) allOnes (checkTag size) slots few (a .hold)

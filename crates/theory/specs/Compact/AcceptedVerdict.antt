@@ -18,7 +18,9 @@ use Rattle.format.specs.Log.{log}
 use Rattle.format.specs.Record.{countOf, noTail, tailOf, splitOf}
 use Rattle.format.specs.View.{none, at}
 use Rattle.format.specs.Fetch.{fetchOf}
-use Rattle.format.specs.Regular.{Regular}
+use Rattle.format.specs.Regular.{Regular, rulesFit, rulesOf}
+use Rattle.format.specs.declared.Rules.{Rules}
+use Rattle.format.specs.declared.Rules.the-variants.{Littlefs}
 use Rattle.format.specs.Directory.{dirOf, moveOf}
 use Rattle.format.specs.Commit.{Item, commitBytes, checkTag}
 use Rattle.format.specs.Stores.{erased, entriesLength, coincides, compactBytes, compacted, compacting}
@@ -29,11 +31,12 @@ use Rattle.format.specs.Compaction.{compactImagesAfter, compactImages}
 use Rattle.format.specs.declared.Geometry.{Geometry}
 use Rattle.format.specs.declared.LfsMdir.{LfsMdir}
 use Rattle.format.specs.declared.Refusal.{Refusal}
-use Rattle.format.specs.declared.Refusal.the-variants.{Irregular, NoSpace, Coincidence}
+use Rattle.format.specs.declared.Refusal.the-variants.{Invalid, Irregular, NoSpace, Coincidence}
 use Rattle.format.specs.declared.Fetched.{Fetched}
 use Rattle.format.specs.declared.Fetched.the-variants as fetched
 use Rattle.format.proofs.Tags.{of-length}
 use Rattle.format.proofs.Words.{length-toLe32}
+use Rattle.format.proofs.Growing.{widest}
 use Rattle.theory.specs.Walk.Erased.{length-erased}
 use Rattle.theory.specs.Log.Stores.{commitEvents}
 use Rattle.theory.specs.Log.TwoBlocks.{viewAt}
@@ -70,8 +73,8 @@ pub compaction-items : (es : List Event) → compactionItems es ≡ compactItems
 unfolding compactionItems
 compaction-items es = sym (listed (dirOf es) (behindOf es))
 
--- of a block with a regular log: its slots are counted, and the entries are well made
-module _ (x : List ℕ) (regular : Regular (log x) ≡ true) where
+-- of a block whose log is regular, by littlefs's rule, the wider one: its slots are counted, and the entries are well made
+module _ (x : List ℕ) (regular : Regular Littlefs (log x) ≡ true) where
   slots-ok : OkSlots (dirOf (log x))
   slots-ok = ok-dirOf (log x) (regular-loads x (log x) refl regular)
 
@@ -93,26 +96,27 @@ module _ (x : List ℕ) (regular : Regular (log x) ≡ true) where
       rw (compaction-items es) (compact-good (dirOf es) (behindOf es) slots-ok (omega (arith, slots-few)) (ok .good))
 
 -- the block x answers, o is the other; both are one block long
-module _ (prog : ℕ) (some : 4 ≤ prog) (most : prog ≤ 512) (x o : List ℕ) (long : length o ≡ length x) where
+module _ (r : Rules) (prog : ℕ) (some : 4 ≤ prog) (most : prog ≤ 512) (x o : List ℕ) (long : length o ≡ length x) where
   -- what an accepted compaction of x is
   pub record Placed (second : Bool) (rev : ℕ) (is : List Item) (size : ℕ) (w : Bool) : Type 0 where
     pub place : second ≡ w
     pub next : rev ≡ plus32 (le32 x) 1
     pub items : is ≡ compactItems (dirOf (log x)) (behindOf (log x))
     pub room : compactCheckAt is + checkLength ≤ length o
+    pub ruled : Regular r (log x) ≡ true
     pub compacts : Compacts x (le32 x) (log x) (behindOf (log x)) size (length o - (compactCheckAt is + checkLength))
 
   pub placed : (second w : Bool) (rev : ℕ) (is : List Item) (size : ℕ)
-      → compactable prog second x (log x) ≡ compactAccepted w rev is size → Placed second rev is size w
+      → compactable r prog second x (log x) ≡ compactAccepted w rev is size → Placed second rev is size w
   unfolding compactable placedAnew
   placed second w rev is size h =
       let es : List Event = log x in
       let I : List Item = compactionItems es in
-      let p = past (not (Regular es)) Irregular _ w rev is size h in
+      let p = past (not (Regular r es)) Irregular _ w rev is size h in
       let q = past (ltb (length x) (roundedEnd prog (compactCheckAt I))) NoSpace _ w rev is size (p .1) in
-      let r = past (coincides (crc allOnes (toLe32 (plus32 (le32 x) 1))) allOnes I
+      let c = past (coincides (crc allOnes (toLe32 (plus32 (le32 x) 1))) allOnes I
       (checkTag (checkSize prog (compactCheckAt I)))) Coincidence _ w rev is size (q .1) in
-      let regular : Regular es ≡ true = not-false _ (p .0) in
+      let regular : Regular Littlefs es ≡ true = widest r es (not-false _ (p .0)) in
       let loose = behind-loose (splitOf false es) (tailOf noTail es) (moveOf option.none es)
       (regular-move x es refl regular) in
       let k = check-size prog (compactCheckAt I) some most in
@@ -125,6 +129,7 @@ module _ (prog : ℕ) (some : 4 ≤ prog) (most : prog ≤ 512) (x o : List ℕ)
         next = cc;
         items = sym same ∙ compaction-items es;
         room = rw (← same) (omega (arith, fits, k .2, k .0));
+        ruled = not-false _ (p .0);
         compacts =
             rw (← sized, ← same)
             (record {
@@ -149,41 +154,44 @@ module _ (prog : ℕ) (some : 4 ≤ prog) (most : prog ≤ 512) (x o : List ℕ)
                   ));
               lucky = ap (λ (l : List Item). coincides (crc allOnes (toLe32 (plus32 (le32 x) 1))) allOnes l
                   (checkTag (checkSize prog (compactCheckAt I)))) (sym (compaction-items es))
-                  ∙ r .0;
+                  ∙ c .0;
             });
       }
 
 -- ---- the verdict
-pub found-then : (prog : ℕ) (b0 b1 : List ℕ) (n0 : ℕ) (f : Fetched) (w : Bool) (rev : ℕ) (is : List Item) (size : ℕ)
-    → compactFetched prog b0 b1 n0 f ≡ compactAccepted w rev is size
+pub found-then : (r : Rules) (prog : ℕ) (b0 b1 : List ℕ) (n0 : ℕ) (f : Fetched) (w : Bool) (rev : ℕ) (is : List Item)
+    (size : ℕ) → compactFetched r prog b0 b1 n0 f ≡ compactAccepted w rev is size
     → (m : LfsMdir) × (s : ℕ) × (f ≡ fetched.Found m s)
-found-then prog b0 b1 n0 (fetched.Refused r) w rev is size h = absurd (let z : _≡_ {A = ℕ} 0 1 = cc in omega arith)
-found-then prog b0 b1 n0 (fetched.Found m s) w rev is size h = (m, s, refl)
+found-then r prog b0 b1 n0 (fetched.Refused q) w rev is size h = absurd (let z : _≡_ {A = ℕ} 0 1 = cc in omega arith)
+found-then r prog b0 b1 n0 (fetched.Found m s) w rev is size h = (m, s, refl)
 
 -- an accepted compaction: the block x at place w answers and o, the other, is written
-pub record CompactsTo (g : Geometry) (b0 b1 : List ℕ) (w : Bool) (rev : ℕ) (is : List Item) (size : ℕ) : Type 0 where
+pub record CompactsTo (r : Rules) (g : Geometry) (b0 b1 : List ℕ) (w : Bool) (rev : ℕ) (is : List Item)
+    (size : ℕ) : Type 0 where
   pub answers : viewAt w (blockAt w b0 b1) (blockAt (not w) b0 b1) ≡ at w (le32 (blockAt w b0 b1))
       (log (blockAt w b0 b1))
   pub next : rev ≡ plus32 (le32 (blockAt w b0 b1)) 1
   pub items : is ≡ compactItems (dirOf (log (blockAt w b0 b1))) (behindOf (log (blockAt w b0 b1)))
   pub room : compactCheckAt is + checkLength ≤ length (blockAt (not w) b0 b1)
+  pub ruled : Regular r (log (blockAt w b0 b1)) ≡ true
   pub compacts : Compacts (blockAt w b0 b1) (le32 (blockAt w b0 b1)) (log (blockAt w b0 b1))
       (behindOf (log (blockAt w b0 b1))) size
       (length (blockAt (not w) b0 b1) - (compactCheckAt is + checkLength))
 
-module _ (g : Geometry) (b0 b1 : List ℕ) (n0 n1 count seed : ℕ) (w : Bool) (rev : ℕ) (is : List Item) (size : ℕ)
-    (h : compactVerdict g b0 b1 n0 n1 count seed ≡ compactAccepted w rev is size) where
-  pub accepted-compaction : CompactsTo g b0 b1 w rev is size
+module _ (g : Geometry) (b0 b1 : List ℕ) (n0 n1 count seed rules : ℕ) (w : Bool) (rev : ℕ) (is : List Item) (size : ℕ)
+    (h : compactVerdict g b0 b1 n0 n1 count seed rules ≡ compactAccepted w rev is size) where
+  pub accepted-compaction : CompactsTo (rulesOf rules) g b0 b1 w rev is size
   unfolding compactVerdict
   accepted-compaction =
-      let f = found-then (g .«prog_size») b0 b1 n0 (fetchOf g b0 b1 n0 n1 count seed) w rev is size h in
+      let k = past (not (rulesFit rules)) Invalid _ w rev is size h .1 in
+      let f = found-then (rulesOf rules) (g .«prog_size») b0 b1 n0 (fetchOf g b0 b1 n0 n1 count seed) w rev is size k in
       let z = found-sized g b0 b1 n0 n1 count seed (f .0) (f .1) (f .2) in
       let a = found-answers g b0 b1 n0 n1 count seed (f .0) (f .1) (f .2) in
-      let t : compactable (g .«prog_size») (a .w) (blockAt (a .w) b0 b1) (log (blockAt (a .w) b0 b1))
+      let t : compactable (rulesOf rules) (g .«prog_size») (a .w) (blockAt (a .w) b0 b1) (log (blockAt (a .w) b0 b1))
       ≡ compactAccepted w rev is size =
-      rw (f .2, a .place) at h in
+      rw (f .2, a .place) at k in
       let same = lengths (a .w) z in
-      let p = placed (g .«prog_size») (z .prog .0) (z .prog .1) (blockAt (a .w) b0 b1) (blockAt (not (a .w)) b0 b1) same
+      let p = placed (rulesOf rules) (g .«prog_size») (z .prog .0) (z .prog .1) (blockAt (a .w) b0 b1) (blockAt (not (a .w)) b0 b1) same
       (a .w) w rev is size t in
       rw (← p .place)
       (record {
@@ -192,6 +200,7 @@ module _ (g : Geometry) (b0 b1 : List ℕ) (n0 n1 count seed : ℕ) (w : Bool) (
         next = p .next;
         items = p .items;
         room = p .room;
+        ruled = p .ruled;
         compacts = p .compacts;
       })
     where
@@ -217,9 +226,9 @@ module _ (g : Geometry) (b0 b1 : List ℕ) (n0 n1 count seed : ℕ) (w : Bool) (
 
   -- the images after n stores: only the block that did not answer is altered
   pub compaction-written : (n : ℕ)
-      → (blockAt (not w) (compactImages g b0 b1 n0 n1 count seed n .b0) (compactImages g b0 b1 n0 n1 count seed n .b1)
+      → (blockAt (not w) (compactImages g b0 b1 n0 n1 count seed rules n .b0) (compactImages g b0 b1 n0 n1 count seed rules n .b1)
       ≡ compactedTo o rev is size n)
-      × (blockAt w (compactImages g b0 b1 n0 n1 count seed n .b0) (compactImages g b0 b1 n0 n1 count seed n .b1) ≡ x)
+      × (blockAt w (compactImages g b0 b1 n0 n1 count seed rules n .b0) (compactImages g b0 b1 n0 n1 count seed rules n .b1) ≡ x)
   unfolding compactImages
   compaction-written n = rw h (go w)
     where
@@ -269,7 +278,7 @@ module _ (g : Geometry) (b0 b1 : List ℕ) (n0 n1 count seed : ℕ) (w : Bool) (
   compaction-keeps =
       let a = accepted-compaction in
       let es : List Event = log x in
-      let regular : Regular (log x) ≡ true = a .compacts .regular in
+      let regular : Regular Littlefs (log x) ≡ true = a .compacts .regular in
       let ok : OkSlots (dirOf es) = slots-ok x regular in
       let few : length (dirOf es) ≤ mostSlots = slots-few x regular in
       let mv : MoveOk (moveOf option.none es) = regular-move x es refl regular in

@@ -14,7 +14,9 @@ use Rattle.format.specs.Tag.{tagType3, tagId, tagSize, removalSize, tagLength, 
 use Rattle.format.specs.Kind.{typeCreate, typeMove, noSlot, isWide}
 use Rattle.format.specs.Walk.{Event, bodyLength, ent, chk, inv}
 use Rattle.format.specs.Log.{log}
-use Rattle.format.specs.Regular.{Rule, ruleOf, between, ruleHolds, countAfter, regularFrom, Regular}
+use Rattle.format.specs.Regular.{Rule, ruleOf, between, ruleHolds, countAfter, growsAfter, countRaised, regularFrom}
+use Rattle.format.specs.Regular.{Regular}
+use Rattle.format.specs.declared.Rules.the-variants.{Littlefs}
 use Rattle.format.specs.Commit.{Item, commitSum, written}
 use Rattle.format.specs.Directory.{Load, Slot, Act, mk, rm, put, skip, loadOf, moveOf, isMove}
 use Rattle.format.proofs.Tags.{length-size, of-type3, of-size}
@@ -39,32 +41,34 @@ move-rule : (c t : ℕ) → tagType3 t ≡ typeMove → ruleHolds (ruleOf true (
 unfolding ruleOf ruleHolds
 move-rule c t is h = eqb-true (tagSize t) 12 (both-true (eqb (tagId t) noSlot) (eqb (tagSize t) 12) (rw is at h) .1)
 
-moves-ok : (es : List Event) (c : ℕ) (v : Option Load) → Stands es → regularFrom c es ≡ true → MoveOk v
+moves-ok : (es : List Event) (g : Bool) (c : ℕ) (v : Option Load) → Stands es → regularFrom g c es ≡ true → MoveOk v
     → MoveOk (moveOf v es)
 unfolding regularFrom moveOf bodyLength
-moves-ok [] c v st h ok = ok
-moves-ok (ent t d ∷ es) c v st h ok =
+moves-ok [] g c v st h ok = ok
+moves-ok (ent t d ∷ es) g c v st h ok =
     let R : Rule = ruleOf true (tagType3 t) in
-    let r = both-true (ruleHolds R c (tagId t) (tagSize t)) (regularFrom (countAfter R c) es) h in
-    moves-ok es (countAfter R c) (cond (isMove t) (loadOf t d) v) (st .1) (r .1) (go (isMove t) refl (st .0 .1) (r .0))
+    let n : ℕ = countRaised g R c (tagId t) in
+    let r = both-true (ruleHolds R n (tagId t) (tagSize t)) (regularFrom (growsAfter g R) (countAfter R n) es) h in
+    moves-ok es (growsAfter g R) (countAfter R n) (cond (isMove t) (loadOf t d) v) (st .1) (r .1) (go (isMove t) refl (st .0 .1) (r .0))
   where
     go : (b : Bool) → isMove t ≡ b → length d ≡ bodyLength t
-        → ruleHolds (ruleOf true (tagType3 t)) c (tagId t) (tagSize t) ≡ true → MoveOk (cond b (loadOf t d) v)
+        → ruleHolds (ruleOf true (tagType3 t)) (countRaised g (ruleOf true (tagType3 t)) c (tagId t)) (tagId t)
+        (tagSize t) ≡ true → MoveOk (cond b (loadOf t d) v)
     go false e n k = ok
     go true e n k =
         let is : tagType3 t ≡ typeMove = eqb-true (tagType3 t) typeMove e in
-        let z : tagSize t ≡ 12 = move-rule c t is k in
+        let z : tagSize t ≡ 12 = move-rule (countRaised g (ruleOf true (tagType3 t)) c (tagId t)) t is k in
         let w : isWide t ≡ false = not-wide t (inr (omega arith)) in
         let l : tagLength t ≡ 4 + tagSize t = length-size t (λ q. omega arith) in
         rw (ne-eqb (tagSize t) removalSize (λ q. omega arith)) (is, rw w at n ∙ omega arith)
-moves-ok (chk t x ∷ es) c v st h ok =
-    let r = both-true (between 4 1_022 (tagSize t)) (regularFrom c es) h in
-    moves-ok es c v (st .1) (r .1) ok
-moves-ok (inv ∷ es) c v st h ok = absurd st
+moves-ok (chk t x ∷ es) g c v st h ok =
+    let r = both-true (between 4 1_022 (tagSize t)) (regularFrom g c es) h in
+    moves-ok es g c v (st .1) (r .1) ok
+moves-ok (inv ∷ es) g c v st h ok = absurd st
 
-pub regular-move : (b : List ℕ) (es : List Event) → log b ≡ es → Regular es ≡ true → MoveOk (moveOf none es)
+pub regular-move : (b : List ℕ) (es : List Event) → log b ≡ es → Regular Littlefs es ≡ true → MoveOk (moveOf none es)
 unfolding Regular
-regular-move b es is h = moves-ok es 0 none (rw is at (log-stands b)) h tt
+regular-move b es is h = moves-ok es true 0 none (rw is at (log-stands b)) h tt
 
 -- ---- compaction's entries for the slots hold none
 toItem-move : (a : Act) → OkAct a → isMove (toItem a .tag) ≡ false

@@ -11,6 +11,7 @@ use lib.Seq.{take-all, getD-at, set-at, append-snoc}
 use lib.Dec.{ltb, eqb}
 use borrow.Author.Tests.{le-ltb, lt-ltb, eqb-true, ltb-true, eqb-false, ltb-false}
 use Rattle.format.specs.Directory.{Load, Act, put, Slot, classes, mk, empty, upd, dir, apply}
+use Rattle.format.proofs.Slots.{reaching-there}
 
 abbrev pub emit : ℕ → ℕ → Option Load → List Act → List Act
 emit i n none l = l
@@ -92,6 +93,7 @@ puts-dir (suc n) i s l h = go (s n) refl (puts-dir n i s l h)
         rw (
           ih,
           getD-at (dir l) (upTo n s) [] empty i h,
+          reaching-there i (dir l ++ (upTo n s ∷ [])) (omega (arith, length-append (dir l) (upTo n s ∷ []))),
           set-at (dir l) (upTo n s) [] (upd (upTo n s) n (some v)) i h,
           upTo-suc n s (some v) e,
         )

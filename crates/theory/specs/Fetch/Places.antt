@@ -9,6 +9,7 @@ use Rattle.format.specs.Log.{log}
 use Rattle.format.specs.Record.{countOf}
 use Rattle.format.specs.View.{at}
 use Rattle.format.specs.Regular.{Regular}
+use Rattle.format.specs.declared.Rules.the-variants.{Littlefs}
 use Rattle.format.specs.Writer.{blockAt}
 use Rattle.format.specs.declared.Geometry.{Geometry}
 use Rattle.theory.specs.Log.TwoBlocks.{viewAt}
@@ -38,7 +39,7 @@ lengths false i0 i1 b0 b1 h k = (h, k)
 lengths true i0 i1 b0 b1 h k = (k, h)
 
 -- a regular log counts few slots
-pub few-slots : (x : List ℕ) (es : List Event) → log x ≡ es → Regular es ≡ true → countOf 0 es ≤ 1_023
+pub few-slots : (x : List ℕ) (es : List Event) → log x ≡ es → Regular Littlefs es ≡ true → countOf 0 es ≤ 1_023
 few-slots x es is h = rw (regular-slots es h) (regular-count x es is h)
 
 -- both are one block long

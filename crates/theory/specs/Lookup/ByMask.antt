@@ -1,7 +1,7 @@
 -- The lookup as document 01 words it, masks and a key and a difference that wrap, is the search for a class of a slot.
 -- Assumes nothing.
 use mathlib.Core.Path.{_≡_, refl, sym, ap, _∙_}
-use mathlib.Core.Logic.{_≢_}
+use mathlib.Core.Logic.{_≢_, inl}
 use mathlib.Core.Bool.{Bool, true, false, _&&_}
 use mathlib.Core.Option.{Option, none, some}
 use mathlib.Core.List.{List, [], _∷_, map}
@@ -23,7 +23,8 @@ use Rattle.format.specs.declared.Hit.the-variants as hit
 use Rattle.format.proofs.Tags.{of-chunk, of-fields, of-valid, of-type1, of-type3, of-id, length-size}
 use Rattle.format.proofs.Searched.{found-bytes}
 use Rattle.theory.specs.Walk.Step.{both-true}
-use Rattle.theory.specs.Directory.Machine.{mostSlots, find, AllAllowed, Allowed, length-ins, length-del}
+use Rattle.theory.specs.Directory.Machine.{mostSlots, find, stillGrows, AllAllowed, Allowed, Inside, inside-there}
+use Rattle.theory.specs.Directory.Machine.{inside-put, length-ins, length-del}
 use Rattle.theory.specs.Back.BackActs.{seen}
 use Rattle.theory.specs.Lookup.Masks.{Query, hitAct}
 
@@ -155,29 +156,25 @@ module _ (b : List ℕ) (mask T c s asked : ℕ) (q : Query mask T c) (hs : s < 
   hg : key < 2 ^ 32
   hg = omega (arith, of-valid T asked s (q .0) ha hs)
 
-  pub wlook-find : (ms : List Met) (d i : ℕ) → d < 2 ^ 32 → Shapes b ms → AllAllowed (map (seen b) ms)
-      → FewBack (map (seen b) ms) → length (dir (map (seen b) ms)) ≤ mostSlots
-      → i < length (dir (map (seen b) ms)) → minus32 key d ≡ tagOf T i s
+  pub wlook-find : (g : Bool) (ms : List Met) (d i : ℕ) → d < 2 ^ 32 → Shapes b ms → AllAllowed g (map (seen b) ms)
+      → FewBack (map (seen b) ms) → i < mostSlots → Inside g i (map (seen b) ms) → minus32 key d ≡ tagOf T i s
       → (holds b (wlook true mask key d ms) ≡ find c i (map (seen b) ms)) × Answers asked (wlook true mask key d ms)
   unfolding splicedAt wlook holds find dir apply hitAct
-  wlook-find [] d i hd sh r lo few hi e = (refl, tt)
-  wlook-find (m ∷ ms) d i hd sh r lo few hi e =
-      go (seen b m) refl (sh .0) (r .0) hi (λ d′ i′ hd′ hi′ e′. wlook-find ms d′ i′ hd′ (sh .1) (r .1) (lo .1) (lo .0)
-      hi′ e′)
+  wlook-find g [] d i hd sh r lo i-low hi e = (refl, tt)
+  wlook-find g (m ∷ ms) d i hd sh r lo i-low hi e =
+      go (seen b m) refl (sh .0) (r .0) hi (λ d′ i′ hd′ low′ hi′ e′. wlook-find g ms d′ i′ hd′ (sh .1) (r .1) (lo .1)
+      low′ hi′ e′)
     where
       l : List Act
       l = map (seen b) ms
-
-      i-low : i < mostSlots
-      i-low = omega arith
 
       miss : (a : Act) → seen b m ≡ a → (i′ : ℕ) → i′ < 2 ^ 10
           → eqb (bitAnd (m .tag) mask) (bitAnd (tagOf T i′ s) mask) ≡ hitAct c i′ a
       miss a ea i′ h = q .1 (m .tag) i′ s (bytesAt b m) h hs ∙ ap (hitAct c i′) (sym (seen-act b m) ∙ ea)
 
-      go : (a : Act) → seen b m ≡ a → Shape (m .tag) (bytesAt b m) a → Allowed a (length (dir l))
-          → i < length (apply (dir l) (seen b m))
-          → ((d′ i′ : ℕ) → d′ < 2 ^ 32 → i′ < length (dir l) → minus32 key d′ ≡ tagOf T i′ s
+      go : (a : Act) → seen b m ≡ a → Shape (m .tag) (bytesAt b m) a → Allowed (stillGrows g l) a (length (dir l))
+          → Inside g i (seen b m ∷ l)
+          → ((d′ i′ : ℕ) → d′ < 2 ^ 32 → i′ < mostSlots → Inside g i′ l → minus32 key d′ ≡ tagOf T i′ s
           → (holds b (wlook true mask key d′ ms) ≡ find c i′ l) × Answers asked (wlook true mask key d′ ms))
           → (holds b (wlook true mask key d (m ∷ ms)) ≡ find c i (a ∷ l))
           × Answers asked (wlook true mask key d (m ∷ ms))
@@ -195,8 +192,8 @@ module _ (b : List ℕ) (mask T c s asked : ℕ) (q : Query mask T c) (hs : s < 
           t4 : asIds (tagSplice (m .tag)) ≡ 2 ^ 10
           t4 = rw (sp .0) (splice-mk j (sp .1))
 
-          len : length (apply (dir l) (seen b m)) ≡ suc (length (dir l))
-          len = rw ea (length-ins (dir l) j empty ru)
+          low : i < suc (length (dir l))
+          low = rw (length-ins (dir l) j empty ru) at (inside-there (rw ea at h))
 
           sub : (bl : Bool) → leb j i ≡ bl → (be : Bool) → eqb j i ≡ be
               → (holds b (wlook true mask key d (m ∷ ms)) ≡ find c i (mk j ∷ l))
@@ -218,10 +215,11 @@ module _ (b : List ℕ) (mask T c s asked : ℕ) (q : Query mask T c) (hs : s < 
                 down key d T i s hg hd pos e,
                 miss (mk j) ea (i - 1) (omega (arith, i-low)),
               )
-              (ih (plus32 d (2 ^ 10)) (i - 1) (omega arith) (omega (arith, len)) (down key d T i s hg hd pos e))
+              (ih (plus32 d (2 ^ 10)) (i - 1) (omega arith) (omega (arith, i-low)) (inl (omega (arith, low)))
+              (down key d T i s hg hd pos e))
           sub false el be ee =
               rw (e, t1, t2, of-id T i s (omega (arith, i-low)) hs, el, e, miss (mk j) ea i (omega (arith, i-low)))
-              (ih d i hd (omega (arith, leb-false j i el)) e)
+              (ih d i hd i-low (inl (omega (arith, leb-false j i el))) e)
       go (rm j) ea sp ru h ih = sub (leb j i) refl
         where
           t1 : tagType1 (m .tag) ≡ typeSplice
@@ -236,8 +234,8 @@ module _ (b : List ℕ) (mask T c s asked : ℕ) (q : Query mask T c) (hs : s < 
           t4 : asIds (tagSplice (m .tag)) ≡ 2 ^ 32 - 2 ^ 10
           t4 = rw (sp .0) (splice-rm j (sp .1))
 
-          len : length (apply (dir l) (seen b m)) ≡ length (dir l) - 1
-          len = rw ea (length-del (dir l) j ru)
+          low : i < length (dir l) - 1
+          low = rw (length-del (dir l) j ru) at (inside-there (rw ea at h))
 
           sub : (bl : Bool) → leb j i ≡ bl → (holds b (wlook true mask key d (m ∷ ms)) ≡ find c i (rm j ∷ l))
               × Answers asked (wlook true mask key d (m ∷ ms))
@@ -253,16 +251,13 @@ module _ (b : List ℕ) (mask T c s asked : ℕ) (q : Query mask T c) (hs : s < 
                 up key d T i s hg hd (q .0) i-low hs e,
                 miss (rm j) ea (i + 1) (omega (arith, i-low)),
               )
-              (ih (plus32 d (2 ^ 32 - 2 ^ 10)) (i + 1) (omega arith) (omega (arith, len))
+              (ih (plus32 d (2 ^ 32 - 2 ^ 10)) (i + 1) (omega arith) (omega (arith, low, lo .0)) (inl (omega (arith, low)))
               (up key d T i s hg hd (q .0) i-low hs e))
           sub false el =
               rw (e, t1, t2, of-id T i s (omega (arith, i-low)) hs, el, e, miss (rm j) ea i (omega (arith, i-low)))
-              (ih d i hd (omega (arith, len)) e)
+              (ih d i hd i-low (inl (omega (arith, low))) e)
       go (put j k v) ea sp ru h ih = sub (eqb j i && eqb c k) refl (tagDelete (m .tag)) refl
         where
-          len : length (apply (dir l) (seen b m)) ≡ length (dir l)
-          len = rw ea (length-set (dir l) j (upd (getD (dir l) j empty) k v))
-
           sub : (hb : Bool) → eqb j i && eqb c k ≡ hb → (rb : Bool) → tagDelete (m .tag) ≡ rb
               → (holds b (wlook true mask key d (m ∷ ms)) ≡ find c i (put j k v ∷ l))
               × Answers asked (wlook true mask key d (m ∷ ms))
@@ -274,5 +269,5 @@ module _ (b : List ℕ) (mask T c s asked : ℕ) (q : Query mask T c) (hs : s < 
               (met-held b m asked (plus32 (m .tag) d)
               (answers (m .tag) d T asked i s hd ha e (sym is ∙ sp .2) (sp .3)) ha er)
           sub false eh rb er = rw (sp .0, e, miss (put j k v) ea i (omega (arith, i-low)), eh)
-              (ih d i hd (omega (arith, len)) e)
-      go skip ea sp ru h ih = rw (sp, e, miss skip ea i (omega (arith, i-low))) (ih d i hd (rw ea at h) e)
+              (ih d i hd i-low (inside-put g l i j k v ru (rw ea at h)) e)
+      go skip ea sp ru h ih = rw (sp, e, miss skip ea i (omega (arith, i-low))) (ih d i hd i-low (rw ea at h) e)

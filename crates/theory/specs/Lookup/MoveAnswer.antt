@@ -14,7 +14,9 @@ use Rattle.format.specs.Kind.{typeMove, noSlot, isCheck}
 use Rattle.format.specs.Crc.{crc}
 use Rattle.format.specs.Walk.{Event, walkFrom, walk, ent, chk, inv}
 use Rattle.format.specs.Log.{committed, log, logEnd, logEndTag}
-use Rattle.format.specs.Regular.{Rule, between, ruleOf, ruleHolds, countAfter, regularFrom, Regular}
+use Rattle.format.specs.Regular.{Rule, between, ruleOf, ruleHolds, countAfter, growsAfter, countRaised, regularFrom}
+use Rattle.format.specs.Regular.{Regular}
+use Rattle.format.specs.declared.Rules.the-variants.{Littlefs}
 use Rattle.format.specs.Back.{Met, hop, back, places}
 use Rattle.format.specs.Look.{maskMove, foundAt, splicedAt, wlook}
 use Rattle.format.specs.Directory.{isMove}
@@ -45,19 +47,21 @@ move-tag c t small h e =
     let size : tagSize t ≡ 12 = eqb-true (tagSize t) 12 (r .1) in
     sym (of-fields t small) ∙ rw (is, id, size)
 
-places-moves : (es : List Event) (c off : ℕ) → Stands es → regularFrom c es ≡ true → MoveTags (places off es)
+places-moves : (es : List Event) (g : Bool) (c off : ℕ) → Stands es → regularFrom g c es ≡ true
+    → MoveTags (places off es)
 unfolding places regularFrom
-places-moves [] c off st h = tt
-places-moves (ent t d ∷ es) c off st h =
+places-moves [] g c off st h = tt
+places-moves (ent t d ∷ es) g c off st h =
     let R : Rule = ruleOf true (tagType3 t) in
-    let r = both-true (ruleHolds R c (tagId t) (tagSize t)) (regularFrom (countAfter R c) es) h in
-    (move-tag c t (st .0 .0) (r .0), places-moves es (countAfter R c) (off + tagLength t) (st .1) (r .1))
-places-moves (chk t x ∷ es) c off st h =
-    let r = both-true (between 4 1_022 (tagSize t)) (regularFrom c es) h in (
+    let n : ℕ = countRaised g R c (tagId t) in
+    let r = both-true (ruleHolds R n (tagId t) (tagSize t)) (regularFrom (growsAfter g R) (countAfter R n) es) h in
+    (move-tag n t (st .0 .0) (r .0), places-moves es (growsAfter g R) (countAfter R n) (off + tagLength t) (st .1) (r .1))
+places-moves (chk t x ∷ es) g c off st h =
+    let r = both-true (between 4 1_022 (tagSize t)) (regularFrom g c es) h in (
       (λ e. let z : _≡_ {A = Bool} true false = sym e ∙ check-move t (st .0 .1) in cc),
-      places-moves es c (off + tagLength t) (st .1) (r .1),
+      places-moves es g c (off + tagLength t) (st .1) (r .1),
     )
-places-moves (inv ∷ es) c off st h = absurd st
+places-moves (inv ∷ es) g c off st h = absurd st
 
 moves-rev : (l r : List Met) → MoveTags l → MoveTags r → MoveTags (reverseAux l r)
 moves-rev [] r h k = k
@@ -98,7 +102,7 @@ wlook-moved low (m ∷ ms) h k =
     go false e gone f ih = ih
 
 -- on the bytes of a block with a regular log
-pub move-answer : (b : List ℕ) (low : ℕ) → log b ≢ [] → Regular (log b) ≡ true → AllContained (log b) → low < 2 ^ 20
+pub move-answer : (b : List ℕ) (low : ℕ) → log b ≢ [] → Regular Littlefs (log b) ≡ true → AllContained (log b) → low < 2 ^ 20
     → Answers noSlot (wlook false maskMove (maskMove + low) 0 (back b (logEnd (log b)) (logEndTag (log b))))
 unfolding log walk Regular
 move-answer b low some h reg l =
@@ -110,4 +114,4 @@ move-answer b low some h reg l =
     (ch .2) in
     wlook-moved low (back b (logEnd es) (logEndTag es)) l
     (moves-top b (logEnd es) (logEndTag es) ck
-    (rw (back-log es b (ch .0)) (moves-rev (places 4 es) [] (places-moves es 0 4 (log-stands b) h) tt)))
+    (rw (back-log es b (ch .0)) (moves-rev (places 4 es) [] (places-moves es true 0 4 (log-stands b) h) tt)))

@@ -1,7 +1,7 @@
 -- The lookup by mask, key and difference, on the bytes of a block with a regular log, is the directory's. Assumes
 -- nothing.
 use mathlib.Core.Path.{_≡_, refl, ap, _∙_}
-use mathlib.Core.Logic.{_≢_}
+use mathlib.Core.Logic.{_≢_, inl}
 use mathlib.Core.Bool.{Bool, true, false}
 use mathlib.Core.Option.{Option}
 use mathlib.Core.List.{List, [], _∷_, reverse, reverseAux, map}
@@ -22,7 +22,7 @@ use Rattle.format.proofs.Tags.{flipped-low, low-length, low-type1, xor-low, of-
 use Rattle.format.proofs.Back.{back-step}
 use Rattle.theory.specs.Walk.Locality.{AllContained}
 use Rattle.theory.specs.Log.Committed.{kept-same, kept-more, committed-split, committed-twice}
-use Rattle.theory.specs.Directory.Machine.{mostSlots, AllAllowed, find-dir}
+use Rattle.theory.specs.Directory.Machine.{mostSlots, stillGrows, AllAllowed, Inside, find-dir}
 use Rattle.theory.specs.Back.WalkBack.{Chain, back-log}
 use Rattle.theory.specs.Back.EventBytes.{Told, chains}
 use Rattle.theory.specs.Directory.Types.{check-type1, act-check, act-without-top}
@@ -92,13 +92,13 @@ abbrev pub FewFrom : ℕ → List Act → Type 0
 FewFrom n [] = Unit {0}
 FewFrom n (a ∷ l) = (slotsAfter n a ≤ mostSlots) × FewFrom (slotsAfter n a) l
 
-few-rev : (l r : List Act) → AllowedFrom (length (dir r)) l → FewFrom (length (dir r)) l → length (dir r) ≤ mostSlots
+few-rev : (g : Bool) (l r : List Act) → AllowedFrom (stillGrows g r) (length (dir r)) l → FewFrom (length (dir r)) l → length (dir r) ≤ mostSlots
     → FewBack r → FewBack (reverseAux l r) × (length (dir (reverseAux l r)) ≤ mostSlots)
 unfolding dir
-few-rev [] r f h n k = (k, n)
-few-rev (a ∷ l) r f h n k =
-    let e = length-apply (dir r) a (f .0) in
-    few-rev l (a ∷ r) (rw e (f .1)) (rw e (h .1)) (rw e (h .0)) (n, k)
+few-rev g [] r f h n k = (k, n)
+few-rev g (a ∷ l) r f h n k =
+    let e = length-apply (stillGrows g r) (dir r) a (f .0) in
+    few-rev g l (a ∷ r) (rw e (f .1)) (rw e (h .1)) (rw e (h .0)) (n, k)
 
 pub record RegularLog (es : List Event) : Type 0 where
   pub base : Sound es
@@ -110,19 +110,19 @@ pub record Searchable (es : List Event) : Type 0 where
   pub reg : AllContained es
   pub eight : Eights es
   pub shapes : EventShapes es
-  pub rules : AllAllowed (reverse (acts es))
+  pub rules : AllAllowed true (reverse (acts es))
   pub low : FewBack (reverse (acts es))
   pub few : length (dirOf es) ≤ mostSlots
 
 pub regular-searchable : (es : List Event) → RegularLog es → Searchable es
 unfolding dirOf dir
 regular-searchable es r =
-    let lo = few-rev (acts es) [] (r .base .rules) (r .few) (omega arith) tt in
+    let lo = few-rev true (acts es) [] (r .base .rules) (r .few) (omega arith) tt in
     record {
       reg = r .base .reg;
       eight = r .base .eight;
       shapes = r .shapes;
-      rules = allowed-newest (acts es) (r .base .rules);
+      rules = allowed-newest true (acts es) (r .base .rules);
       low = lo .0;
       few = lo .1;
     }
@@ -150,9 +150,10 @@ block-lookup b es mask T c s i h nonempty r q hs hi =
     let ms : map (seen b) (back b (logEnd es) (logEndTag es)) ≡ reverse (acts es)
     = back-without-top b (logEnd es) (logEndTag es) ∙ ap (map (seen b)) bl ∙ map-reverseAux (seen b) (places 4 es) []
     ∙ ap reverse (seen-places es b 4 (ch .2) (r .eight)) in
-    let few : length (dir (reverse (acts es))) ≤ mostSlots = r .few in
+    let few : length (dirOf es) ≤ mostSlots = r .few in
+    let there : Inside true i (reverse (acts es)) = inl hi in
     let small : tagOf T i s < 2 ^ 31 = of-valid T i s (q .0) (omega arith) hs in
     let key : minus32 (tagOf T i s) 0 ≡ tagOf T i s = omega arith in
-    let f = wlook-find b mask T c s i q hs (omega arith) (back b (logEnd es) (logEndTag es)) 0 i (omega arith) sh
-    (rw ms (r .rules)) (rw ms (r .low)) (rw ms few) (rw ms hi) key in
-    (f .0 ∙ rw ms (find-dir (reverse (acts es)) c i (r .rules) hi), f .1)
+    let f = wlook-find b mask T c s i q hs (omega arith) true (back b (logEnd es) (logEndTag es)) 0 i (omega arith)
+    sh (rw ms (r .rules)) (rw ms (r .low)) (omega arith) (rw ms there) key in
+    (f .0 ∙ rw ms (find-dir true (reverse (acts es)) c i (r .rules) there), f .1)

@@ -1,6 +1,8 @@
 -- The search back for a slot's class over the bytes of a block with a regular log finds what the directory holds there.
 -- Assumes nothing.
 use mathlib.Core.Path.{_≡_, ap, _∙_}
+use mathlib.Core.Bool.{true}
+use mathlib.Core.Logic.{inl}
 use mathlib.Core.List.{List, [], reverse, map}
 use Prim.Native.Nat.{ℕ, _%_, _^_, _≤_, _<_}
 use native.Mathlib.Omega.{arith}
@@ -44,4 +46,4 @@ pub directory-find : (b : List ℕ) (es : List Event) (c i : ℕ) → log b ≡ 
 unfolding dirOf
 directory-find b es c i h r hi =
     rw (back-acts b es h (r .base .reg) (r .base .eight))
-    (find-dir (reverse (acts es)) c i (allowed-newest (acts es) (r .base .rules)) hi)
+    (find-dir true (reverse (acts es)) c i (allowed-newest true (acts es) (r .base .rules)) (inl hi))

@@ -17,7 +17,7 @@ use Rattle.format.specs.declared.Entry.{Entry}
 use Rattle.format.proofs.Tags.{of-type3}
 use Rattle.theory.specs.Walk.Step.{both-true}
 use Rattle.theory.specs.Directory.Machine.{mostSlots}
-use Rattle.theory.specs.Rules.RuledEntry.{ruled, rule-says}
+use Rattle.theory.specs.Rules.RuledEntry.{ruled-entry, rule-says}
 use Rattle.theory.specs.Rules.MadeItem.{Fields, rule-fields, made-holds, Made, AllMade, item-made}
 
 -- ---- an entry's data: as many bytes as its length says, or none for a removal
@@ -49,7 +49,7 @@ good-entry dat c e low h =
     let is : tagType3 (tagOf (e .kind) (e .id) (e .len)) ≡ e .kind =
     of-type3 (e .kind) (e .id) (e .len) (f .type′) (f .id′) (f .size′) in
     let k = made-holds false (e .kind) c (e .id) (e .len) low (r .0) in
-    let u = ruled (ruleOf false (tagType3 t)) c t (entryBody dat e) (rule-says (tagType3 t) false) k in
+    let u = ruled-entry (ruleOf false (tagType3 t)) c t (entryBody dat e) (rule-says (tagType3 t) false) k in
     record {
       fields = f;
       made = item-made (e .kind) (e .id) (e .len) (entryBody dat e) f (body-length dat e (r .1));

@@ -1,10 +1,10 @@
 -- An entry that passes its rule, and what the directory machine, the walk and the lookups ask of it. Assumes nothing.
-use mathlib.Core.Path.{_≡_, refl, sym, ap, _∙_}
+use mathlib.Core.Path.{_≡_, refl, sym, ap, subst, _∙_}
 use mathlib.Core.Logic.{_≢_, _⊎_, inl, inr}
 use mathlib.Core.Bool.{Bool, true, false, cond, _&&_, _||_}
 use mathlib.Core.Option.{none, some}
 use mathlib.Core.List.{List}
-use Prim.Native.Nat.{ℕ, suc, _+_, _-_, _^_, _≤_, _<_}
+use Prim.Native.Nat.{ℕ, suc, _+_, _-_, _^_, _≤_, _<_, max}
 use native.Mathlib.Omega.{arith}
 use lib.ListN.{length}
 use lib.Dec.{eqb, leb, ltb}
@@ -13,13 +13,15 @@ use Rattle.format.specs.Tag.{tagType3, tagChunk, tagId, tagSize, removalSize, t
 use Rattle.format.specs.Kind.{typeFile, typeDirectory, typeSuperblock, typeDirStruct, typeInlineStruct, typeCtzStruct}
 use Rattle.format.specs.Kind.{typeUserAttr, typeSplice, typeCreate, typeDelete, typeCheck, typeForward, typeTail}
 use Rattle.format.specs.Kind.{typeHardTail, typeMove, noSlot, isCheck, isWide}
+use Rattle.format.specs.Count.{countNamed}
 use Rattle.format.specs.Walk.{bodyLength}
 use Rattle.format.specs.Regular.{Rule, ruleOf, between, ruleHolds, countAfter, create, delete, name, inlined, eight}
-use Rattle.format.specs.Regular.{attribute, tail, move, forward, bad}
+use Rattle.format.specs.Regular.{attribute, tail, move, forward, bad, growsAfter, countRaised}
 use Rattle.format.specs.Directory.{put, skip, empty, mk, rm, act, loadOf}
 use Rattle.format.proofs.Tags.{length-size, of-fields}
+use Rattle.format.proofs.Growing.{raised-never}
 use Rattle.theory.specs.Walk.Step.{both-true, not-true}
-use Rattle.theory.specs.Directory.Machine.{Allowed, mostSlots}
+use Rattle.theory.specs.Directory.Machine.{Allowed, growsBehind, mostSlots}
 use Rattle.theory.specs.Directory.Types.{not-check, not-splice, not-wide, act-other, act-create, act-delete}
 use Rattle.theory.specs.Directory.Types.{act-name, act-struct, act-attr, chunk-of}
 use Rattle.theory.specs.Blocks.ActItems.{TypeOf}
@@ -84,30 +86,33 @@ module _ (type : ℕ) where
       (either type _ _ _ (eqb-true type typeMove)
       (either type _ _ _ (λ e. eqb-true type typeForward (both-true logged (eqb type typeForward) e .1)) tt))))))))
 
--- ---- an entry that passes its rule at the count c
+-- ---- an entry that passes its rule at the count c, or n where it makes slots; g: a name may
 -- what the rule leaves of the count is what the act leaves of the slots
-pub record Ruled (c : ℕ) (R : Rule) (t : ℕ) (d : List ℕ) : Type 0 where
+pub record Ruled (g : Bool) (c n : ℕ) (R : Rule) (t : ℕ) (d : List ℕ) : Type 0 where
   pub plain : isCheck t ≡ false
   pub twelve : isWide t ≡ true → tagLength t ≡ 12
-  pub allowed : Allowed (act t d) c
-  pub slots : slotsAfter c (act t d) ≡ countAfter R c
-  pub few : c ≤ mostSlots → countAfter R c ≤ mostSlots
+  pub allowed : Allowed g (act t d) c
+  pub slots : slotsAfter c (act t d) ≡ countAfter R n
+  pub still : growsBehind g (act t d) ≡ growsAfter g R
+  pub few : c ≤ mostSlots → countAfter R n ≤ mostSlots
   pub shape : t < 2 ^ 31 → Shape t d (act t d)
   pub load : R ≡ ruleOf true (tagType3 t) → length d ≡ bodyLength t → PutOk (act t d)
 
--- names, structs, attributes: what is put under class k of a slot that is there
-module _ (c t k : ℕ) (d : List ℕ) (R : Rule) (is : act t d ≡ put (tagId t) k (loadOf t d))
-    (low : tagType3 t < typeSplice) (there : tagId t < c)
-    (same : countAfter R c ≡ c) (class : TypeOf k (tagType3 t)) (any : ruleHolds R 1 0 (tagSize t) ≡ true) where
-  ruled-put : Ruled c R t d
+-- names, structs, attributes: what is put under class k of a slot that is there, or is made
+module _ (g : Bool) (c n t k : ℕ) (d : List ℕ) (R : Rule) (is : act t d ≡ put (tagId t) k (loadOf t d))
+    (low : tagType3 t < typeSplice) (there : (tagId t < c) ⊎ (g ≡ true)) (slots : max c (suc (tagId t)) ≡ n)
+    (few : c ≤ mostSlots → n ≤ mostSlots) (same : countAfter R n ≡ n) (still : growsAfter g R ≡ g)
+    (class : TypeOf k (tagType3 t)) (any : ruleHolds R 1 0 (tagSize t) ≡ true) where
+  ruled-put : Ruled g c n R t d
   unfolding slotsAfter bodyLength
   ruled-put =
       record {
         plain = not-check t (inl (omega arith));
         twelve = λ w. absurd (not-true (isWide t) narrow w);
         allowed = rw is there;
-        slots = rw (is, same);
-        few = λ h. rw same h;
+        slots = rw (is, same) slots;
+        still = rw (is, still);
+        few = λ h. rw same (few h);
         shape = λ s. rw is (not-splice t (inl low), refl, refl, s);
         load = λ e n. rw is (go (tagDelete t) refl (rw narrow at n) e);
       }
@@ -123,10 +128,17 @@ module _ (c t k : ℕ) (d : List ℕ) (R : Rule) (is : act t d ≡ put (tagId t)
           let m : length d ≡ tagSize t = omega (arith, length-size t q) in
           (class, omega arith, rw (← r, m) any)
 
+-- of a slot that is there
+module _ (g : Bool) (c t k : ℕ) (d : List ℕ) (R : Rule) (is : act t d ≡ put (tagId t) k (loadOf t d))
+    (low : tagType3 t < typeSplice) (there : tagId t < c) (same : countAfter R c ≡ c) (still : growsAfter g R ≡ g)
+    (class : TypeOf k (tagType3 t)) (any : ruleHolds R 1 0 (tagSize t) ≡ true) where
+  ruled-set : Ruled g c c R t d
+  ruled-set = ruled-put g c c t k d R is low (inl there) (omega arith) (λ h. h) same still class any
+
 -- tails, move states, forward checks: no slot is touched
-module _ (c t : ℕ) (d : List ℕ) (R : Rule) (high : typeCheck + 2 ^ 7 ≤ tagType3 t) (same : countAfter R c ≡ c)
-    (wide : isWide t ≡ true → tagLength t ≡ 12) where
-  ruled-skip : Ruled c R t d
+module _ (g : Bool) (c t : ℕ) (d : List ℕ) (R : Rule) (high : typeCheck + 2 ^ 7 ≤ tagType3 t) (same : countAfter R c ≡ c)
+    (still : growsAfter g R ≡ g) (wide : isWide t ≡ true → tagLength t ≡ 12) where
+  ruled-skip : Ruled g c c R t d
   unfolding slotsAfter
   ruled-skip =
       let is : act t d ≡ skip = act-other t d (omega arith) in
@@ -135,6 +147,7 @@ module _ (c t : ℕ) (d : List ℕ) (R : Rule) (high : typeCheck + 2 ^ 7 ≤ tag
         twelve = wide;
         allowed = rw is tt;
         slots = rw (is, same);
+        still = rw (is, still);
         few = λ h. rw same h;
         shape = λ s. rw is (not-splice t (inr (omega arith)));
         load = λ e n. rw is tt;
@@ -156,10 +169,24 @@ module _ (t type : ℕ) (is : tagType3 t ≡ type) (splice : (type ≡ typeCreat
 eight-long : (t : ℕ) → tagSize t ≡ 8 → tagLength t ≡ 12
 eight-long t h = length-size t (λ q. omega arith) ∙ ap (λ (n : ℕ). 4 + n) h
 
-pub ruled : (R : Rule) (c t : ℕ) (d : List ℕ) → Says (tagType3 t) R → ruleHolds R c (tagId t) (tagSize t) ≡ true
-    → Ruled c R t d
-unfolding ruleHolds countAfter slotsAfter
-ruled create c t d s h =
+-- a name, in a slot that it makes or one that is there
+ruled-name : (g : Bool) (c t : ℕ) (d : List ℕ) → tagType3 t < 2 ^ 8 → (b : Bool) → g && leb (tagId t) 1_022 ≡ b
+    → tagId t < cond b (countNamed c (tagId t)) c → between 1 1_022 (tagSize t) ≡ true
+    → Ruled g c (cond b (countNamed c (tagId t)) c) name t d
+unfolding countAfter growsAfter ruleHolds
+ruled-name g c t d s true e h k =
+    let r = both-true g (leb (tagId t) 1_022) e in
+    let id : tagId t ≤ 1_022 = leb-true (tagId t) 1_022 (r .1) in
+    ruled-put g c (countNamed c (tagId t)) t 0 d name (act-name t d s) (omega arith) (inr (r .0)) (omega arith)
+    (λ l. omega arith) refl refl s k
+ruled-name g c t d s false e h k =
+    ruled-set g c t 0 d name (act-name t d s) (omega arith) h refl refl s k
+
+pub ruled : (g : Bool) (R : Rule) (c t : ℕ) (d : List ℕ) → Says (tagType3 t) R
+    → ruleHolds R (countRaised g R c (tagId t)) (tagId t) (tagSize t) ≡ true
+    → Ruled g c (countRaised g R c (tagId t)) R t d
+unfolding ruleHolds countAfter countRaised growsAfter slotsAfter
+ruled g create c t d s h =
     let r = both-true (leb (tagId t) c && leb c 1_022) (eqb (tagSize t) 0) h in
     let q = both-true (leb (tagId t) c) (leb c 1_022) (r .0) in
     let z : tagSize t ≡ 0 = eqb-true (tagSize t) 0 (r .1) in
@@ -170,11 +197,12 @@ ruled create c t d s h =
       twelve = λ w. absurd (not-true (isWide t) (p .1) w);
       allowed = rw is (leb-true (tagId t) c (q .0));
       slots = rw is;
+      still = rw is;
       few = λ k. omega (arith, leb-true c 1_022 (q .1));
       shape = λ k. rw is (spliced-tag t typeCreate s (inl refl) z k, omega arith);
       load = λ e n. rw is tt;
     }
-ruled delete c t d s h =
+ruled g delete c t d s h =
     let r = both-true (ltb (tagId t) c) (eqb (tagSize t) 0) h in
     let z : tagSize t ≡ 0 = eqb-true (tagSize t) 0 (r .1) in
     let is : act t d ≡ rm (tagId t) = act-delete t d s in
@@ -184,36 +212,47 @@ ruled delete c t d s h =
       twelve = λ w. absurd (not-true (isWide t) (p .1) w);
       allowed = rw is (ltb-true (tagId t) c (r .0));
       slots = rw is;
+      still = rw is;
       few = λ k. omega arith;
       shape = λ k. rw is (spliced-tag t typeDelete s (inr refl) z k, omega arith);
       load = λ e n. rw is tt;
     }
-ruled name c t d s h =
-    let r = both-true (ltb (tagId t) c) (between 1 1_022 (tagSize t)) h in
-    ruled-put c t 0 d name (act-name t d s) (omega arith) (ltb-true (tagId t) c (r .0)) refl s (r .1)
-ruled inlined c t d s h =
+ruled g name c t d s h =
+    let b : Bool = g && leb (tagId t) 1_022 in
+    let r = both-true (ltb (tagId t) (cond b (countNamed c (tagId t)) c)) (between 1 1_022 (tagSize t)) h in
+    ruled-name g c t d s (g && leb (tagId t) 1_022) refl (ltb-true (tagId t) (cond b (countNamed c (tagId t)) c) (r .0))
+    (r .1)
+ruled g inlined c t d s h =
     let r = both-true (ltb (tagId t) c) (leb (tagSize t) 1_022) h in
-    ruled-put c t 1 d inlined (act-struct t d (omega arith) (omega arith)) (omega arith) (ltb-true (tagId t) c (r .0))
-    refl (omega arith, omega arith) (r .1)
-ruled eight c t d s h =
+    ruled-set g c t 1 d inlined (act-struct t d (omega arith) (omega arith)) (omega arith) (ltb-true (tagId t) c (r .0))
+    refl refl (omega arith, omega arith) (r .1)
+ruled g eight c t d s h =
     let r = both-true (ltb (tagId t) c) (eqb (tagSize t) 8) h in
     let low : typeDirStruct ≤ tagType3 t = s .0 in
     let high : tagType3 t ≤ typeCtzStruct = s .1 in
-    ruled-put c t 1 d eight (act-struct t d low (omega arith)) (omega arith) (ltb-true (tagId t) c (r .0)) refl
+    ruled-set g c t 1 d eight (act-struct t d low (omega arith)) (omega arith) (ltb-true (tagId t) c (r .0)) refl refl
     (low, omega arith) (r .1)
-ruled attribute c t d s h =
+ruled g attribute c t d s h =
     let r = both-true (ltb (tagId t) c) (leb (tagSize t) removalSize) h in
     let low : typeUserAttr ≤ tagType3 t = s .0 in
     let high : tagType3 t < typeUserAttr + 2 ^ 8 = s .1 in
     let two : 2 + tagChunk t ≡ suc (suc (tagChunk t)) = omega arith in
-    ruled-put c t (2 + tagChunk t) d attribute (act-attr t d low high) (omega arith) (ltb-true (tagId t) c (r .0)) refl
-    (rw two (omega (arith, chunk-of t), omega arith)) (r .1)
-ruled tail c t d s h =
+    ruled-set g c t (2 + tagChunk t) d attribute (act-attr t d low high) (omega arith) (ltb-true (tagId t) c (r .0))
+    refl refl (rw two (omega (arith, chunk-of t), omega arith)) (r .1)
+ruled g tail c t d s h =
     let r = both-true (eqb (tagId t) noSlot) (eqb (tagSize t) 8) h in
-    ruled-skip c t d tail (omega (arith, s .0)) refl (λ w. eight-long t (eqb-true (tagSize t) 8 (r .1)))
-ruled move c t d s h =
-    ruled-skip c t d move (omega arith) refl (λ w. absurd (not-true (isWide t) (not-wide t (inr (omega arith))) w))
-ruled forward c t d s h =
+    ruled-skip g c t d tail (omega (arith, s .0)) refl refl (λ w. eight-long t (eqb-true (tagSize t) 8 (r .1)))
+ruled g move c t d s h =
+    ruled-skip g c t d move (omega arith) refl refl
+    (λ w. absurd (not-true (isWide t) (not-wide t (inr (omega arith))) w))
+ruled g forward c t d s h =
     let r = both-true (eqb (tagId t) noSlot) (eqb (tagSize t) 8) h in
-    ruled-skip c t d forward (omega arith) refl (λ w. eight-long t (eqb-true (tagSize t) 8 (r .1)))
-ruled bad c t d s h = absurd (let z : _≡_ {A = ℕ} 0 1 = cc in omega arith)
+    ruled-skip g c t d forward (omega arith) refl refl (λ w. eight-long t (eqb-true (tagSize t) 8 (r .1)))
+ruled g bad c t d s h = absurd (let z : _≡_ {A = ℕ} 0 1 = cc in omega arith)
+
+-- an entry of a commit: no name makes a slot
+pub ruled-entry : (R : Rule) (c t : ℕ) (d : List ℕ) → Says (tagType3 t) R
+    → ruleHolds R c (tagId t) (tagSize t) ≡ true → Ruled false c c R t d
+ruled-entry R c t d s h =
+    let e : countRaised false R c (tagId t) ≡ c = raised-never R c (tagId t) in
+    subst (λ (n : ℕ). Ruled false c n R t d) e (ruled false R c t d s (rw e h))

@@ -13,7 +13,7 @@ use Rattle.format.specs.Walk.{Event}
 use Rattle.format.specs.Log.{log, logEnd, logEndTag}
 use Rattle.format.specs.View.{at}
 use Rattle.format.specs.Fetch.{fetchOf}
-use Rattle.format.specs.Regular.{Regular}
+use Rattle.format.specs.Regular.{Regular, rulesOf}
 use Rattle.format.specs.Commit.{Item, checkTag, commitBytes, written}
 use Rattle.format.specs.Stores.{appending}
 use Rattle.format.specs.Entries.{itemsOf}
@@ -24,6 +24,7 @@ use Rattle.format.specs.declared.LfsMdir.{LfsMdir}
 use Rattle.format.specs.declared.Entry.{Entry}
 use Rattle.format.specs.declared.Refusal.the-variants.{Invalid}
 use Rattle.format.specs.declared.Fetched.the-variants as fetched
+use Rattle.format.proofs.Growing.{widest}
 use Rattle.theory.specs.Log.TwoBlocks.{viewAt, view-log}
 use Rattle.theory.specs.Log.Stores.{commitEvents}
 use Rattle.theory.specs.Blocks.Append.{length-commit, AppendOk, AfterAppend}
@@ -40,9 +41,9 @@ use Rattle.theory.specs.Stopped.ReadsAsBefore.{reads-as, refound, refoun
 use Rattle.theory.specs.Commit.MachineAfter.{commit-ran}
 
 -- ---- a commit
-module _ (g : Geometry) (b0 b1 : List ℕ) (n0 n1 count seed : ℕ) (entries : List Entry) (dat : List ℕ) (w : Bool)
+module _ (g : Geometry) (b0 b1 : List ℕ) (n0 n1 count seed rules : ℕ) (entries : List Entry) (dat : List ℕ) (w : Bool)
     (is : List Item) (size : ℕ)
-    (h : verdictOf g b0 b1 n0 n1 count seed entries dat ≡ accepted w is size) where
+    (h : verdictOf g b0 b1 n0 n1 count seed rules entries dat ≡ accepted w is size) where
   abbrev x : List ℕ
   x = blockAt w b0 b1
 
@@ -53,12 +54,12 @@ module _ (g : Geometry) (b0 b1 : List ℕ) (n0 n1 count seed : ℕ) (entries : L
   unfolding verdictOf
   commit-found =
       let f = found-then (fetchOf g b0 b1 n0 n1 count seed) _ w is size
-      (past (not (commitFits g (length b0) (length b1) n0 n1 (length entries) (length dat))) Invalid _ w is size h
+      (past (not (commitFits g (length b0) (length b1) n0 n1 rules (length entries) (length dat))) Invalid _ w is size h
       .1) in
       (f .m, f .s, f .found)
 
-  appends : AppendsTo b0 b1 entries dat w is size
-  appends = accepted-commit g b0 b1 n0 n1 count seed entries dat w is size h
+  appends : AppendsTo (rulesOf rules) b0 b1 entries dat w is size
+  appends = accepted-commit g b0 b1 n0 n1 count seed rules entries dat w is size h
 
   pub takes : Accepts (blockAt w b0 b1) (log (blockAt w b0 b1)) is size
   takes = rw (appends .items) (appends .accepts)
@@ -70,10 +71,10 @@ module _ (g : Geometry) (b0 b1 : List ℕ) (n0 n1 count seed : ℕ) (entries : L
       (a .answers) (appends .answers)
 
   -- the images after n stores: only the block that answers is altered
-  pub commit-written : (n : ℕ) → (blockAt w (commitImages g b0 b1 n0 n1 count seed entries dat n .b0)
-      (commitImages g b0 b1 n0 n1 count seed entries dat n .b1) ≡ storedTo x is size n)
-      × (blockAt (not w) (commitImages g b0 b1 n0 n1 count seed entries dat n .b0)
-      (commitImages g b0 b1 n0 n1 count seed entries dat n .b1) ≡ o)
+  pub commit-written : (n : ℕ) → (blockAt w (commitImages g b0 b1 n0 n1 count seed rules entries dat n .b0)
+      (commitImages g b0 b1 n0 n1 count seed rules entries dat n .b1) ≡ storedTo x is size n)
+      × (blockAt (not w) (commitImages g b0 b1 n0 n1 count seed rules entries dat n .b0)
+      (commitImages g b0 b1 n0 n1 count seed rules entries dat n .b1) ≡ o)
   unfolding commitImages
   commit-written n = rw h (go w)
     where
@@ -113,7 +114,7 @@ module _ (g : Geometry) (b0 b1 : List ℕ) (n0 n1 count seed : ℕ) (entries : L
 
   module _ (n : ℕ) where
     abbrev i : Images
-    i = commitImages g b0 b1 n0 n1 count seed entries dat n
+    i = commitImages g b0 b1 n0 n1 count seed rules entries dat n
 
     image-lengths : (length (i .b0) ≡ length b0) × (length (i .b1) ≡ length b1)
     image-lengths =
@@ -122,7 +123,7 @@ module _ (g : Geometry) (b0 b1 : List ℕ) (n0 n1 count seed : ℕ) (entries : L
         (ap length (commit-written n .1))
 
   abbrev f : Images
-  f = commitImages g b0 b1 n0 n1 count seed entries dat unlimited
+  f = commitImages g b0 b1 n0 n1 count seed rules entries dat unlimited
 
   finished-block : blockAt w (f .b0) (f .b1) ≡ appending x (log x) is (checkTag size) (allStores is)
   finished-block = commit-written unlimited .0 ∙ ap (appending x (log x) is (checkTag size)) all-stores
@@ -159,22 +160,24 @@ module _ (g : Geometry) (b0 b1 : List ℕ) (n0 n1 count seed : ℕ) (entries : L
   finished-log = view-log w (blockAt w (f .b0) (f .b1)) (blockAt (not w) (f .b0) (f .b1)) (appends .rev) finishedLog
       finished-view .0
 
-  regular-finished : Regular finishedLog ≡ true
-  regular-finished = finished-regular x (log x) is size takes
+  regular-finished : Regular (rulesOf rules) finishedLog ≡ true
+  regular-finished = finished-regular x (log x) is size takes (rulesOf rules) (appends .ruled)
 
-  pub commit-finished : Shows g n0 n1 (f .b0) (f .b1) (ran (machineOf (log x)) (written (itemsOf dat entries) []))
+  pub commit-finished : Shows g n0 n1 (rulesOf rules) (f .b0) (f .b1)
+      (ran (machineOf (log x)) (written (itemsOf dat entries) []))
   commit-finished =
-      let few = few-slots (blockAt w (f .b0) (f .b1)) finishedLog finished-log regular-finished in
+      let few = few-slots (blockAt w (f .b0) (f .b1)) finishedLog finished-log
+      (widest (rulesOf rules) finishedLog regular-finished) in
       let L = image-lengths unlimited in
       let k = refound g n0 n1 count seed b0 b1 (f .b0) (f .b1) (L .0) (L .1) (commit-found .0) (commit-found .1)
       (commit-found .2) (appends .rev) finishedLog few w finished-view in
       let p = refound-place g n0 n1 count seed b0 b1 (f .b0) (f .b1) (L .0) (L .1) (commit-found .0) (commit-found .1)
       (commit-found .2) (appends .rev) finishedLog w in
-      let s = shows g (f .b0) (f .b1) n0 n1 count seed _ _ k w p (rw finished-log regular-finished) in
+      let s = shows g (f .b0) (f .b1) n0 n1 count seed _ _ k (rulesOf rules) w p (rw finished-log regular-finished) in
       let e : machineOf (log (blockAt w (f .b0) (f .b1))) ≡ ran (machineOf (log x)) (written (itemsOf dat entries) [])
       = ap machineOf finished-log ∙ commit-ran (log x) allOnes (logEndTag (log x)) is (checkTag size)
       ∙ ap (λ (l : List Item). ran (machineOf (log x)) (written l [])) (appends .items) in
-      subst (λ (M : Machine). Shows g n0 n1 (f .b0) (f .b1) M) e s
+      subst (λ (M : Machine). Shows g n0 n1 (rulesOf rules) (f .b0) (f .b1) M) e s
 
   -- the call's own fetch of it
   pub commit-refetched : (m : LfsMdir) × (s : ℕ) × (fetchOf g (f .b0) (f .b1) n0 n1 count seed ≡ fetched.Found m s)
@@ -182,18 +185,18 @@ module _ (g : Geometry) (b0 b1 : List ℕ) (n0 n1 count seed : ℕ) (entries : L
       let low = found-tested g b0 b1 n0 n1 count seed (commit-found .0) (commit-found .1) (commit-found .2) .low in
       (commit-finished .dir, commit-finished .read seed, commit-finished .fetched count seed low)
 
-  pub commit-before : Shows g n0 n1 b0 b1 (machineOf (log x))
-  commit-before = shows g b0 b1 n0 n1 count seed (commit-found .0) (commit-found .1) (commit-found .2) w place
-      (takes .regular)
+  pub commit-before : Shows g n0 n1 (rulesOf rules) b0 b1 (machineOf (log x))
+  commit-before = shows g b0 b1 n0 n1 count seed (commit-found .0) (commit-found .1) (commit-found .2)
+      (rulesOf rules) w place (appends .ruled)
 
 -- DEMAND 3, COMMIT
-pub stopped-commit : (g : Geometry) (b0 b1 : List ℕ) (n0 n1 count seed : ℕ) (entries : List Entry) (dat : List ℕ)
+pub stopped-commit : (g : Geometry) (b0 b1 : List ℕ) (n0 n1 count seed rules : ℕ) (entries : List Entry) (dat : List ℕ)
     (n : ℕ)
-    → CommitStopped g b0 b1 n0 n1 count seed entries dat (commitImages g b0 b1 n0 n1 count seed entries dat n .b0)
-    (commitImages g b0 b1 n0 n1 count seed entries dat n .b1)
-stopped-commit g b0 b1 n0 n1 count seed entries dat n w is size h =
+    → CommitStopped g b0 b1 n0 n1 count seed rules entries dat (commitImages g b0 b1 n0 n1 count seed rules entries dat n .b0)
+    (commitImages g b0 b1 n0 n1 count seed rules entries dat n .b1)
+stopped-commit g b0 b1 n0 n1 count seed rules entries dat n w is size h =
     record {
-      either = commit-either g b0 b1 n0 n1 count seed entries dat w is size h n;
-      old = commit-before g b0 b1 n0 n1 count seed entries dat w is size h;
-      finished = commit-finished g b0 b1 n0 n1 count seed entries dat w is size h;
+      either = commit-either g b0 b1 n0 n1 count seed rules entries dat w is size h n;
+      old = commit-before g b0 b1 n0 n1 count seed rules entries dat w is size h;
+      finished = commit-finished g b0 b1 n0 n1 count seed rules entries dat w is size h;
     }

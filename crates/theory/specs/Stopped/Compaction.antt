@@ -13,7 +13,7 @@ use Rattle.format.specs.Walk.{Event}
 use Rattle.format.specs.Log.{log, logEnd}
 use Rattle.format.specs.View.{at}
 use Rattle.format.specs.Fetch.{fetchOf}
-use Rattle.format.specs.Regular.{Regular}
+use Rattle.format.specs.Regular.{Regular, rulesFit, rulesOf}
 use Rattle.format.specs.Directory.{dirOf}
 use Rattle.format.specs.Commit.{Item, checkTag}
 use Rattle.format.specs.Stores.{erased, fill, compactBytes, compacted, compacting}
@@ -21,8 +21,11 @@ use Rattle.format.specs.Writer.{checkLength, blockAt, isSecond, Images, unlimit
 use Rattle.format.specs.Compaction.{compactAccepted, compactCheckAt, compactStores, compactedTo, compactVerdict}
 use Rattle.format.specs.Compaction.{compactImages}
 use Rattle.format.specs.declared.Geometry.{Geometry}
+use Rattle.format.specs.declared.Rules.the-variants.{Document}
 use Rattle.format.specs.declared.LfsMdir.{LfsMdir}
+use Rattle.format.specs.declared.Refusal.the-variants.{Invalid}
 use Rattle.format.specs.declared.Fetched.the-variants as fetched
+use Rattle.format.proofs.Growing.{widest}
 use Rattle.theory.specs.Walk.Erased.{length-fill, length-erased}
 use Rattle.theory.specs.Log.TwoBlocks.{viewAt, view-log}
 use Rattle.theory.specs.Log.Stores.{commitEvents}
@@ -33,7 +36,7 @@ use Rattle.theory.specs.Fetch.FoundRecord.{found-answers}
 use Rattle.theory.specs.Fetch.FoundBlock.{found-sized}
 use Rattle.theory.specs.Compact.AcceptedVerdict.{found-then, behindOf, CompactsTo, accepted-compaction}
 use Rattle.theory.specs.Compact.AcceptedVerdict.{compaction-written, compaction-length, compaction-stopped}
-use Rattle.theory.specs.Compact.AcceptedVerdict.{compaction-keeps}
+use Rattle.theory.specs.Compact.AcceptedVerdict.{past, compaction-keeps}
 use Rattle.format.specs.Machine.{Machine, machineOf}
 use Rattle.format.specs.Stopped.{Bytes, Shows, ReadsAs, CompactStopped}
 use Rattle.theory.specs.Stopped.Shown.{found-tested, shows}
@@ -57,8 +60,8 @@ turned : (w : Bool) (x y : List ℕ) → viewAt w x y ≡ viewAt (not w) y x
 turned true x y = refl
 turned false x y = refl
 
-module _ (g : Geometry) (b0 b1 : List ℕ) (n0 n1 count seed : ℕ) (w : Bool) (rev : ℕ) (is : List Item) (size : ℕ)
-    (h : compactVerdict g b0 b1 n0 n1 count seed ≡ compactAccepted w rev is size)
+module _ (g : Geometry) (b0 b1 : List ℕ) (n0 n1 count seed rules : ℕ) (w : Bool) (rev : ℕ) (is : List Item) (size : ℕ)
+    (h : compactVerdict g b0 b1 n0 n1 count seed rules ≡ compactAccepted w rev is size)
     (bytes : Bytes (blockAt w b0 b1)) where
   abbrev x : List ℕ
   x = blockAt w b0 b1
@@ -77,10 +80,11 @@ module _ (g : Geometry) (b0 b1 : List ℕ) (n0 n1 count seed : ℕ) (w : Bool) (
 
   compact-found : (m : LfsMdir) × (s : ℕ) × (fetchOf g b0 b1 n0 n1 count seed ≡ fetched.Found m s)
   unfolding compactVerdict
-  compact-found = found-then (g .«prog_size») b0 b1 n0 (fetchOf g b0 b1 n0 n1 count seed) w rev is size h
+  compact-found = found-then (rulesOf rules) (g .«prog_size») b0 b1 n0 (fetchOf g b0 b1 n0 n1 count seed) w rev is size
+      (past (not (rulesFit rules)) Invalid _ w rev is size h .1)
 
-  compacts : CompactsTo g b0 b1 w rev is size
-  compacts = accepted-compaction g b0 b1 n0 n1 count seed w rev is size h
+  compacts : CompactsTo (rulesOf rules) g b0 b1 w rev is size
+  compacts = accepted-compaction g b0 b1 n0 n1 count seed rules w rev is size h
 
   place : isSecond n0 (compact-found .0) ≡ w
   place =
@@ -93,7 +97,7 @@ module _ (g : Geometry) (b0 b1 : List ℕ) (n0 n1 count seed : ℕ) (w : Bool) (
   bytes-length =
       sym (ap (λ (k : ℕ). length (compactBytes rev is (checkTag size)) + k) (length-erased rest))
       ∙ sym (length-append (compactBytes rev is (checkTag size)) (erased rest))
-      ∙ compaction-length g b0 b1 n0 n1 count seed w rev is size h
+      ∙ compaction-length g b0 b1 n0 n1 count seed rules w rev is size h
 
   image-length : (n : ℕ) → length (compacting o rev is (checkTag size) rest n) ≡ length o
   unfolding compacting
@@ -103,14 +107,14 @@ module _ (g : Geometry) (b0 b1 : List ℕ) (n0 n1 count seed : ℕ) (w : Bool) (
       ∙ rw (length-fill k (compactBytes rev is (checkTag size)), length-erased rest) bytes-length
 
   abbrev i : ℕ → Images
-  i n = compactImages g b0 b1 n0 n1 count seed n
+  i n = compactImages g b0 b1 n0 n1 count seed rules n
 
   abbrev f : Images
-  f = compactImages g b0 b1 n0 n1 count seed unlimited
+  f = compactImages g b0 b1 n0 n1 count seed rules unlimited
 
   left : (n : ℕ) → (blockAt (not w) (i n .b0) (i n .b1) ≡ compactedTo o rev is size n)
       × (blockAt w (i n .b0) (i n .b1) ≡ x)
-  left n = compaction-written g b0 b1 n0 n1 count seed w rev is size h n
+  left n = compaction-written g b0 b1 n0 n1 count seed rules w rev is size h n
 
   image-lengths : (n : ℕ) → (length (i n .b0) ≡ length b0) × (length (i n .b1) ≡ length b1)
   image-lengths n = lengths w (i n .b0) (i n .b1) b0 b1 (ap length (left n .1))
@@ -134,7 +138,7 @@ module _ (g : Geometry) (b0 b1 : List ℕ) (n0 n1 count seed : ℕ) (w : Bool) (
       left unlimited .0 ∙ ap (compacting o rev is (checkTag size) rest) n ∙ whole
 
   after : (n : ℕ) → AfterCompact w x (le32 x) (log x) is (checkTag size) (compactedTo o rev is size n) finished
-  after n = compaction-stopped g b0 b1 n0 n1 count seed w rev is size h (word-fits x bytes) n
+  after n = compaction-stopped g b0 b1 n0 n1 count seed rules w rev is size h (word-fits x bytes) n
 
   compact-either : (n : ℕ) → ((i n .b0 ≡ f .b0) × (i n .b1 ≡ f .b1)) ⊎ ReadsAs g n0 n1 b0 b1 (i n .b0) (i n .b1)
   compact-either n = go (after n .either)
@@ -161,26 +165,27 @@ module _ (g : Geometry) (b0 b1 : List ℕ) (n0 n1 count seed : ℕ) (w : Bool) (
   finished-log = view-log (not w) (blockAt (not w) (f .b0) (f .b1)) (blockAt (not (not w)) (f .b0) (f .b1)) rev
       finishedLog finished-view .0
 
-  regular-finished : Regular finishedLog ≡ true
+  regular-finished : Regular Document finishedLog ≡ true
   regular-finished = rw (compacts .next, compacts .items)
       (compacted-regular x (le32 x) (log x) (behindOf (log x)) size rest (compacts .compacts))
 
   same-machine : machineOf finishedLog ≡ machineOf (log x)
   same-machine =
-      let k = compaction-keeps g b0 b1 n0 n1 count seed w rev is size h in
+      let k = compaction-keeps g b0 b1 n0 n1 count seed rules w rev is size h in
       let d : dirOf finishedLog ≡ dirOf (log x) = rw (compacts .next) (after 0 .same) in
       rw (d, k .0, k .1, k .2)
 
-  pub compact-finished : Shows g n0 n1 (f .b0) (f .b1) (machineOf (log x))
+  pub compact-finished : Shows g n0 n1 Document (f .b0) (f .b1) (machineOf (log x))
   compact-finished =
-      let few = few-slots (blockAt (not w) (f .b0) (f .b1)) finishedLog finished-log regular-finished in
+      let few = few-slots (blockAt (not w) (f .b0) (f .b1)) finishedLog finished-log
+      (widest Document finishedLog regular-finished) in
       let L = image-lengths unlimited in
       let k = refound g n0 n1 count seed b0 b1 (f .b0) (f .b1) (L .0) (L .1) (compact-found .0) (compact-found .1)
       (compact-found .2) rev finishedLog few (not w) finished-view in
       let p = refound-place g n0 n1 count seed b0 b1 (f .b0) (f .b1) (L .0) (L .1) (compact-found .0) (compact-found .1)
       (compact-found .2) rev finishedLog (not w) in
-      let s = shows g (f .b0) (f .b1) n0 n1 count seed _ _ k (not w) p (rw finished-log regular-finished) in
-      subst (λ (M : Machine). Shows g n0 n1 (f .b0) (f .b1) M) (ap machineOf finished-log ∙ same-machine) s
+      let s = shows g (f .b0) (f .b1) n0 n1 count seed _ _ k Document (not w) p (rw finished-log regular-finished) in
+      subst (λ (M : Machine). Shows g n0 n1 Document (f .b0) (f .b1) M) (ap machineOf finished-log ∙ same-machine) s
 
   -- the call's own fetch of it
   pub compact-refetched : (m : LfsMdir) × (s : ℕ) × (fetchOf g (f .b0) (f .b1) n0 n1 count seed ≡ fetched.Found m s)
@@ -188,18 +193,18 @@ module _ (g : Geometry) (b0 b1 : List ℕ) (n0 n1 count seed : ℕ) (w : Bool) (
       let low = found-tested g b0 b1 n0 n1 count seed (compact-found .0) (compact-found .1) (compact-found .2) .low in
       (compact-finished .dir, compact-finished .read seed, compact-finished .fetched count seed low)
 
-  pub compact-before : Shows g n0 n1 b0 b1 (machineOf (log x))
-  compact-before = shows g b0 b1 n0 n1 count seed (compact-found .0) (compact-found .1) (compact-found .2) w place
-      (compacts .compacts .regular)
+  pub compact-before : Shows g n0 n1 (rulesOf rules) b0 b1 (machineOf (log x))
+  compact-before = shows g b0 b1 n0 n1 count seed (compact-found .0) (compact-found .1) (compact-found .2)
+      (rulesOf rules) w place (compacts .ruled)
 
 -- DEMAND 3, COMPACTION
-pub stopped-compaction : (g : Geometry) (b0 b1 : List ℕ) (n0 n1 count seed n : ℕ) → Bytes b0 → Bytes b1
-    → CompactStopped g b0 b1 n0 n1 count seed (compactImages g b0 b1 n0 n1 count seed n .b0)
-    (compactImages g b0 b1 n0 n1 count seed n .b1)
-stopped-compaction g b0 b1 n0 n1 count seed n y0 y1 w rev is size h =
+pub stopped-compaction : (g : Geometry) (b0 b1 : List ℕ) (n0 n1 count seed rules n : ℕ) → Bytes b0 → Bytes b1
+    → CompactStopped g b0 b1 n0 n1 count seed rules (compactImages g b0 b1 n0 n1 count seed rules n .b0)
+    (compactImages g b0 b1 n0 n1 count seed rules n .b1)
+stopped-compaction g b0 b1 n0 n1 count seed rules n y0 y1 w rev is size h =
     let y = block-bytes w b0 b1 y0 y1 in
     record {
-      either = compact-either g b0 b1 n0 n1 count seed w rev is size h y n;
-      old = compact-before g b0 b1 n0 n1 count seed w rev is size h y;
-      finished = compact-finished g b0 b1 n0 n1 count seed w rev is size h y;
+      either = compact-either g b0 b1 n0 n1 count seed rules w rev is size h y n;
+      old = compact-before g b0 b1 n0 n1 count seed rules w rev is size h y;
+      finished = compact-finished g b0 b1 n0 n1 count seed rules w rev is size h y;
     }

@@ -1,4 +1,4 @@
--- A pair with a regular log shows the machine of that log: fetch's record counts its slots, and the directory lookups,
+-- A pair with a log that is regular, by either rule, shows the machine of that log: fetch's record counts its slots, and the directory lookups,
 -- by `lfs_dir_getslice`'s own definition on the bytes, answer what the machine has. Assumes nothing.
 use mathlib.Core.Path.{_≡_, refl, sym, _∙_}
 use mathlib.Core.Logic.{_≢_}
@@ -20,6 +20,9 @@ use Rattle.format.specs.Look.{wlook}
 use Rattle.format.specs.Lookup.{recordFits, blockOf, hasIds, searchedFrom, searched, longestBuffer, getsliceFits}
 use Rattle.format.specs.Lookup.{getsliceOf, getsliceBuffer}
 use Rattle.format.specs.Regular.{Regular}
+use Rattle.format.specs.declared.Rules.{Rules}
+use Rattle.format.specs.declared.Rules.the-variants.{Littlefs}
+use Rattle.format.proofs.Growing.{widest}
 use Rattle.format.specs.Tag.{tagOf}
 use Rattle.format.specs.Directory.{dirOf}
 use Rattle.format.specs.Writer.{blockAt, isSecond}
@@ -47,7 +50,7 @@ use Rattle.theory.specs.Lookup.MoveAnswer.{move-answer}
 use Rattle.format.specs.Stopped.{Finds, Shows}
 
 -- ---- the search, on the bytes of a block with a regular log
-module _ (x : List ℕ) (some : log x ≢ []) (regular : Regular (log x) ≡ true) where
+module _ (x : List ℕ) (some : log x ≢ []) (regular : Regular Littlefs (log x) ≡ true) where
   pub ask-found : (a : Ask) (size : ℕ) → askFits (machineOf (log x)) a ≡ true → size < 2 ^ 10
       → (holds x (wlook (hasIds (askMask a)) (askMask a) (askKey a size) 0
       (back x (logEnd (log x)) (logEndTag (log x)))) ≡ asked (machineOf (log x)) a)
@@ -165,9 +168,12 @@ off false p q = refl
 -- ---- THE DIRECTORY LOOKUPS ARE THE MACHINE'S
 module _ (g : Geometry) (b0 b1 : List ℕ) (n0 n1 count seed : ℕ) (m : LfsMdir) (s : ℕ)
     (f : fetchOf g b0 b1 n0 n1 count seed ≡ Found m s) where
-  module _ (w : Bool) (place : isSecond n0 m ≡ w) (regular : Regular (log (blockAt w b0 b1)) ≡ true) where
+  module _ (r : Rules) (w : Bool) (place : isSecond n0 m ≡ w) (ruled : Regular r (log (blockAt w b0 b1)) ≡ true) where
     abbrev x : List ℕ
     x = blockAt w b0 b1
+
+    regular : Regular Littlefs (log (blockAt w b0 b1)) ≡ true
+    regular = widest r (log (blockAt w b0 b1)) ruled
 
     reads : Reads b0 b1 n0 m
     reads = found-reads g b0 b1 n0 n1 count seed m s f
@@ -225,11 +231,11 @@ module _ (g : Geometry) (b0 b1 : List ℕ) (n0 n1 count seed : ℕ) (m : LfsMdir
         let i = wlook-in (length x) (hasIds (askMask a)) (askMask a) (askKey a size) 0
         (back x (logEnd (log x)) (logEndTag (log x)))
         (back-in x (logEnd (log x)) (logEndTag (log x)) (length x) (rw end at inside)) in
-        let r = slice-held x buffer (askId a) (wlook (hasIds (askMask a)) (askMask a) (askKey a size) 0
+        let s = slice-held x buffer (askId a) (wlook (hasIds (askMask a)) (askMask a) (askKey a size) 0
         (back x (logEnd (log x)) (logEndTag (log x)))) i (k .1) in
-        rw (fits buffer hb, block, still (askMask a) (askKey a size) gdisk hm, end, tag, ← k .0) r
+        rw (fits buffer hb, block, still (askMask a) (askKey a size) gdisk hm, end, tag, ← k .0) s
 
-    pub shows : Shows g n0 n1 b0 b1 (machineOf (log (blockAt w b0 b1)))
+    pub shows : Shows g n0 n1 r b0 b1 (machineOf (log (blockAt w b0 b1)))
     shows =
         record {
           dir = m;
@@ -238,6 +244,6 @@ module _ (g : Geometry) (b0 b1 : List ℕ) (n0 n1 count seed : ℕ) (m : LfsMdir
           slots = rw same at (reads .count′) ∙ slots-counted x regular;
           split = rw same at (reads .split′);
           tail = rw same at (reads .tail′);
-          regular = rw block regular;
+          regular = rw block ruled;
           lookups = ask-answered;
         }
