@@ -7,13 +7,15 @@ use native.Mathlib.Omega.{arith}
 use Rattle.format.specs.Tag.{tagType3, tagId, tagSize, tagFlipped}
 use Rattle.format.specs.Walk.{Event, ent, chk, inv, walk}
 use Rattle.format.specs.Log.{keptBefore, committed, log}
-use Rattle.format.specs.Regular.{between, ruleOf, ruleHolds, countAfter, regularFrom, Regular}
+use Rattle.format.specs.Regular.{Rule, between, ruleOf, ruleHolds, countAfter, growsAfter, countRaised, regularFrom}
+use Rattle.format.specs.Regular.{Regular}
+use Rattle.format.specs.declared.Rules.{Rules}
 use Rattle.fetch_walk.specs.Next.{startOf, nextOf, tagAt}
 use Rattle.fetch_walk.specs.State.{from}
 use Rattle.fetch_walk.specs.declared.cursor.Cursor.{Cursor}
 use Rattle.fetch_walk.specs.declared.cursor.Seen.the-variants.{Entry, Check, Invalid, Past}
 use Rattle.fetch_walk.proofs.Seen.{follow, from-next, check-seen}
-use Rattle.commit_rules.specs.Rules.{countedAs, countedBy}
+use Rattle.commit_rules.specs.Rules.{countedAs, passedBy}
 use Rattle.commit_rules.specs.declared.Ruled.the-variants.{Bad, To}
 use Rattle.commit_regular.specs.Passing.{passing, starts, ruledTo, whileGood, entering, checking, settles}
 use Rattle.commit_regular.specs.declared.Passing.{Passing}
@@ -21,7 +23,7 @@ use Rattle.commit_regular.specs.declared.Passing.{Passing}
 -- ---- what the steps leave over what is committed
 after : Passing → List Event → Bool
 after p [] = p .taken
-after p (e ∷ es) = p .good && regularFrom (p .count) (e ∷ es)
+after p (e ∷ es) = p .good && regularFrom (p .grows) (p .count) (e ∷ es)
 
 and-true : (a : Bool) → a ≡ a && true
 and-true true = refl
@@ -33,24 +35,35 @@ and-assoc false b c = refl
 
 after-entry : (p : Passing) (t : ℕ) (d : List ℕ) (es : List Event)
     → after (entering t p) es ≡ after p (keptBefore (ent t d) es)
-unfolding after entering countedBy regularFrom
-after-entry p t d [] = go (p .good) (ruleHolds (ruleOf true (tagType3 t)) (p .count) (tagId t) (tagSize t))
+unfolding after entering regularFrom
+after-entry p t d [] =
+    go (p .good) (ruleHolds R (countRaised (p .grows) R (p .count) (tagId t)) (tagId t) (tagSize t))
   where
-    go : (g h : Bool) → whileGood g p (ruledTo (countedAs h (countAfter (ruleOf true (tagType3 t)) (p .count))) p)
-        .taken ≡ p .taken
+    R : Rule
+    R = ruleOf true (tagType3 t)
+
+    go : (g h : Bool) → whileGood g p (ruledTo (countedAs h (countAfter R
+        (countRaised (p .grows) R (p .count) (tagId t)))) (growsAfter (p .grows) R) p) .taken ≡ p .taken
     go false h = refl
     go true true = refl
     go true false = refl
-after-entry p t d (e ∷ es) = go (p .good) refl (ruleHolds (ruleOf true (tagType3 t)) (p .count) (tagId t) (tagSize t))
+after-entry p t d (e ∷ es) =
+    go (p .good) refl (ruleHolds R (countRaised (p .grows) R (p .count) (tagId t)) (tagId t) (tagSize t))
   where
+    R : Rule
+    R = ruleOf true (tagType3 t)
+
     n : ℕ
-    n = countAfter (ruleOf true (tagType3 t)) (p .count)
+    n = countAfter R (countRaised (p .grows) R (p .count) (tagId t))
+
+    still : Bool
+    still = growsAfter (p .grows) R
 
     q : Bool → Bool → Passing
-    q g h = whileGood g p (ruledTo (countedAs h n) p)
+    q g h = whileGood g p (ruledTo (countedAs h n) still p)
 
-    go : (g : Bool) → p .good ≡ g → (h : Bool) → q g h .good && regularFrom (q g h .count) (e ∷ es) ≡ g
-        && (h && regularFrom n (e ∷ es))
+    go : (g : Bool) → p .good ≡ g → (h : Bool) → q g h .good && regularFrom (q g h .grows) (q g h .count) (e ∷ es) ≡ g
+        && (h && regularFrom still n (e ∷ es))
     go false w h = rw w
     go true w true = refl
     go true w false = refl
@@ -58,7 +71,7 @@ after-entry p t d (e ∷ es) = go (p .good) refl (ruleHolds (ruleOf true (tagTyp
 after-check : (p : Passing) (t x : ℕ) (es : List Event) → after (checking (tagSize t) p) es ≡ after p (chk t x ∷ es)
 unfolding after checking regularFrom
 after-check p t x [] = ap (λ (b : Bool). p .good && b) (and-true (between 4 1_022 (tagSize t)))
-after-check p t x (e ∷ es) = and-assoc (p .good) (between 4 1_022 (tagSize t)) (regularFrom (p .count) (e ∷ es))
+after-check p t x (e ∷ es) = and-assoc (p .good) (between 4 1_022 (tagSize t)) (regularFrom (p .grows) (p .count) (e ∷ es))
 
 after-invalid : (p : Passing) (es : List Event) → after p es ≡ after p (keptBefore inv es)
 unfolding after regularFrom
@@ -72,32 +85,35 @@ settles-after p (ent t d ∷ es) = settles-after (entering t p) es ∙ after-ent
 settles-after p (chk t x ∷ es) = settles-after (checking (tagSize t) p) es ∙ after-check p t x (committed es)
 settles-after p (inv ∷ es) = settles-after p es ∙ after-invalid p (committed es)
 
-from-start : (es : List Event) → after starts es ≡ Regular es
+from-start : (r : Rules) (es : List Event) → after (starts r) es ≡ Regular r es
 unfolding after starts Regular regularFrom
-from-start [] = refl
-from-start (e ∷ es) = refl
+from-start r [] = refl
+from-start r (e ∷ es) = refl
 
 -- c and p are what `start` answers, r is what `regular_on` does
-pub settles-regular : (b : List ℕ) (c : Cursor) (p : Passing) (r : Bool) → c ≡ startOf b → p ≡ starts
-    → r ≡ settles p (from b c) → r ≡ Regular (log b)
+pub settles-regular : (b : List ℕ) (rules : Rules) (c : Cursor) (p : Passing) (r : Bool) → c ≡ startOf b
+    → p ≡ starts rules → r ≡ settles p (from b c) → r ≡ Regular rules (log b)
 unfolding startOf from log walk
-settles-regular b c p r ec ep er = er ∙ rw (ec, ep) (settles-after starts (walk b) ∙ from-start (committed (walk b)))
+settles-regular b rules c p r ec ep er =
+    er ∙ rw (ec, ep) (settles-after (starts rules) (walk b) ∙ from-start rules (committed (walk b)))
 
--- ---- an entry's step; n is what `counted` answers
+-- ---- an entry's step; R is its rule, n what `count_behind` answers
 module _ (p : Passing) (t : ℕ) where
   pub stays-bad : p .good ≡ false → p ≡ entering t p
   unfolding entering
   stays-bad h = rw h
 
-  pub goes-bad : p .good ≡ true → countedBy true (tagType3 t) (p .count) (tagId t) (tagSize t) ≡ Bad
-      → passing (p .count) false (p .taken) ≡ entering t p
-  unfolding entering
-  goes-bad h e = rw (h, e)
+  module _ (R : Rule) (is : R ≡ ruleOf true (tagType3 t)) (good : p .good ≡ true) where
+    pub goes-bad : passedBy R (countRaised (p .grows) R (p .count) (tagId t)) (tagId t) (tagSize t) ≡ Bad
+        → passing (p .count) (p .grows) false (p .taken) ≡ entering t p
+    unfolding entering
+    goes-bad e = rw (good, ← is, e)
 
-  pub goes-on : (n : ℕ) → p .good ≡ true → countedBy true (tagType3 t) (p .count) (tagId t) (tagSize t) ≡ To n
-      → passing n true (p .taken) ≡ entering t p
-  unfolding entering
-  goes-on n h e = rw (h, e)
+    pub goes-on : (n : ℕ) (g : Bool)
+        → passedBy R (countRaised (p .grows) R (p .count) (tagId t)) (tagId t) (tagSize t) ≡ To n
+        → g ≡ growsAfter (p .grows) R → passing n g true (p .taken) ≡ entering t p
+    unfolding entering
+    goes-on n g e eg = rw (good, ← is, e, eg)
 
 -- ---- a turn of the loop
 flipped-size : (t : ℕ) → tagSize (tagFlipped t) ≡ tagSize t

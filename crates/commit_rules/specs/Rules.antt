@@ -24,7 +24,10 @@ ruleAs Bad = rule.bad
 abbrev pub countedAs : Bool → ℕ → Ruled
 countedAs holds c = cond holds (ruled.To c) ruled.Bad
 
--- the count behind an entry of a type, or that it is bad there
+-- the count behind an entry that falls under a rule, or that it is bad there
+abbrev pub passedBy : rule.Rule → ℕ → ℕ → ℕ → Ruled
+passedBy R c id size = countedAs (ruleHolds R c id size) (countAfter R c)
+
+-- and of one by its type
 unfoldable pub countedBy : Bool → ℕ → ℕ → ℕ → ℕ → Ruled
-countedBy logged kind c id size = countedAs (ruleHolds (ruleOf logged kind) c id size)
-    (countAfter (ruleOf logged kind) c)
+countedBy logged kind c id size = passedBy (ruleOf logged kind) c id size

@@ -1,9 +1,9 @@
 // The writer's rules for entries, as a count runs past them: the same functions for the entries of a commit and for
-// those of a log. Any numbers.
+// those of a log, where by littlefs's rule a name may make slots. Any numbers.
 ghost use mathlib.Core.Path.{_≡_};
 ghost use Prim.Native.Nat.{_^_, _<_};
-ghost use Rattle.format.specs.Regular.{ruleOf, ruleHolds, countAfter};
-ghost use Rattle.commit_rules.specs.Rules.{ruleAs, countedBy};
+ghost use Rattle.format.specs.Regular.{ruleOf, ruleHolds, countAfter, growsAfter, countRaised};
+ghost use Rattle.commit_rules.specs.Rules.{ruleAs, passedBy, countedBy};
 use format::types::*;
 
 // Which rule a type falls under.
@@ -27,7 +27,7 @@ pub enum Ruled {
 }
 
 // The rule of a type. `logged`: in a log superblock names and forward checks are allowed, which are bad in a commit.
-fn rule_of(logged: bool, kind: u16) -> Rule
+pub fn rule_of(logged: bool, kind: u16) -> Rule
     ensures { λ r. ⌜ ruleAs r ≡ ruleOf logged kind ⌝ }
 {
     match kind {
@@ -75,13 +75,48 @@ fn count_after(rule: Rule, count: u32) -> u32
     }
 }
 
-// The count behind an entry, or that it is bad.
-pub fn counted(logged: bool, kind: u16, count: u32, id: u32, size: u32) -> Ruled
-    ensures { λ r. ⌜ r ≡ countedBy logged kind count id size ⌝ }
+// littlefs's rule, as long as `grows`: "a name .. with an id at or above the count, and at most 1,022, first raises the
+// count to id + 1".
+pub fn raised(rule: Rule, grows: bool, count: u32, id: u32) -> u32
+    ensures { λ r. ⌜ r ≡ countRaised grows (ruleAs rule) count id ⌝ }
 {
-    let rule = rule_of(logged, kind);
+    match rule {
+        Rule::Name => {
+            if grows & ((count <= id) & (id <= 1022)) {
+                id + 1
+            } else {
+                count
+            }
+        }
+        _ => count,
+    }
+}
+
+// ".. as long as no create or delete has come": whether names may make slots behind an entry.
+pub fn grows_after(rule: Rule, grows: bool) -> bool
+    ensures { λ r. ⌜ r ≡ growsAfter grows (ruleAs rule) ⌝ }
+{
+    match rule {
+        Rule::Create => false,
+        Rule::Delete => false,
+        _ => grows,
+    }
+}
+
+// The count behind an entry that falls under a rule, or that it is bad.
+pub fn count_behind(rule: Rule, count: u32, id: u32, size: u32) -> Ruled
+    ensures { λ r. ⌜ r ≡ passedBy (ruleAs rule) count id size ⌝ }
+{
     if rule_holds(rule, count, id, size) {
         return Ruled::To(count_after(rule, count));
     }
     Ruled::Bad
+}
+
+// The count behind an entry of a type, or that it is bad.
+pub fn counted(logged: bool, kind: u16, count: u32, id: u32, size: u32) -> Ruled
+    ensures { λ r. ⌜ r ≡ countedBy logged kind count id size ⌝ }
+{
+    let rule = rule_of(logged, kind);
+    count_behind(rule, count, id, size)
 }

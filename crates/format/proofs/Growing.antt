@@ -3,11 +3,9 @@
 use mathlib.Core.Path.{_≡_, refl}
 use mathlib.Core.Bool.{Bool, true, false, cond, _&&_}
 use mathlib.Core.List.{List, [], _∷_}
-use Prim.Native.Nat.{ℕ, _<_}
-use native.Mathlib.Omega.{arith}
+use Prim.Native.Nat.{ℕ, suc, _<_}
 use lib.Dec.{leb, ltb}
-use borrow.Author.Tests.{ltb-true}
-use Rattle.format.specs.Count.{countNamed}
+use borrow.Author.Tests.{ltb-true, lt-leb}
 use Rattle.format.specs.Tag.{tagType3, tagId, tagSize}
 use Rattle.format.specs.Walk.{Event, ent, chk, inv}
 use Rattle.format.specs.Regular.{Rule, ruleOf, between, ruleHolds, countAfter, growsAfter, countRaised}
@@ -44,8 +42,8 @@ raised-never forward c id = refl
 raised-never bad c id = refl
 
 -- ---- where an entry passes at the count as it is
-named-there : (b : Bool) (c id : ℕ) → id < c → cond b (countNamed c id) c ≡ c
-named-there true c id h = omega arith
+named-there : (g : Bool) (c id : ℕ) → id < c → cond (g && (leb c id && leb id 1_022)) (suc id) c ≡ c
+named-there true c id h = rw (lt-leb c id h)
 named-there false c id h = refl
 
 left-true : (a b : Bool) → a && b ≡ true → a ≡ true
@@ -60,7 +58,7 @@ pub raised-there : (g : Bool) (R : Rule) (c id size : ℕ) → ruleHolds R c id 
 unfolding countRaised ruleHolds
 raised-there g create c id size h = refl
 raised-there g delete c id size h = refl
-raised-there g name c id size h = named-there (g && leb id 1_022) c id
+raised-there g name c id size h = named-there g c id
     (ltb-true id c (left-true (ltb id c) (between 1 1_022 size) h))
 raised-there g inlined c id size h = refl
 raised-there g eight c id size h = refl

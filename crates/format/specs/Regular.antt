@@ -8,7 +8,6 @@ use Rattle.format.specs.Tag.{tagType3, tagId, tagSize, removalSize}
 use Rattle.format.specs.Kind.{typeFile, typeDirectory, typeSuperblock, typeDirStruct, typeInlineStruct}
 use Rattle.format.specs.Kind.{typeCtzStruct, typeUserAttr, typeCreate, typeDelete, typeForward, typeTail}
 use Rattle.format.specs.Kind.{typeHardTail, typeMove, noSlot}
-use Rattle.format.specs.Count.{countNamed}
 use Rattle.format.specs.Walk.{Event, ent, chk, inv}
 use Rattle.format.specs.declared.Rules.{Rules}
 use Rattle.format.specs.declared.Rules.the-variants.{Document, Littlefs}
@@ -88,7 +87,7 @@ growsAfter g bad = g
 unfoldable pub countRaised : Bool → Rule → ℕ → ℕ → ℕ
 countRaised g create c id = c
 countRaised g delete c id = c
-countRaised g name c id = cond (g && leb id 1_022) (countNamed c id) c
+countRaised g name c id = cond (g && (leb c id && leb id 1_022)) (suc id) c
 countRaised g inlined c id = c
 countRaised g eight c id = c
 countRaised g attribute c id = c

@@ -5,7 +5,7 @@ use Rattle.commit_regular.proofs.log_regular.Statement.{statement}
 use Rattle.commit_regular.proofs.log_regular.Tie as tie
 
 returns : tie.Need-returns
-returns c = settles-regular _ _ _ _ (c .before .before .start .ensures) (c .before .start2 .ensures)
+returns c = settles-regular _ _ _ _ _ (c .before .before .start .ensures) (c .before .start2 .ensures)
     (c .regular-on .ensures)
 
 pub log-regular-spec : {M : Type 1} → statement M

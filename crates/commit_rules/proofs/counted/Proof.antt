@@ -1,24 +1,13 @@
--- `commit_rules::counted` meets its contract: by what the rule says. Assumes nothing.
-use native.Mathlib.Omega.{arith}
-use mathlib.Core.Path.{sym, _∙_}
-use Rattle.commit_rules.specs.Rules.{ruleAs}
-use Rattle.commit_rules.proofs.Passed.{count-fits, passes, fails}
+-- `commit_rules::counted` meets its contract: by the type's rule. Assumes nothing.
+use mathlib.Core.Path.{ap, _∙_}
+use Rattle.commit_rules.specs.Rules.{passedBy, countedBy}
 use borrow.Author.Needs.{needs}
 use Rattle.commit_rules.proofs.counted.Statement.{statement}
 use Rattle.commit_rules.proofs.counted.Tie as tie
 
-count-after-requires : tie.Need-count-after-requires
-count-after-requires c κs = count-fits (ruleAs (c .before .before .rule-of .result))
-    (c .before .before .before .args .count) _ _ (omega arith) (sym (c .before .rule-holds .ensures) ∙ c .if1 .taken)
-
 returns : tie.Need-returns
-returns c = passes _ _ _ _ _ _ (c .before .before .before .rule-of .ensures) _ (c .before .before .rule-holds .ensures)
-    _ (c .before .if1 .taken) (c .count-after .ensures)
-
-returns-2 : tie.Need-returns-2
-returns-2 c = fails _ _ _ _ _ _ (c .before .before .rule-of .ensures) _ (c .before .rule-holds .ensures) (c .if1 .left)
+unfolding countedBy
+returns c = rw (← c .before .rule-of .ensures) (c .count-behind .ensures)
 
 pub counted-spec : {M : Type 1} → statement M
-counted-spec =
-    tie.close
-    (tie.spec (λ c κs. search needs) (λ c κs. search needs) count-after-requires returns returns-2)
+counted-spec = tie.close (tie.spec (λ c κs. search needs) (λ c κs. search needs) returns)

@@ -4,7 +4,7 @@ use mathlib.Core.Path.{_≡_, refl, sym, ap, _∙_}
 use mathlib.Core.Logic.{_⊎_, inl, inr}
 use mathlib.Core.Bool.{Bool, true, false, cond, _&&_}
 use mathlib.Core.List.{List, [], _∷_}
-use Prim.Native.Nat.{ℕ, _/_, _^_, _≤_, _<_}
+use Prim.Native.Nat.{ℕ, suc, _/_, _^_, _≤_, _<_}
 use native.Mathlib.Omega.{arith}
 use lib.Dec.{eqb, leb, ltb}
 use borrow.Author.Tests.{ne-eqb, leb-true, ltb-true}
@@ -53,14 +53,17 @@ ruled-count g delete c t s h low =
     let all : tagChunk t ≡ 0xff = chunk-of t ∙ omega arith in
     rw (not-name t (omega arith), is-splice t typeDelete s refl, all) (omega arith)
 ruled-count g name c t s h low =
-    let b : Bool = g && leb (tagId t) 1_022 in
-    let r = both-true (ltb (tagId t) (cond b (countNamed c (tagId t)) c)) (between 1 1_022 (tagSize t)) h in
-    rw (is-name t s) (go b (ltb-true (tagId t) (cond b (countNamed c (tagId t)) c) (r .0)))
+    let b : Bool = g && (leb c (tagId t) && leb (tagId t) 1_022) in
+    let r = both-true (ltb (tagId t) (cond b (suc (tagId t)) c)) (between 1 1_022 (tagSize t)) h in
+    rw (is-name t s) (go b refl (ltb-true (tagId t) (cond b (suc (tagId t)) c) (r .0)))
   where
-    go : (b : Bool) → tagId t < cond b (countNamed c (tagId t)) c
-        → countNamed c (tagId t) ≡ cond b (countNamed c (tagId t)) c
-    go true k = refl
-    go false k = omega arith
+    go : (b : Bool) → g && (leb c (tagId t) && leb (tagId t) 1_022) ≡ b → tagId t < cond b (suc (tagId t)) c
+        → countNamed c (tagId t) ≡ cond b (suc (tagId t)) c
+    go true e k =
+        let q = both-true (leb c (tagId t)) (leb (tagId t) 1_022)
+        (both-true g (leb c (tagId t) && leb (tagId t) 1_022) e .1) in
+        omega (arith, leb-true c (tagId t) (q .0))
+    go false e k = omega arith
 ruled-count g inlined c t s h low = neither c t (omega arith) (inl (omega arith))
 ruled-count g eight c t s h low = neither c t (omega (arith, s .0)) (inl (omega (arith, s .1)))
 ruled-count g attribute c t s h low = neither c t (omega (arith, s .0)) (inl (omega (arith, s .1)))

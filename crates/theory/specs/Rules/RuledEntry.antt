@@ -13,7 +13,6 @@ use Rattle.format.specs.Tag.{tagType3, tagChunk, tagId, tagSize, removalSize, t
 use Rattle.format.specs.Kind.{typeFile, typeDirectory, typeSuperblock, typeDirStruct, typeInlineStruct, typeCtzStruct}
 use Rattle.format.specs.Kind.{typeUserAttr, typeSplice, typeCreate, typeDelete, typeCheck, typeForward, typeTail}
 use Rattle.format.specs.Kind.{typeHardTail, typeMove, noSlot, isCheck, isWide}
-use Rattle.format.specs.Count.{countNamed}
 use Rattle.format.specs.Walk.{bodyLength}
 use Rattle.format.specs.Regular.{Rule, ruleOf, between, ruleHolds, countAfter, create, delete, name, inlined, eight}
 use Rattle.format.specs.Regular.{attribute, tail, move, forward, bad, growsAfter, countRaised}
@@ -170,14 +169,17 @@ eight-long : (t : ℕ) → tagSize t ≡ 8 → tagLength t ≡ 12
 eight-long t h = length-size t (λ q. omega arith) ∙ ap (λ (n : ℕ). 4 + n) h
 
 -- a name, in a slot that it makes or one that is there
-ruled-name : (g : Bool) (c t : ℕ) (d : List ℕ) → tagType3 t < 2 ^ 8 → (b : Bool) → g && leb (tagId t) 1_022 ≡ b
-    → tagId t < cond b (countNamed c (tagId t)) c → between 1 1_022 (tagSize t) ≡ true
-    → Ruled g c (cond b (countNamed c (tagId t)) c) name t d
+ruled-name : (g : Bool) (c t : ℕ) (d : List ℕ) → tagType3 t < 2 ^ 8 → (b : Bool)
+    → g && (leb c (tagId t) && leb (tagId t) 1_022) ≡ b
+    → tagId t < cond b (suc (tagId t)) c → between 1 1_022 (tagSize t) ≡ true
+    → Ruled g c (cond b (suc (tagId t)) c) name t d
 unfolding countAfter growsAfter ruleHolds
 ruled-name g c t d s true e h k =
-    let r = both-true g (leb (tagId t) 1_022) e in
-    let id : tagId t ≤ 1_022 = leb-true (tagId t) 1_022 (r .1) in
-    ruled-put g c (countNamed c (tagId t)) t 0 d name (act-name t d s) (omega arith) (inr (r .0)) (omega arith)
+    let r = both-true g (leb c (tagId t) && leb (tagId t) 1_022) e in
+    let q = both-true (leb c (tagId t)) (leb (tagId t) 1_022) (r .1) in
+    let above : c ≤ tagId t = leb-true c (tagId t) (q .0) in
+    let most : tagId t ≤ 1_022 = leb-true (tagId t) 1_022 (q .1) in
+    ruled-put g c (suc (tagId t)) t 0 d name (act-name t d s) (omega arith) (inr (r .0)) (omega arith)
     (λ l. omega arith) refl refl s k
 ruled-name g c t d s false e h k =
     ruled-set g c t 0 d name (act-name t d s) (omega arith) h refl refl s k
@@ -218,10 +220,10 @@ ruled g delete c t d s h =
       load = λ e n. rw is tt;
     }
 ruled g name c t d s h =
-    let b : Bool = g && leb (tagId t) 1_022 in
-    let r = both-true (ltb (tagId t) (cond b (countNamed c (tagId t)) c)) (between 1 1_022 (tagSize t)) h in
-    ruled-name g c t d s (g && leb (tagId t) 1_022) refl (ltb-true (tagId t) (cond b (countNamed c (tagId t)) c) (r .0))
-    (r .1)
+    let b : Bool = g && (leb c (tagId t) && leb (tagId t) 1_022) in
+    let r = both-true (ltb (tagId t) (cond b (suc (tagId t)) c)) (between 1 1_022 (tagSize t)) h in
+    ruled-name g c t d s (g && (leb c (tagId t) && leb (tagId t) 1_022)) refl
+    (ltb-true (tagId t) (cond b (suc (tagId t)) c) (r .0)) (r .1)
 ruled g inlined c t d s h =
     let r = both-true (ltb (tagId t) c) (leb (tagSize t) 1_022) h in
     ruled-set g c t 1 d inlined (act-struct t d (omega arith) (omega arith)) (omega arith) (ltb-true (tagId t) c (r .0))
