@@ -9,8 +9,9 @@ use lib.Dec.{leb}
 use borrow.Author.Tests.{eq-eqb, ne-eqb, not-false}
 use Rattle.format.specs.Log.{log}
 use Rattle.format.specs.Fetch.{pairFits, fetchOf}
-use Rattle.format.specs.Regular.{Regular}
+use Rattle.format.specs.Regular.{Regular, rulesFit, rulesOf}
 use Rattle.format.specs.Writer.{mostData, mostEntries, commitFits}
+use Rattle.format.specs.declared.Rules.{Rules}
 use Rattle.format.specs.declared.Geometry.{Geometry}
 use Rattle.format.specs.declared.LfsMdir.{LfsMdir}
 use Rattle.format.specs.declared.Refusal.{Refusal}
@@ -21,23 +22,24 @@ use Rattle.commit_steps.specs.State.{state, refusedState, judgingFrom, s
 use Rattle.commit_steps.specs.declared.State.{State}
 use Rattle.commit_steps.specs.declared.Phase.the-variants.{Judge}
 
--- ---- `start`: x is what `log_regular` answers
-module _ (second : Bool) (b : List ℕ) (m : LfsMdir) (x : Bool) (is : x ≡ Regular (log b)) where
-  pub starts-irregular : (s : State) → not x ≡ true → s ≡ refusedState Irregular → s ≡ startedOf second b m
+-- ---- `start`: r is what `rules_of` answers, x what `log_regular` does
+module _ (second : Bool) (b : List ℕ) (m : LfsMdir) (rules : ℕ) (r : Rules) (asked : r ≡ rulesOf rules) (x : Bool)
+    (is : x ≡ Regular r (log b)) where
+  pub starts-irregular : (s : State) → not x ≡ true → s ≡ refusedState Irregular → s ≡ startedOf (rulesOf rules) second b m
   unfolding startedOf
-  starts-irregular s h e = rw (← is, h) e
+  starts-irregular s h e = rw (← asked, ← is, h) e
 
-  pub starts-regular : not x ≡ false → state second (Judge (judgingFrom m)) ≡ startedOf second b m
+  pub starts-regular : not x ≡ false → state second (Judge (judgingFrom m)) ≡ startedOf (rulesOf rules) second b m
   unfolding startedOf
-  starts-regular h = rw (← is, h)
+  starts-regular h = rw (← asked, ← is, h)
 
--- ---- `begin`: x is what `pair_fits` answers, with the other two tests
+-- ---- `begin`: p is what `pair_fits` answers, with the other three tests
 module _ (g : Geometry) (b0 b1 : List ℕ) (n0 n1 count seed rules entries : ℕ) (dat : List ℕ) (p : Bool)
     (is : p ≡ pairFits g (length b0) (length b1) n0 n1) where
   abbrev pub tested : Bool
-  tested = p && leb (length dat) mostData && leb entries mostEntries
+  tested = p && leb (length dat) mostData && leb entries mostEntries && rulesFit rules
 
-  tested-is : tested ≡ commitFits g (length b0) (length b1) n0 n1 entries (length dat)
+  tested-is : tested ≡ commitFits g (length b0) (length b1) n0 n1 rules entries (length dat)
   unfolding commitFits
   tested-is = rw is
 
@@ -45,12 +47,12 @@ module _ (g : Geometry) (b0 b1 : List ℕ) (n0 n1 count seed rules entries : ℕ
   pub fits-four : not tested ≡ false → (4 ≤ length b0) × (4 ≤ length b1)
   fits-four h =
       let s = sized g (length b0) (length b1) n0 n1
-      (sym is ∙ first p (leb (length dat) mostData) (leb entries mostEntries) (not-false _ h)) in
+      (sym is ∙ first p (leb (length dat) mostData) (leb entries mostEntries) (rulesFit rules) (not-false _ h)) in
       (omega (arith, s .first, s .geometry .block-low), omega (arith, s .second, s .geometry .block-low))
     where
-      first : (a b c : Bool) → a && b && c ≡ true → a ≡ true
-      first true b c e = refl
-      first false b c e = cc
+      first : (a b c d : Bool) → a && b && c && d ≡ true → a ≡ true
+      first true b c d e = refl
+      first false b c d e = cc
 
   pub begins-broken : (s : State) → not tested ≡ true → s ≡ refusedState Invalid
       → s ≡ begunOf g b0 b1 n0 n1 count seed rules entries dat
@@ -64,12 +66,12 @@ module _ (g : Geometry) (b0 b1 : List ℕ) (n0 n1 count seed rules entries : ℕ
     begins-refused s r f e = rw (← tested-is, h, f) e
 
     module _ (m : LfsMdir) (t : ℕ) (f : fetchOf g b0 b1 n0 n1 count seed ≡ fetched.Found m t) where
-      pub begins-first : (s : State) → m .pair .n0 ≡ n0 → s ≡ startedOf false b0 m
+      pub begins-first : (s : State) → m .pair .n0 ≡ n0 → s ≡ startedOf (rulesOf rules) false b0 m
           → s ≡ begunOf g b0 b1 n0 n1 count seed rules entries dat
       unfolding begunOf
       begins-first s q e = rw (← tested-is, h, f, eq-eqb (m .pair .n0) n0 q) e
 
-      pub begins-second : (s : State) → (m .pair .n0 ≡ n0 → ⊥) → s ≡ startedOf true b1 m
+      pub begins-second : (s : State) → (m .pair .n0 ≡ n0 → ⊥) → s ≡ startedOf (rulesOf rules) true b1 m
           → s ≡ begunOf g b0 b1 n0 n1 count seed rules entries dat
       unfolding begunOf
       begins-second s q e = rw (← tested-is, h, f, ne-eqb (m .pair .n0) n0 q) e

@@ -9,10 +9,11 @@ use Rattle.format.specs.Tag.{tagLength, mkTag}
 use Rattle.format.specs.Crc.{crc}
 use Rattle.format.specs.Log.{log}
 use Rattle.format.specs.Fetch.{imagesFit, fetchOf}
-use Rattle.format.specs.Regular.{Regular}
+use Rattle.format.specs.Regular.{Regular, rulesOf}
 use Rattle.format.specs.Commit.{checkTag}
 use Rattle.format.specs.Room.{roomOf}
 use Rattle.format.specs.Writer.{roundedEnd, checkSize, commitFits, blockAt, isSecond, committedAs}
+use Rattle.format.specs.declared.Rules.{Rules}
 use Rattle.format.specs.declared.Geometry.{Geometry}
 use Rattle.format.specs.declared.LfsMdir.{LfsMdir}
 use Rattle.format.specs.declared.Refusal.{Refusal}
@@ -71,17 +72,17 @@ judgingFrom m = record {
   sum = allOnes;
 }
 
-unfoldable pub startedOf : Bool → List ℕ → LfsMdir → State
-startedOf second b m = cond (not (Regular (log b))) (refusedState Irregular) (state second (Judge (judgingFrom m)))
+unfoldable pub startedOf : Rules → Bool → List ℕ → LfsMdir → State
+startedOf r second b m = cond (not (Regular r (log b))) (refusedState Irregular) (state second (Judge (judgingFrom m)))
 
-abbrev pub fetchedBy : Fetched → ℕ → List ℕ → List ℕ → State
-fetchedBy (fetched.Refused r) n0 b0 b1 = refusedState r
-fetchedBy (fetched.Found m s) n0 b0 b1 = startedOf (isSecond n0 m) (blockAt (isSecond n0 m) b0 b1) m
+abbrev pub fetchedBy : Rules → Fetched → ℕ → List ℕ → List ℕ → State
+fetchedBy r (fetched.Refused q) n0 b0 b1 = refusedState q
+fetchedBy r (fetched.Found m s) n0 b0 b1 = startedOf r (isSecond n0 m) (blockAt (isSecond n0 m) b0 b1) m
 
-unfoldable pub begunOf : Geometry → List ℕ → List ℕ → ℕ → ℕ → ℕ → ℕ → ℕ → List ℕ → State
+unfoldable pub begunOf : Geometry → List ℕ → List ℕ → ℕ → ℕ → ℕ → ℕ → ℕ → ℕ → List ℕ → State
 begunOf g b0 b1 n0 n1 count seed rules entries dat =
-    cond (not (commitFits g (length b0) (length b1) n0 n1 entries (length dat))) (refusedState Invalid)
-    (fetchedBy (fetchOf g b0 b1 n0 n1 count seed) n0 b0 b1)
+    cond (not (commitFits g (length b0) (length b1) n0 n1 rules entries (length dat))) (refusedState Invalid)
+    (fetchedBy (rulesOf rules) (fetchOf g b0 b1 n0 n1 count seed) n0 b0 b1)
 
 -- ---- an entry: judged
 abbrev pub judgedTo : Judging → ℕ → ℕ → ℕ → Judging

@@ -8,6 +8,7 @@ ghost use lib.ListN.{length};
 ghost use Rattle.commit_steps.specs.State.{trio, onto, refusedState, begunOf, startedOf, judgedOf, laidOf};
 ghost use Rattle.commit_steps.specs.State.{stepOf, placedOf, decidedOf, checkedOf, sealedOf, answeredOf, madeOf};
 ghost use Rattle.format.specs.Fetch.{fetchOf};
+ghost use Rattle.format.specs.Regular.{rulesOf};
 ghost use Rattle.format.specs.Writer.{unlimited};
 use commit_lay::Run;
 use commit_rules::Ruled;
@@ -60,7 +61,7 @@ pub struct State {
     pub phase: Phase,
 }
 
-// "Commit: -22, fetch's own refusals, -202"
+// "Commit: -22, fetch's own refusals, -202". The rule by which the log must be regular is 0 or 1, "any other -22".
 pub fn begin(
     g: Geometry,
     b0: &[u8],
@@ -69,6 +70,7 @@ pub fn begin(
     n1: u32,
     block_count: u32,
     seed: u32,
+    rules: u32,
     entries: usize,
     dat: &[u8],
 ) -> State
@@ -77,7 +79,8 @@ pub fn begin(
 {
     let fits = sizes::pair_fits(g, b0.len(), b1.len(), n0, n1)
         & (dat.len() <= MOST_DATA)
-        & (entries <= MOST_ENTRIES);
+        & (entries <= MOST_ENTRIES)
+        & (rules <= 1);
     if !fits {
         return refused(Refusal::Invalid);
     }
@@ -85,9 +88,9 @@ pub fn begin(
         Fetched::Refused(r) => refused(r),
         Fetched::Found(m, _) => {
             if m.pair.n0 == n0 {
-                start(b0, false, m)
+                start(b0, false, m, rules)
             } else {
-                start(b1, true, m)
+                start(b1, true, m, rules)
             }
         }
     }
@@ -102,12 +105,12 @@ fn refused(r: Refusal) -> State
     }
 }
 
-// The log of the answering block must be regular. Entries run against the record's count.
-fn start(b: &[u8], second: bool, m: LfsMdir) -> State
+// The log of the answering block must be regular by the rule. Entries run against the record's count.
+fn start(b: &[u8], second: bool, m: LfsMdir, rules: u32) -> State
     requires { ⌜ 4 ≤ length (now b) ⌝ }
-    ensures { λ r. ⌜ r ≡ startedOf second (now (b .entry)) m ⌝ }
+    ensures { λ r. ⌜ r ≡ startedOf (rulesOf rules) second (now (b .entry)) m ⌝ }
 {
-    if !commit_regular::log_regular(b) {
+    if !commit_regular::log_regular(b, commit_regular::rules_of(rules)) {
         return refused(Refusal::Irregular);
     }
     let judging = Judging {

@@ -14,6 +14,7 @@ returns c = begins-broken (c .before .before .before .before .before .before .ar
     (c .before .before .before .before .before .before .args .n1)
     (c .before .before .before .before .before .before .args .block-count)
     (c .before .before .before .before .before .before .args .seed)
+    (c .before .before .before .before .before .before .args .rules)
     (c .before .before .before .before .before .before .args .entries)
     (c .before .before .before .before .before .before .args .dat .now) _ (c .before .before .pair-fits .ensures) _
     (c .before .if1 .taken) (c .refused .ensures)
@@ -26,6 +27,7 @@ start-requires c κs = fits-four (c .before .before .before .before .before .bef
     (c .before .before .before .before .before .before .before .before .before .before .before .args .n1)
     (c .before .before .before .before .before .before .before .before .before .before .before .args .block-count)
     (c .before .before .before .before .before .before .before .before .before .before .before .args .seed)
+    (c .before .before .before .before .before .before .before .before .before .before .before .args .rules)
     (c .before .before .before .before .before .before .before .before .before .before .before .args .entries)
     (c .before .before .before .before .before .before .before .before .before .before .before .args .dat .now) _
     (c .before .before .before .before .before .before .before .pair-fits .ensures)
@@ -39,6 +41,7 @@ start-requires-2 c κs = fits-four (c .before .before .before .before .before .b
     (c .before .before .before .before .before .before .before .before .before .before .before .args .n1)
     (c .before .before .before .before .before .before .before .before .before .before .before .args .block-count)
     (c .before .before .before .before .before .before .before .before .before .before .before .args .seed)
+    (c .before .before .before .before .before .before .before .before .before .before .before .args .rules)
     (c .before .before .before .before .before .before .before .before .before .before .before .args .entries)
     (c .before .before .before .before .before .before .before .before .before .before .before .args .dat .now) _
     (c .before .before .before .before .before .before .before .pair-fits .ensures)
@@ -52,6 +55,7 @@ returns-2 c = begins-refused (c .before .before .before .before .before .before 
     (c .before .before .before .before .before .before .before .before .before .before .args .n1)
     (c .before .before .before .before .before .before .before .before .before .before .args .block-count)
     (c .before .before .before .before .before .before .before .before .before .before .args .seed)
+    (c .before .before .before .before .before .before .before .before .before .before .args .rules)
     (c .before .before .before .before .before .before .before .before .before .before .args .entries)
     (c .before .before .before .before .before .before .before .before .before .before .args .dat .now) _
     (c .before .before .before .before .before .before .pair-fits .ensures)
@@ -67,7 +71,8 @@ returns-3 c = begins-first (c .before .before .before .before .before .before .b
     .args .n0) (c .before .before .before .before .before .before .before .before .before .before .before .before .args
     .n1) (c .before .before .before .before .before .before .before .before .before .before .before .before .args
     .block-count) (c .before .before .before .before .before .before .before .before .before .before .before .before
-    .args .seed) (c .before .before .before .before .before .before .before .before .before .before .before .before
+    .args .seed)
+    (c .before .before .before .before .before .before .before .before .before .before .before .before .args .rules) (c .before .before .before .before .before .before .before .before .before .before .before .before
     .args .entries) (c .before .before .before .before .before .before .before .before .before .before .before .before
     .args .dat .now) _ (c .before .before .before .before .before .before .before .before .pair-fits .ensures)
     (c .before .before .before .before .before .before .before .if1 .left) _ _
@@ -82,7 +87,8 @@ returns-4 c = begins-second (c .before .before .before .before .before .before .
     .args .n0) (c .before .before .before .before .before .before .before .before .before .before .before .before .args
     .n1) (c .before .before .before .before .before .before .before .before .before .before .before .before .args
     .block-count) (c .before .before .before .before .before .before .before .before .before .before .before .before
-    .args .seed) (c .before .before .before .before .before .before .before .before .before .before .before .before
+    .args .seed)
+    (c .before .before .before .before .before .before .before .before .before .before .before .before .args .rules) (c .before .before .before .before .before .before .before .before .before .before .before .before
     .args .entries) (c .before .before .before .before .before .before .before .before .before .before .before .before
     .args .dat .now) _ (c .before .before .before .before .before .before .before .before .pair-fits .ensures)
     (c .before .before .before .before .before .before .before .if1 .left) _ _

@@ -1,4 +1,4 @@
--- `commit_steps::start` meets its contract: by what `log_regular` answers. Assumes nothing.
+-- `commit_steps::start` meets its contract: by what `log_regular` answers for the rule. Assumes nothing.
 use Rattle.commit_steps.proofs.Begins.{starts-irregular, starts-regular}
 use borrow.Author.Needs.{needs}
 use Rattle.commit_steps.proofs.start.Statement.{statement}
@@ -6,13 +6,18 @@ use Rattle.commit_steps.proofs.start.Tie as tie
 
 returns : tie.Need-returns
 returns c =
-    starts-irregular _ _ _ _ (c .before .before .log-regular .ensures) _ (c .before .if1 .taken) (c .refused .ensures)
+    let a = c .before .before .before .before .before .args in
+    starts-irregular (a .second) (a .b .now) (a .m) (a .rules) _ (c .before .before .before .rules-of .ensures) _
+    (c .before .before .log-regular .ensures) _ (c .before .if1 .taken) (c .refused .ensures)
 
 returns-2 : tie.Need-returns-2
 returns-2 c =
-    starts-regular (c .before .before .before .before .args .second) (c .before .before .before .before .args .b .now)
-    (c .before .before .before .before .args .m) _ (c .before .before .log-regular .ensures) (c .before .if1 .left)
+    let a = c .before .before .before .before .before .args in
+    starts-regular (a .second) (a .b .now) (a .m) (a .rules) _ (c .before .before .before .rules-of .ensures) _
+    (c .before .before .log-regular .ensures) (c .before .if1 .left)
 
 pub start-spec : {M : Type 1} → statement M
 start-spec =
-    tie.close (tie.spec (λ c κs. search needs) (λ c κs. search needs) returns (λ c. search needs) returns-2)
+    tie.close
+    (tie.spec (λ c κs. search needs) (λ c κs. search needs) (λ c κs. search needs) returns (λ c. search needs)
+    returns-2)
