@@ -14,7 +14,9 @@ use Rattle.format.specs.Crc.{crc}
 use Rattle.format.specs.Log.{log, logEnd, logEndTag}
 use Rattle.format.specs.Record.{countOf}
 use Rattle.format.specs.Fetch.{geometryFits, imagesFit, pairFits, fetchOf}
-use Rattle.format.specs.Regular.{Regular}
+use Rattle.format.specs.Regular.{Regular, rulesFit, rulesOf}
+use Rattle.format.specs.declared.Rules.the-variants.{Littlefs}
+use Rattle.format.proofs.Growing.{widest}
 use Rattle.format.specs.Commit.{Item, checkTag, commitBytes}
 use Rattle.format.specs.Stores.{entriesLength, appending, coincides}
 use Rattle.format.specs.Entries.{itemsOf, Judged, judge, bad, good}
@@ -204,21 +206,24 @@ module _ (g : Geometry) (b0 b1 : List ℕ) (n0 n1 count seed rules : ℕ) (entri
   abbrev T : State → Trio
   T s = decidedT (passOf entries dat (trio s b0 b1))
 
-  module _ (fits : commitFits g (length b0) (length b1) n0 n1 (length entries) (length dat) ≡ true) where
+  module _ (fits : commitFits g (length b0) (length b1) n0 n1 rules (length entries) (length dat) ≡ true) where
     few : length entries ≤ 8_192
     unfolding commitFits
-    few = leb-true (length entries) mostEntries
+    few =
+        let r = both-true (pairFits g (length b0) (length b1) n0 n1 && leb (length dat) mostData
+        && leb (length entries) mostEntries) (rulesFit rules) fits in
+        leb-true (length entries) mostEntries
         (both-true (pairFits g (length b0) (length b1) n0 n1 && leb (length dat) mostData)
-        (leb (length entries) mostEntries) fits .1)
+        (leb (length entries) mostEntries) (r .0) .1)
 
     images : imagesFit g (length b0) (length b1) ≡ true
-    images = fits-images g (length b0) (length b1) n0 n1 (length entries) (length dat) fits
+    images = fits-images g (length b0) (length b1) n0 n1 rules (length entries) (length dat) fits
 
     geometry : geometryFits g ≡ true
-    geometry = fits-geometry g (length b0) (length b1) n0 n1 (length entries) (length dat) fits
+    geometry = fits-geometry g (length b0) (length b1) n0 n1 rules (length entries) (length dat) fits
 
-    -- the block at place w answers, its log is regular
-    module _ (w : Bool) (regular : Regular (log (blockAt w b0 b1)) ≡ true) where
+    -- the block at place w answers, its log is regular, by littlefs's rule, the wider one
+    module _ (w : Bool) (regular : Regular Littlefs (log (blockAt w b0 b1)) ≡ true) where
       low : countOf 0 (log (blockAt w b0 b1)) ≤ mostSlots
       low = subst (λ (k : ℕ). k ≤ mostSlots) (sym (regular-slots (log (blockAt w b0 b1)) regular))
           (regular-count (blockAt w b0 b1) (log (blockAt w b0 b1)) refl regular)
@@ -261,10 +266,10 @@ module _ (g : Geometry) (b0 b1 : List ℕ) (n0 n1 count seed rules : ℕ) (entri
 
     ran-started : (w : Bool) (m : LfsMdir) → m .off ≡ logEnd (log (blockAt w b0 b1))
         → m .etag ≡ logEndTag (log (blockAt w b0 b1)) → m .count ≡ countOf 0 (log (blockAt w b0 b1))
-        → Ran b0 b1 n (appended (g .«prog_size») w (blockAt w b0 b1) (log (blockAt w b0 b1)) entries dat)
-        (T (startedOf w (blockAt w b0 b1) m))
+        → Ran b0 b1 n (appended (rulesOf rules) (g .«prog_size») w (blockAt w b0 b1) (log (blockAt w b0 b1)) entries dat)
+        (T (startedOf (rulesOf rules) w (blockAt w b0 b1) m))
     unfolding appended startedOf
-    ran-started w m eo et ec = go (Regular (log (blockAt w b0 b1))) refl
+    ran-started w m eo et ec = go (Regular (rulesOf rules) (log (blockAt w b0 b1))) refl
       where
         later : Verdict
         later = judgedBy (judge dat 0 (countOf 0 (log (blockAt w b0 b1))) entries)
@@ -281,37 +286,37 @@ module _ (g : Geometry) (b0 b1 : List ℕ) (n0 n1 count seed rules : ℕ) (entri
           sum = allOnes;
         }
 
-        go : (x : Bool) → Regular (log (blockAt w b0 b1)) ≡ x
+        go : (x : Bool) → Regular (rulesOf rules) (log (blockAt w b0 b1)) ≡ x
             → Ran b0 b1 n (cond (not x) (refused Irregular) later)
             (T (cond (not x) (refusedState Irregular) (state w (Judge (judgingFrom m)))))
         go false e = ran-refused b0 b1 n false Irregular _ (all-refused false Irregular b0 b1 g n entries dat)
         go true e = subst (λ (j : Judging). Ran b0 b1 n later (T (state w (Judge j)))) (sym from-record)
-            (ran-regular w e)
+            (ran-regular w (widest (rulesOf rules) _ e))
 
     abbrev on : LfsMdir → Verdict
-    on m = appended (g .«prog_size») (isSecond n0 m) (blockAt (isSecond n0 m) b0 b1)
+    on m = appended (rulesOf rules) (g .«prog_size») (isSecond n0 m) (blockAt (isSecond n0 m) b0 b1)
         (log (blockAt (isSecond n0 m) b0 b1)) entries dat
 
     ran-fetched : (f : Fetched) → fetchOf g b0 b1 n0 n1 count seed ≡ f
-        → Ran b0 b1 n (fetchedThen f on) (T (fetchedBy f n0 b0 b1))
+        → Ran b0 b1 n (fetchedThen f on) (T (fetchedBy (rulesOf rules) f n0 b0 b1))
     ran-fetched (fetched.Refused r) e = ran-refused b0 b1 n false r _ (all-refused false r b0 b1 g n entries dat)
     ran-fetched (fetched.Found m s) e =
         let a = found-answers g b0 b1 n0 n1 count seed m s e in
-        subst (λ (v : Bool). Ran b0 b1 n (appended (g .«prog_size») v (blockAt v b0 b1) (log (blockAt v b0 b1)) entries
-        dat) (T (startedOf v (blockAt v b0 b1) m))) (sym (a .place))
+        subst (λ (v : Bool). Ran b0 b1 n (appended (rulesOf rules) (g .«prog_size») v (blockAt v b0 b1) (log (blockAt v b0 b1)) entries
+        dat) (T (startedOf (rulesOf rules) v (blockAt v b0 b1) m))) (sym (a .place))
         (ran-started (a .w) m (a .end) (a .endTag) (a .count))
 
   pub ran : Ran b0 b1 n (verdictOf g b0 b1 n0 n1 count seed rules entries dat) (ranOf g b0 b1 n0 n1 count seed rules entries dat n)
   unfolding verdictOf ranOf begunOf
-  ran = go (commitFits g (length b0) (length b1) n0 n1 (length entries) (length dat)) refl
+  ran = go (commitFits g (length b0) (length b1) n0 n1 rules (length entries) (length dat)) refl
     where
       F : Fetched
       F = fetchOf g b0 b1 n0 n1 count seed
 
-      go : (x : Bool) → commitFits g (length b0) (length b1) n0 n1 (length entries) (length dat) ≡ x
+      go : (x : Bool) → commitFits g (length b0) (length b1) n0 n1 rules (length entries) (length dat) ≡ x
           → Ran b0 b1 n (cond (not x) (refused Invalid)
-          (fetchedThen F (λ m. appended (g .«prog_size») (isSecond n0 m) (blockAt (isSecond n0 m) b0 b1)
+          (fetchedThen F (λ m. appended (rulesOf rules) (g .«prog_size») (isSecond n0 m) (blockAt (isSecond n0 m) b0 b1)
           (log (blockAt (isSecond n0 m) b0 b1)) entries dat)))
-          (T (cond (not x) (refusedState Invalid) (fetchedBy F n0 b0 b1)))
+          (T (cond (not x) (refusedState Invalid) (fetchedBy (rulesOf rules) F n0 b0 b1)))
       go false e = ran-refused b0 b1 n false Invalid _ (all-refused false Invalid b0 b1 g n entries dat)
       go true e = ran-fetched e F refl

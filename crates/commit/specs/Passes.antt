@@ -31,7 +31,7 @@ abbrev pub sealT : Trio → Trio
 sealT t = sealedOf (t .st) (t .b0) (t .b1)
 
 -- begin, judge every entry, decide, lay every entry, seal
-unfoldable pub ranOf : Geometry → List ℕ → List ℕ → ℕ → ℕ → ℕ → ℕ → List Entry → List ℕ → ℕ → Trio
+unfoldable pub ranOf : Geometry → List ℕ → List ℕ → ℕ → ℕ → ℕ → ℕ → ℕ → List Entry → List ℕ → ℕ → Trio
 ranOf g b0 b1 n0 n1 count seed rules es dat stores =
     sealT (passOf es dat (decideT g stores
     (passOf es dat (trio (begunOf g b0 b1 n0 n1 count seed rules (length es) dat) b0 b1))))

@@ -3,16 +3,17 @@
 use mathlib.Core.Path.{_≡_, refl, sym, ap, _∙_}
 use mathlib.Core.Bool.{Bool, true, false, not, cond}
 use mathlib.Core.List.{List}
-use Prim.Native.Nat.{ℕ}
+use Prim.Native.Nat.{ℕ, _≤_, _<_}
 use native.Mathlib.Omega.{arith}
 use lib.ListN.{length}
 use lib.Dec.{ltb}
-use borrow.Author.Tests.{eq-eqb, ne-eqb}
+use borrow.Author.Tests.{eq-eqb, ne-eqb, le-leb, lt-leb}
 use Rattle.format.specs.Word.{le32, toLe32, plus32, allOnes}
 use Rattle.format.specs.Crc.{crc}
 use Rattle.format.specs.Log.{log}
 use Rattle.format.specs.Fetch.{fetchOf}
-use Rattle.format.specs.Regular.{Regular}
+use Rattle.format.specs.Regular.{Regular, rulesOf}
+use Rattle.format.specs.declared.Rules.{Rules}
 use Rattle.format.specs.Commit.{checkTag}
 use Rattle.format.specs.Stores.{coincides}
 use Rattle.format.specs.Writer.{roundedEnd, checkSize, blockAt, isSecond, unlimited, committedAs}
@@ -23,7 +24,7 @@ use Rattle.format.specs.Stopped.{Bytes, CompactLeaves, CompactStoresLeaves}
 use Rattle.format.specs.declared.Geometry.{Geometry}
 use Rattle.format.specs.declared.LfsMdir.{LfsMdir}
 use Rattle.format.specs.declared.Refusal.{Refusal}
-use Rattle.format.specs.declared.Refusal.the-variants.{Irregular, NoSpace, Coincidence}
+use Rattle.format.specs.declared.Refusal.the-variants.{Invalid, Irregular, NoSpace, Coincidence}
 use Rattle.format.specs.declared.Fetched.{Fetched}
 use Rattle.format.specs.declared.Fetched.the-variants as fetched
 use Rattle.format.specs.declared.Committed.{Committed}
@@ -39,11 +40,11 @@ abbrev placedAt : Bool → CompactVerdict → CompactVerdict
 placedAt w (compactRefused r) = compactRefused r
 placedAt w (compactAccepted second rev is size) = compactAccepted w rev is size
 
-placed-at : (prog : ℕ) (w : Bool) (x : List ℕ)
-    → compactable prog w x (log x) ≡ placedAt w (compactable prog false x (log x))
+placed-at : (r : Rules) (prog : ℕ) (w : Bool) (x : List ℕ)
+    → compactable r prog w x (log x) ≡ placedAt w (compactable r prog false x (log x))
 unfolding compactable placedAnew
-placed-at prog w x =
-    go (not (Regular (log x))) (ltb (length x) (roundedEnd prog at))
+placed-at r prog w x =
+    go (not (Regular r (log x))) (ltb (length x) (roundedEnd prog at))
     (coincides (crc allOnes (toLe32 (plus32 (le32 x) 1))) allOnes (compactionItems (log x))
     (checkTag (checkSize prog at)))
   where
@@ -96,16 +97,21 @@ module _ (g : Geometry) (b0 b1 : List ℕ) (n0 n1 count seed rules : ℕ) where
   unfolding compactStoresOf compactImages
   leaves n v e r c0 c1 h = rw e h
 
-  pub called-refused : (n : ℕ) (r : Refusal) → fetched.Refused r ≡ fetchOf g b0 b1 n0 n1 count seed
+  pub called-invalid : (n : ℕ) → 1 < rules → Called n (stored.Refused Invalid) b0 b1
+  unfolding compactVerdict
+  called-invalid n h = leaves n (compactRefused Invalid) (rw (lt-leb rules 1 h)) (stored.Refused Invalid) b0 b1
+      (refl, (refl, refl))
+
+  pub called-refused : (n : ℕ) (r : Refusal) → rules ≤ 1 → fetched.Refused r ≡ fetchOf g b0 b1 n0 n1 count seed
       → Called n (stored.Refused r) b0 b1
   unfolding compactVerdict
-  called-refused n r f = leaves n (compactRefused r) (rw (← f)) (stored.Refused r) b0 b1 (refl, (refl, refl))
+  called-refused n r k f = leaves n (compactRefused r) (rw (le-leb rules 1 k, ← f)) (stored.Refused r) b0 b1 (refl, (refl, refl))
 
-  module _ (m : LfsMdir) (s : ℕ) (f : fetched.Found m s ≡ fetchOf g b0 b1 n0 n1 count seed) where
+  module _ (m : LfsMdir) (s : ℕ) (k : rules ≤ 1) (f : fetched.Found m s ≡ fetchOf g b0 b1 n0 n1 count seed) where
     verdict-of : (w : Bool) → isSecond n0 m ≡ w → compactVerdict g b0 b1 n0 n1 count seed rules
-        ≡ placedAt w (compactable (g .«prog_size») false (blockAt w b0 b1) (log (blockAt w b0 b1)))
+        ≡ placedAt w (compactable (rulesOf rules) (g .«prog_size») false (blockAt w b0 b1) (log (blockAt w b0 b1)))
     unfolding compactVerdict
-    verdict-of w e = rw (← f, e) (placed-at (g .«prog_size») w (blockAt w b0 b1))
+    verdict-of w e = rw (le-leb rules 1 k, ← f, e) (placed-at (rulesOf rules) (g .«prog_size») w (blockAt w b0 b1))
 
     renewable : (w : Bool) → isSecond n0 m ≡ w → Renewable (g .«prog_size») (blockAt w b0 b1) (blockAt (not w) b0 b1) m
     renewable w e =
@@ -144,10 +150,10 @@ module _ (g : Geometry) (b0 b1 : List ℕ) (n0 n1 count seed rules : ℕ) where
       renews-first = renewable false place-first
 
       pub called-first : (n : ℕ) (r : Stored) (c : List ℕ)
-          → r ≡ compactMade n (compactable (g .«prog_size») false b0 (log b0))
-          → c ≡ renewedTo n b1 (compactable (g .«prog_size») false b0 (log b0)) → Called n r b0 c
+          → r ≡ compactMade n (compactable (rulesOf rules) (g .«prog_size») false b0 (log b0))
+          → c ≡ renewedTo n b1 (compactable (rulesOf rules) (g .«prog_size») false b0 (log b0)) → Called n r b0 c
       called-first n r c er ec = leaves n _ (verdict-of false place-first) r b0 c
-          (first-leaves n b0 b1 (compactable (g .«prog_size») false b0 (log b0)) r c er ec)
+          (first-leaves n b0 b1 (compactable (rulesOf rules) (g .«prog_size») false b0 (log b0)) r c er ec)
 
     -- the second block answers
     module _ (h : m .pair .n0 ≡ n0 → ⊥) where
@@ -158,10 +164,10 @@ module _ (g : Geometry) (b0 b1 : List ℕ) (n0 n1 count seed rules : ℕ) where
       renews-second = renewable true place-second
 
       pub called-second : (n : ℕ) (r : Stored) (c : List ℕ)
-          → r ≡ compactMade n (compactable (g .«prog_size») false b1 (log b1))
-          → c ≡ renewedTo n b0 (compactable (g .«prog_size») false b1 (log b1)) → Called n r c b1
+          → r ≡ compactMade n (compactable (rulesOf rules) (g .«prog_size») false b1 (log b1))
+          → c ≡ renewedTo n b0 (compactable (rulesOf rules) (g .«prog_size») false b1 (log b1)) → Called n r c b1
       called-second n r c er ec = leaves n _ (verdict-of true place-second) r c b1
-          (second-leaves n b0 b1 (compactable (g .«prog_size») false b1 (log b1)) r c er ec)
+          (second-leaves n b0 b1 (compactable (rulesOf rules) (g .«prog_size») false b1 (log b1)) r c er ec)
 
   -- ---- the call with no limit: c0 and c1 are what the other leaves
   abbrev pub Answered : Committed → List ℕ → List ℕ → Type 0

@@ -1,12 +1,14 @@
 // Compaction of a metadata pair: document 01's `lfs_dir_compact`, and the same with a limit of stores. The block that
 // fetch did not answer from is erased and gets the next revision and one commit of all that the pair holds. Any
-// geometry, images, numbers, block count and seed.
+// geometry, images, numbers, block count and seed, and any number for the rule by which the log must be regular: 0 or 1,
+// "any other -22". What is written is regular by document 01's, whichever was asked for.
 ghost use mathlib.Core.Path.{_≡_};
 ghost use Rattle.format.specs.Compaction.{compactOf, compactStoresOf};
 ghost use Rattle.format.specs.Stopped.{CompactLeaves, CompactStoresLeaves};
 use format::Committed;
 use format::Fetched;
 use format::Geometry;
+use format::Refusal;
 use format::Stored;
 use format::types::UNLIMITED;
 
@@ -21,20 +23,24 @@ pub fn lfs_dir_compact_stores(
     n1: u32,
     block_count: u32,
     seed: u32,
+    rules: u32,
     stores: u32,
 ) -> Stored
     ensures { λ r. ⌜ r ≡ compactStoresOf g (now (b0 .entry)) (now (b1 .entry)) n0 n1 «block_count» seed rules stores ⌝ }
     ensures { λ _. ⌜ CompactStoresLeaves g (now (b0 .entry)) (now (b1 .entry)) n0 n1 «block_count» seed rules stores
         (now (b0 .exit)) (now (b1 .exit)) ⌝ }
 {
+    if 1 < rules {
+        return Stored::Refused(Refusal::Invalid);
+    }
     match fetch::lfs_dir_fetch(g, b0, b1, n0, n1, block_count, seed) {
         Fetched::Refused(r) => Stored::Refused(r),
         Fetched::Found(dir, _) => {
             let pair = dir.pair;
             if pair.n0 == n0 {
-                compact_block::renew(g.prog_size, b0, b1, dir, stores)
+                compact_block::renew(g.prog_size, rules, b0, b1, dir, stores)
             } else {
-                compact_block::renew(g.prog_size, b1, b0, dir, stores)
+                compact_block::renew(g.prog_size, rules, b1, b0, dir, stores)
             }
         }
     }
@@ -50,12 +56,13 @@ pub fn lfs_dir_compact(
     n1: u32,
     block_count: u32,
     seed: u32,
+    rules: u32,
 ) -> Committed
     ensures { λ r. ⌜ r ≡ compactOf g (now (b0 .entry)) (now (b1 .entry)) n0 n1 «block_count» seed rules ⌝ }
     ensures { λ _. ⌜ CompactLeaves g (now (b0 .entry)) (now (b1 .entry)) n0 n1 «block_count» seed rules
         (now (b0 .exit)) (now (b1 .exit)) ⌝ }
 {
-    match lfs_dir_compact_stores(g, b0, b1, n0, n1, block_count, seed, UNLIMITED) {
+    match lfs_dir_compact_stores(g, b0, b1, n0, n1, block_count, seed, rules, UNLIMITED) {
         Stored::Refused(r) => Committed::Refused(r),
         Stored::Made(_) => match fetch::lfs_dir_fetch(g, b0, b1, n0, n1, block_count, seed) {
             Fetched::Found(dir, read) => Committed::Done(dir, read),

@@ -10,7 +10,10 @@ use borrow.Author.Tests.{lt-ltb, le-ltb, not-true, not-false}
 use Rattle.format.specs.Word.{le32, toLe32, xor, plus32, allOnes}
 use Rattle.format.specs.Crc.{crc}
 use Rattle.format.specs.Log.{log}
-use Rattle.format.specs.Regular.{Regular}
+use Rattle.format.specs.Regular.{Regular, rulesOf}
+use Rattle.format.specs.declared.Rules.{Rules}
+use Rattle.format.specs.declared.Rules.the-variants.{Littlefs}
+use Rattle.format.proofs.Growing.{widest}
 use Rattle.format.specs.Commit.{Item, checkTag}
 use Rattle.format.specs.Stores.{coincides}
 use Rattle.format.specs.Writer.{checkLength, roundedEnd, checkSize}
@@ -67,8 +70,8 @@ module _ (rev : ℕ) (is : List Item) (s e : Emit) (es : s ≡ begins rev (recor
       ap (λ (z : Standing). meets (z .sum) (xor ct (z .prev))) begun
       ∙ emits-coincides is (standing (begins rev (record { at = 0; left = 0 })) new) ct
 
--- ---- the verdict
-module _ (prog : ℕ) (w : Bool) (x : List ℕ) where
+-- ---- the verdict, by the rule r
+module _ (r : Rules) (prog : ℕ) (w : Bool) (x : List ℕ) where
   abbrev I : List Item
   I = compactionItems (log x)
 
@@ -78,31 +81,31 @@ module _ (prog : ℕ) (w : Bool) (x : List ℕ) where
   abbrev next : ℕ
   next = plus32 (le32 x) 1
 
-  pub verdict-irregular : Regular (log x) ≡ false → compactable prog w x (log x) ≡ compactRefused Irregular
+  pub verdict-irregular : Regular r (log x) ≡ false → compactable r prog w x (log x) ≡ compactRefused Irregular
   unfolding compactable
   verdict-irregular h = rw h
 
-  module _ (regular : Regular (log x) ≡ true) where
-    pub verdict-full : length x < roundedEnd prog at → compactable prog w x (log x) ≡ compactRefused NoSpace
+  module _ (regular : Regular r (log x) ≡ true) where
+    pub verdict-full : length x < roundedEnd prog at → compactable r prog w x (log x) ≡ compactRefused NoSpace
     unfolding compactable placedAnew
     verdict-full h = rw (regular, lt-ltb (length x) (roundedEnd prog at) h)
 
     module _ (fits : roundedEnd prog at ≤ length x) where
       pub verdict-coincides : coincides (crc allOnes (toLe32 next)) allOnes I (checkTag (checkSize prog at)) ≡ true
-          → compactable prog w x (log x) ≡ compactRefused Coincidence
+          → compactable r prog w x (log x) ≡ compactRefused Coincidence
       unfolding compactable placedAnew
       verdict-coincides h = rw (regular, le-ltb (length x) (roundedEnd prog at) fits, h)
 
       pub verdict-accepted : coincides (crc allOnes (toLe32 next)) allOnes I (checkTag (checkSize prog at)) ≡ false
-          → compactable prog w x (log x) ≡ compactAccepted w next I (checkSize prog at)
+          → compactable r prog w x (log x) ≡ compactAccepted w next I (checkSize prog at)
       unfolding compactable placedAnew
       verdict-accepted h = rw (regular, le-ltb (length x) (roundedEnd prog at) fits, h)
 
       pub verdict-room : 4 ≤ prog → at + checkLength ≤ length x
       verdict-room h = omega (arith, rounded prog at h .0, fits)
 
--- ---- what the function answers and leaves, by its tests: x is whether the log is regular, e stands behind the entries
--- with the block b, z is the rounded end, ct the check tag, y whether it coincides
+-- ---- what the function answers and leaves, by its tests: x is whether the log is regular by r, the rule that was asked
+-- for, e stands behind the entries with the block b, z is the rounded end, ct the check tag, y whether it coincides
 abbrev pub Answered : ℕ → List ℕ → CompactVerdict → Stored → List ℕ → Type 0
 Answered n new v r b = (r ≡ compactMade n v) × (b ≡ renewedTo n new v)
 
@@ -110,27 +113,31 @@ refuses : (n : ℕ) (new b : List ℕ) (v : CompactVerdict) (r : Refusal) → v 
     → Answered n new v (stored.Refused r) b
 refuses n new b v r h e = rw h (refl, e)
 
-module _ (prog : ℕ) (old new : List ℕ) (dir : LfsMdir) (n : ℕ) (w : Renewable prog old new dir) (x : Bool)
-    (ex : x ≡ Regular (log old)) where
+module _ (prog : ℕ) (old new : List ℕ) (dir : LfsMdir) (n : ℕ) (w : Renewable prog old new dir) (rules : ℕ)
+    (r : Rules) (asked : r ≡ rulesOf rules) (x : Bool) (ex : x ≡ Regular r (log old)) where
   abbrev v : CompactVerdict
-  v = compactable prog false old (log old)
+  v = compactable (rulesOf rules) prog false old (log old)
 
   pub renew-irregular : not x ≡ true → Answered n new v (stored.Refused Irregular) new
-  renew-irregular h = refuses n new new v Irregular (verdict-irregular prog false old (sym ex ∙ not-true x h)) refl
+  renew-irregular h = refuses n new new v Irregular (verdict-irregular (rulesOf rules) prog false old
+      (rw (← asked) (sym ex ∙ not-true x h))) refl
 
   module _ (hx : not x ≡ false) (rev : ℕ) (er : rev ≡ plus32 (dir .rev) 1) (s e : Emit)
       (es : s ≡ begins rev (record { at = 0; left = 0 })) (b : List ℕ)
       (ee : standing e b ≡ emits (standing s new) (compactionItems (log old))) where
-    regular : Regular (log old) ≡ true
-    regular = sym ex ∙ not-false x hx
+    ruled : Regular (rulesOf rules) (log old) ≡ true
+    ruled = rw (← asked) (sym ex ∙ not-false x hx)
 
-    next-is : rev ≡ next prog false old
+    regular : Regular Littlefs (log old) ≡ true
+    regular = widest (rulesOf rules) (log old) ruled
+
+    next-is : rev ≡ next (rulesOf rules) prog false old
     next-is = er ∙ ap (λ (k : ℕ). plus32 k 1) (w .recorded .rev′)
 
     same : b ≡ new
     same = measured-block rev (compactionItems (log old)) s e es b new ee
 
-    end-is : e .end ≡ at prog false old
+    end-is : e .end ≡ at (rulesOf rules) prog false old
     end-is = measured-end rev (compactionItems (log old)) s e es b new ee
 
     pub renew-prog : Prog prog (e .end)
@@ -141,39 +148,39 @@ module _ (prog : ℕ) (old new : List ℕ) (dir : LfsMdir) (n : ℕ) (w : Renewa
     }
 
     module _ (z : ℕ) (ez : z ≡ roundedEnd prog (e .end)) where
-      rounded-is : z ≡ roundedEnd prog (at prog false old)
+      rounded-is : z ≡ roundedEnd prog (at (rulesOf rules) prog false old)
       rounded-is = ez ∙ ap (roundedEnd prog) end-is
 
       pub renew-full : length old < z → Answered n new v (stored.Refused NoSpace) b
-      renew-full h = refuses n new b v NoSpace (verdict-full prog false old regular (rw (← rounded-is) h)) same
+      renew-full h = refuses n new b v NoSpace (verdict-full (rulesOf rules) prog false old ruled (rw (← rounded-is) h)) same
 
       module _ (hz : z ≤ length old) (ct : ℕ) (ect : ct ≡ checkTag (checkSize prog (e .end))) (y : Bool)
           (ey : y ≡ meets (e .sum) (bitXor ct (e .prev))) where
-        fits : roundedEnd prog (at prog false old) ≤ length old
+        fits : roundedEnd prog (at (rulesOf rules) prog false old) ≤ length old
         fits = rw (← rounded-is) hz
 
-        tag-is : ct ≡ checkTag (checkSize prog (at prog false old))
+        tag-is : ct ≡ checkTag (checkSize prog (at (rulesOf rules) prog false old))
         tag-is = ect ∙ ap (λ (k : ℕ). checkTag (checkSize prog k)) end-is
 
-        coincides-is : coincides (crc allOnes (toLe32 (next prog false old))) allOnes (compactionItems (log old))
-            (checkTag (checkSize prog (at prog false old))) ≡ y
+        coincides-is : coincides (crc allOnes (toLe32 (next (rulesOf rules) prog false old))) allOnes (compactionItems (log old))
+            (checkTag (checkSize prog (at (rulesOf rules) prog false old))) ≡ y
         coincides-is =
             sym (ey ∙ measured-meets rev (compactionItems (log old)) s e es b new ee ct ∙ rw (next-is, tag-is))
 
         pub renew-coincides : y ≡ true → Answered n new v (stored.Refused Coincidence) b
         renew-coincides h = refuses n new b v Coincidence
-            (verdict-coincides prog false old regular fits (coincides-is ∙ h)) same
+            (verdict-coincides (rulesOf rules) prog false old ruled fits (coincides-is ∙ h)) same
 
         pub renew-writes : Writable old b dir
         renew-writes =
             record {
               recorded = w .recorded;
               regular = regular;
-              room = rw (same, w .long) (verdict-room prog false old regular fits (w .low));
+              room = rw (same, w .long) (verdict-room (rulesOf rules) prog false old ruled fits (w .low));
             }
 
         pub renew-made : y ≡ false → (k : ℕ) → k ≡ min n (compactStores (compactionItems (log old))) → (c : List ℕ)
             → c ≡ writtenTo old b rev ct n → Answered n new v (stored.Made k) c
         renew-made h k ek c ec =
-            rw (verdict-accepted prog false old regular fits (coincides-is ∙ h))
+            rw (verdict-accepted (rulesOf rules) prog false old ruled fits (coincides-is ∙ h))
             (ap stored.Made ek, ec ∙ rw (same, next-is, tag-is))

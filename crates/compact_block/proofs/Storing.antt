@@ -10,6 +10,7 @@ use Rattle.format.specs.Word.{toBe32, toLe32, xor, allOnes}
 use Rattle.format.specs.Crc.{crc}
 use Rattle.format.specs.Log.{log}
 use Rattle.format.specs.Regular.{Regular}
+use Rattle.format.specs.declared.Rules.the-variants.{Littlefs}
 use Rattle.format.specs.Commit.{Item, commitBytes}
 use Rattle.format.specs.Stores.{erased, entriesLength, compactBytes, compacting}
 use Rattle.format.specs.Writer.{checkLength}
@@ -93,7 +94,7 @@ module _ (B left rev ct : ℕ) (is : List Item) (p : Laid) (e : Emit) (b : List 
         ∙ rw (more, rest)
 
 -- ---- what the pass asks of its calls
-pub reads-all : (b : List ℕ) (dir : LfsMdir) (rev : ℕ) (run : Run) → Recorded b dir → Regular (log b) ≡ true
+pub reads-all : (b : List ℕ) (dir : LfsMdir) (rev : ℕ) (run : Run) → Recorded b dir → Regular Littlefs (log b) ≡ true
     → Read b (begins rev run) dir
 unfolding begins
 reads-all b dir rev run r regular =

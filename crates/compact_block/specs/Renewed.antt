@@ -10,6 +10,7 @@ use Rattle.format.specs.Crc.{crc}
 use Rattle.format.specs.Log.{log, logEnd, logEndTag}
 use Rattle.format.specs.Record.{countOf, noTail, tailOf, splitOf}
 use Rattle.format.specs.Regular.{Regular}
+use Rattle.format.specs.declared.Rules.the-variants.{Littlefs}
 use Rattle.format.specs.Stores.{compacting}
 use Rattle.format.specs.Writer.{checkLength}
 use Rattle.format.specs.Compaction.{compactionItems, compactCheckAt, compactStores, compactedTo, CompactVerdict}
@@ -39,10 +40,10 @@ pub record Renewable (prog : ℕ) (old new : List ℕ) (dir : LfsMdir) : Type 0 
   pub long : length new ≡ length old
   pub recorded : Recorded old dir
 
--- and what the second pass asks: a regular log whose entries fit the other block
+-- and what the second pass asks: a log that is regular, by littlefs's rule, the wider one, and whose entries fit the other block
 pub record Writable (old new : List ℕ) (dir : LfsMdir) : Type 0 where
   pub recorded : Recorded old dir
-  pub regular : Regular (log old) ≡ true
+  pub regular : Regular Littlefs (log old) ≡ true
   pub room : compactCheckAt (compactionItems (log old)) + checkLength ≤ length new
 
 -- the other block after the first n stores of the check tag ct

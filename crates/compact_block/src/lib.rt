@@ -8,6 +8,7 @@ ghost use lib.ListN.{length};
 ghost use Rattle.format.specs.Word.{toLe32, allOnes};
 ghost use Rattle.format.specs.Crc.{crc};
 ghost use Rattle.format.specs.Log.{log};
+ghost use Rattle.format.specs.Regular.{rulesOf};
 ghost use Rattle.format.specs.Stores.{erased};
 ghost use Rattle.format.specs.Compaction.{compactionItems, compactStores, compactable, compactMade};
 ghost use Rattle.compact_block.specs.Renewed.{begins, Writable, writtenTo, Renewable, renewedTo};
@@ -71,15 +72,24 @@ fn write(old: &[u8], new: &mut [u8], dir: LfsMdir, rev: u32, tag: u32, stores: u
     1 + last.at as u32
 }
 
-// The compaction of the block `old`, whose record is `dir`, into the block `new`: refused, or the number of stores
-// made.
-pub fn renew(prog: u32, old: &[u8], new: &mut [u8], dir: LfsMdir, stores: u32) -> Stored
+// The compaction of the block `old`, whose record is `dir` and whose log must be regular by the rule, into the block
+// `new`: refused, or the number of stores made. By littlefs's rule the log may have no creates, and then the ones that
+// are written may pass the block.
+pub fn renew(
+    prog: u32,
+    rules: u32,
+    old: &[u8],
+    new: &mut [u8],
+    dir: LfsMdir,
+    stores: u32,
+) -> Stored
     requires { ⌜ Renewable prog (now old) (now new) dir ⌝ }
-    ensures { λ r. ⌜ r ≡ compactMade stores (compactable prog false (now (old .entry)) (log (now (old .entry)))) ⌝ }
+    ensures { λ r. ⌜ r ≡ compactMade stores
+        (compactable (rulesOf rules) prog false (now (old .entry)) (log (now (old .entry)))) ⌝ }
     ensures { λ _. ⌜ now (new .exit) ≡ renewedTo stores (now (new .entry))
-        (compactable prog false (now (old .entry)) (log (now (old .entry)))) ⌝ }
+        (compactable (rulesOf rules) prog false (now (old .entry)) (log (now (old .entry)))) ⌝ }
 {
-    if !commit_regular::log_regular(old) {
+    if !commit_regular::log_regular(old, commit_regular::rules_of(rules)) {
         return Stored::Refused(Refusal::Irregular);
     }
     let rev = std::num::wrapping_add_u32(dir.rev, 1);
