@@ -46,7 +46,18 @@ fn run(
     ensures { λ r. ⌜ trio r (now (b0 .exit)) (now (b1 .exit)) ≡ ranOf g (now (b0 .entry)) (now (b1 .entry)) n0 n1
         «block_count» seed rules (now (entries .entry)) (now (dat .entry)) stores ⌝ }
 {
-    let s0 = commit_steps::begin(g, b0, b1, n0, n1, block_count, seed, rules, entries.len(), dat);
+    let s0 = commit_steps::begin(
+        g,
+        b0,
+        b1,
+        n0,
+        n1,
+        block_count,
+        seed,
+        rules,
+        entries.len(),
+        dat,
+    );
     let s1 = each(entries, dat, b0, b1, s0);
     let s2 = commit_steps::decide(s1, g, b0, b1, stores);
     let s3 = each(entries, dat, b0, b1, s2);
@@ -73,7 +84,19 @@ pub fn lfs_dir_commit(
         (now (entries .entry)) (now (dat .entry)) (now (b0 .exit)) (now (b1 .exit)) ⌝ }
 {
     let all = commit_steps::unlimited();
-    let s = run(g, b0, b1, n0, n1, block_count, seed, rules, entries, dat, all);
+    let s = run(
+        g,
+        b0,
+        b1,
+        n0,
+        n1,
+        block_count,
+        seed,
+        rules,
+        entries,
+        dat,
+        all,
+    );
     commit_steps::answer(s, g, b0, b1, n0, n1, block_count, seed)
 }
 
@@ -97,6 +120,18 @@ pub fn lfs_dir_commit_stores(
         × CommitStoresLeaves g (now (b0 .entry)) (now (b1 .entry)) n0 n1 «block_count» seed rules
         (now (entries .entry)) (now (dat .entry)) stores (now (b0 .exit)) (now (b1 .exit)) ⌝ }
 {
-    let s = run(g, b0, b1, n0, n1, block_count, seed, rules, entries, dat, stores);
+    let s = run(
+        g,
+        b0,
+        b1,
+        n0,
+        n1,
+        block_count,
+        seed,
+        rules,
+        entries,
+        dat,
+        stores,
+    );
     commit_steps::made(s, stores)
 }

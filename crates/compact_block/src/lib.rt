@@ -75,14 +75,7 @@ fn write(old: &[u8], new: &mut [u8], dir: LfsMdir, rev: u32, tag: u32, stores: u
 // The compaction of the block `old`, whose record is `dir` and whose log must be regular by the rule, into the block
 // `new`: refused, or the number of stores made. By littlefs's rule the log may have no creates, and then the ones that
 // are written may pass the block.
-pub fn renew(
-    prog: u32,
-    rules: u32,
-    old: &[u8],
-    new: &mut [u8],
-    dir: LfsMdir,
-    stores: u32,
-) -> Stored
+pub fn renew(prog: u32, rules: u32, old: &[u8], new: &mut [u8], dir: LfsMdir, stores: u32) -> Stored
     requires { ⌜ Renewable prog (now old) (now new) dir ⌝ }
     ensures { λ r. ⌜ r ≡ compactMade stores
         (compactable (rulesOf rules) prog false (now (old .entry)) (log (now (old .entry)))) ⌝ }

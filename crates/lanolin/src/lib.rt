@@ -33,6 +33,7 @@ pub extern "C" fn lanolin_commit(
     n1: u32,
     block_count: u32,
     seed: u32,
+    rules: u32,
     entries: &[Entry],
     dat: &[u8],
 ) -> CommittedOut
@@ -41,7 +42,7 @@ pub extern "C" fn lanolin_commit(
         × CommitLeaves g (now (b0 .entry)) (now (b1 .entry)) n0 n1 «block_count» seed rules
         (now (entries .entry)) (now (dat .entry)) (now (b0 .exit)) (now (b1 .exit)) ⌝ }
 {
-    let c = commit::lfs_dir_commit(g, b0, b1, n0, n1, block_count, seed, entries, dat);
+    let c = commit::lfs_dir_commit(g, b0, b1, n0, n1, block_count, seed, rules, entries, dat);
     lanolin_answers::committed_out(seed, c)
 }
 
@@ -54,6 +55,7 @@ pub extern "C" fn lanolin_commit_stores(
     n1: u32,
     block_count: u32,
     seed: u32,
+    rules: u32,
     entries: &[Entry],
     dat: &[u8],
     stores: u32,
@@ -71,6 +73,7 @@ pub extern "C" fn lanolin_commit_stores(
         n1,
         block_count,
         seed,
+        rules,
         entries,
         dat,
         stores,

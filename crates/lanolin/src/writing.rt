@@ -19,6 +19,7 @@ pub extern "C" fn lanolin_compact(
     n1: u32,
     block_count: u32,
     seed: u32,
+    rules: u32,
 ) -> CommittedOut
     ensures { λ r. ⌜ r ≡ committedOut seed (compactOf g (now (b0 .entry)) (now (b1 .entry)) n0 n1 «block_count»
         seed rules) ⌝ }
@@ -27,7 +28,7 @@ pub extern "C" fn lanolin_compact(
 {
     committed_out(
         seed,
-        compact::lfs_dir_compact(g, b0, b1, n0, n1, block_count, seed),
+        compact::lfs_dir_compact(g, b0, b1, n0, n1, block_count, seed, rules),
     )
 }
 
@@ -40,6 +41,7 @@ pub extern "C" fn lanolin_compact_stores(
     n1: u32,
     block_count: u32,
     seed: u32,
+    rules: u32,
     stores: u32,
 ) -> StoredOut
     ensures { λ r. ⌜ r ≡ storedOut (compactStoresOf g (now (b0 .entry)) (now (b1 .entry)) n0 n1 «block_count» seed rules
@@ -47,5 +49,5 @@ pub extern "C" fn lanolin_compact_stores(
     ensures { λ _. ⌜ CompactStoresLeaves g (now (b0 .entry)) (now (b1 .entry)) n0 n1 «block_count» seed rules stores
         (now (b0 .exit)) (now (b1 .exit)) ⌝ }
 {
-    stored_out(compact::lfs_dir_compact_stores(g, b0, b1, n0, n1, block_count, seed, stores))
+    stored_out(compact::lfs_dir_compact_stores(g, b0, b1, n0, n1, block_count, seed, rules, stores))
 }
