@@ -1,5 +1,6 @@
 // The raw log as a program: both images of a pair on standard input, one behind the other, the text on standard output.
-// `--full` as the first argument shows all data; behind it, or alone, the arguments are those of the program `list`.
+// `--full` as the first argument shows all data; behind it, or alone, the arguments are those of the program `list`,
+// but for the rule: every log is shown as it is.
 use format::LfsPair;
 use libc::STDIN_FILENO;
 use text_args::Request;
@@ -33,8 +34,8 @@ fn asks_full() -> bool {
 fn main() {
     let full = asks_full();
     let from = if full { 2 } else { 1 };
-    match text_args::asked(from) {
-        Request::As(prog_size, numbers) => {
+    match text_args::asked(from, false) {
+        Request::As(prog_size, numbers, _) => {
             let mut pair = [0u8; 65_537];
             let n = io::read_full(STDIN_FILENO, &mut pair);
             show(full, prog_size, numbers, &pair[..n]);

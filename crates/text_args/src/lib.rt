@@ -1,10 +1,11 @@
-// What a program is asked for: the program size and the two block numbers that its arguments name, or document 01's own
-// where it has none.
+// What a program is asked for: the program size, the two block numbers and the rule that its arguments name, or document
+// 01's own where it has none.
 ghost use mathlib.Core.Path.{_≡_};
 ghost use Rattle.text_args.specs.Number.{digitBehind, numberOf};
 use format::LfsPair;
 use text_input::INPUT_PAIR;
 use text_input::INPUT_PROG_SIZE;
+use text_input::INPUT_RULES;
 
 // A word in decimal, or a text that is none.
 pub enum Decimal {
@@ -12,9 +13,10 @@ pub enum Decimal {
     Not,
 }
 
-// The program size and the block numbers of the pair to be shown, or arguments that are not understood.
+// The program size and the block numbers of the pair to be shown, and the rule by which its log must be regular; or
+// arguments that are not understood.
 pub enum Request {
-    As(u32, LfsPair),
+    As(u32, LfsPair, u32),
     Unclear,
 }
 
@@ -61,13 +63,18 @@ fn word(i: usize) -> Decimal {
     number(&text[..n])
 }
 
-// What the arguments from number `from` on ask for: document 01's own where there are none, else three numbers.
-pub fn asked(from: usize) -> Request {
+// What the arguments from number `from` on ask for: document 01's own where there are none, else three numbers; and, of
+// a program that goes by a rule, a fourth, without which it is document 01's.
+pub fn asked(from: usize, ruled: bool) -> Request {
     let count = os::arg_count();
     if count <= from {
-        return Request::As(INPUT_PROG_SIZE, INPUT_PAIR);
+        return Request::As(INPUT_PROG_SIZE, INPUT_PAIR, INPUT_RULES);
     }
-    if count - from != 3 {
+    let words = count - from;
+    if words < 3 {
+        return Request::Unclear;
+    }
+    if 4 < words {
         return Request::Unclear;
     }
     let Decimal::Is(prog_size) = word(from) else {
@@ -79,5 +86,14 @@ pub fn asked(from: usize) -> Request {
     let Decimal::Is(n1) = word(from + 2) else {
         return Request::Unclear;
     };
-    Request::As(prog_size, LfsPair { n0, n1 })
+    if words == 3 {
+        return Request::As(prog_size, LfsPair { n0, n1 }, INPUT_RULES);
+    }
+    if !ruled {
+        return Request::Unclear;
+    }
+    let Decimal::Is(rules) = word(from + 3) else {
+        return Request::Unclear;
+    };
+    Request::As(prog_size, LfsPair { n0, n1 }, rules)
 }

@@ -7,9 +7,11 @@ use Prim.Native.Nat.{ℕ, suc, _+_, _*_, _^_, _≤_, _<_}
 use native.Mathlib.Omega.{arith}
 use lib.ListN.{length, length-append}
 use Rattle.format.specs.Log.{log}
-use Rattle.format.specs.Regular.{Regular}
+use Rattle.format.specs.Regular.{Regular, rulesOf}
+use Rattle.format.specs.declared.Rules.{Rules}
+use Rattle.format.proofs.Growing.{widest}
 use Rattle.format.specs.Directory.{Load, Slot, dirOf}
-use Rattle.format.specs.Listing.{ascii, decimal, numberLine, refusedLine, fetchInput}
+use Rattle.format.specs.Listing.{ascii, decimal, numberLine, refusedLine, fetchInput, fetchedText}
 use Rattle.format.specs.Audit.{deadlineClass, lacksDeadline, lacksPayload, nameOrDash, lackLine, deadlineLine}
 use Rattle.format.specs.Audit.{auditLine, auditLines, tally, totalLines, slotsAudit, blockAudit, auditAs}
 use Rattle.format.specs.declared.LfsPair.{LfsPair}
@@ -19,7 +21,7 @@ use Rattle.theory.specs.Blocks.SlotItems.{OkSlot, OkSlots, ok-dirOf}
 use Rattle.theory.specs.Commit.Tested.{regular-loads}
 use Rattle.theory.specs.Compact.AcceptedVerdict.{slots-few}
 use Rattle.text_input.proofs.Short.{decimal-short, name-length, number-short, refused-short, Short, slot-loads}
-use Rattle.text_input.proofs.Short.{fetched-short}
+use Rattle.text_input.proofs.Short.{ruled-short, fetched-short}
 
 name-short : (o : Option Load) → Short o → length (nameOrDash o) ≤ 4_088
 unfolding nameOrDash
@@ -101,18 +103,20 @@ slots-short D h =
       totals-short (tally lacksDeadline D) (tally lacksPayload D) (length D),
     )
 
-block-short : (m : LfsMdir) (b : List ℕ) → length (blockAudit m b) < 2 ^ 32
+block-short : (r : Rules) (m : LfsMdir) (b : List ℕ) → length (blockAudit r m b) < 2 ^ 32
 unfolding blockAudit
-block-short m b = go (Regular (log b)) refl
+block-short r m b = go (Regular r (log b)) refl
   where
-    go : (x : Bool) → Regular (log b) ≡ x → length (cond x (slotsAudit (dirOf (log b))) (refusedLine Irregular)) < 2 ^
+    go : (x : Bool) → Regular r (log b) ≡ x → length (cond x (slotsAudit (dirOf (log b))) (refusedLine Irregular)) < 2 ^
         32
     go true e = omega (
       arith,
-      slots-short (dirOf (log b)) (ok-dirOf (log b) (regular-loads b (log b) refl e)),
-      slots-few b e,
+      slots-short (dirOf (log b)) (ok-dirOf (log b) (regular-loads b (log b) refl (widest r (log b) e))),
+      slots-few b (widest r (log b) e),
     )
     go false e = omega (arith, refused-short Irregular)
 
-pub audit-short : (prog : ℕ) (p : LfsPair) (input : List ℕ) → length (auditAs prog p input) < 2 ^ 32
-audit-short prog p input = fetched-short blockAudit block-short p input (fetchInput prog p input)
+pub audit-short : (prog : ℕ) (p : LfsPair) (rules : ℕ) (input : List ℕ) → length (auditAs prog p rules input) < 2 ^ 32
+audit-short prog p rules input =
+    ruled-short rules (fetchedText (blockAudit (rulesOf rules)) p input (fetchInput prog p input))
+    (fetched-short (blockAudit (rulesOf rules)) (block-short (rulesOf rules)) p input (fetchInput prog p input))

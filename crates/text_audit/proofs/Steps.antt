@@ -10,7 +10,8 @@ use lib.ListN.{length, drop, getD, drop-of-length-le}
 use lib.Seq.{drop-cons}
 use borrow.Author.Tests.{not-true, not-false}
 use Rattle.format.specs.Log.{log}
-use Rattle.format.specs.Regular.{Regular}
+use Rattle.format.specs.Regular.{Regular, rulesOf}
+use Rattle.format.specs.declared.Rules.{Rules}
 use Rattle.format.specs.Directory.{classes, Load, Slot, empty, dirOf}
 use Rattle.format.specs.Listing.{ascii, numberLine, refusedLine}
 use Rattle.format.specs.Audit.{isInstruction, isPayload, isDeadline, isThere, deadlineClass, lacksDeadline}
@@ -211,21 +212,23 @@ totals-done d p n s t u r et eu er =
     let N : List ℕ = numberLine (ascii "slots ") n in
     join s t r (numberLine (ascii "payload without deadline ") d) (P ++ N) et (join t u r P N eu er)
 
--- ---- a block; x is what the test of regularity answers
-module _ (b : List ℕ) (m : LfsMdir) (r : Text) (x : Bool) (ex : x ≡ Regular (log b)) where
-  pub block-irregular : (s : Text) → not x ≡ true → r ≡ putsOf s (refusedLine Irregular) → r ≡ putsOf s (blockAudit m b)
+-- ---- a block; q is the rule that was asked for, x what the test of regularity answers
+module _ (b : List ℕ) (m : LfsMdir) (r : Text) (rules : ℕ) (q : Rules) (asked : q ≡ rulesOf rules) (x : Bool)
+    (ex : x ≡ Regular q (log b)) where
+  pub block-irregular : (s : Text) → not x ≡ true → r ≡ putsOf s (refusedLine Irregular)
+      → r ≡ putsOf s (blockAudit (rulesOf rules) m b)
   unfolding blockAudit
-  block-irregular s h er = rw (sym ex ∙ not-true x h) er
+  block-irregular s h er = rw (← asked, sym ex ∙ not-true x h) er
 
   pub block-audited : (out : List ℕ) (a : Audit) (now : List ℕ) → not x ≡ false → Slots b (m .off) (m .etag) (m .count)
       → SlotsAudited out a now (dirOf (log b))
       → r ≡ putsOf (text (a .at) now) (totalLines (a .«no_deadline») (a .«no_payload») (m .count))
-      → r ≡ putsOf (text 0 out) (blockAudit m b)
+      → r ≡ putsOf (text 0 out) (blockAudit (rulesOf rules) m b)
   unfolding blockAudit slotsAudit
   block-audited out a now h w z er =
       let D : List Slot = dirOf (log b) in
       let T : List ℕ = totalLines (tally lacksDeadline D) (tally lacksPayload D) (length D) in
       let same : totalLines (a .«no_deadline») (a .«no_payload») (m .count) ≡ T =
       rw (z .deadline, z .payload, w .count′) in
-      rw (sym ex ∙ not-false x h) (join (text 0 out) (text (a .at) now) r (auditLines 0 D) T (z .lines)
+      rw (← asked, sym ex ∙ not-false x h) (join (text 0 out) (text (a .at) now) r (auditLines 0 D) T (z .lines)
       (er ∙ ap (putsOf (text (a .at) now)) same))

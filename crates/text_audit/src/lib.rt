@@ -5,6 +5,7 @@ ghost use mathlib.Core.Path.{_≡_};
 ghost use Prim.Native.Nat.{_<_};
 ghost use lib.ListN.{length};
 ghost use Rattle.format.specs.Log.{log};
+ghost use Rattle.format.specs.Regular.{rulesOf};
 ghost use Rattle.format.specs.Directory.{dirOf};
 ghost use Rattle.format.specs.Listing.{writtenTo};
 ghost use Rattle.format.specs.Audit.{isInstruction, isPayload, isDeadline, isThere, nameOrDash, lackLine};
@@ -23,6 +24,7 @@ use format::Refusal;
 use format::types::*;
 use text_input::INPUT_PAIR;
 use text_input::INPUT_PROG_SIZE;
+use text_input::INPUT_RULES;
 
 // The class of the deadline, the user attribute 0x74: a name and a struct come before.
 const DEADLINE: usize = 2 + 0x74;
@@ -182,41 +184,46 @@ fn total_lines(out: &mut [u8], a: Audit, count: u32) -> u32
 }
 
 // "A log that isn't regular has no directory: -202, and nothing else."
-fn block_audit(out: &mut [u8], b: &[u8], m: LfsMdir) -> u32
+fn block_audit(out: &mut [u8], b: &[u8], m: LfsMdir, rules: u32) -> u32
     requires { ⌜ Listable (now b) m ⌝ }
-    ensures { λ r. ⌜ text r (now (out .exit)) ≡ putsOf (text 0 (now (out .entry))) (blockAudit m (now (b .entry))) ⌝ }
+    ensures { λ r. ⌜ text r (now (out .exit)) ≡ putsOf (text 0 (now (out .entry)))
+        (blockAudit (rulesOf rules) m (now (b .entry))) ⌝ }
 {
-    if !commit_regular::log_regular(b) {
+    if !commit_regular::log_regular(b, commit_regular::rules_of(rules)) {
         return text_input::refused(out, 0, Refusal::Irregular);
     }
     let a = slot_audits(out, b, m.off as usize, m.etag, m.count as u32);
     total_lines(out, a, m.count as u32)
 }
 
-// Both images, one behind the other, the program size and the numbers of the two blocks, as the listing takes them.
-pub fn lfs_dir_audit_as(prog_size: u32, numbers: LfsPair, input: &[u8], out: &mut [u8]) -> u32
-    ensures { λ r. ⌜ r ≡ length (auditAs «prog_size» numbers (now (input .entry))) ⌝ }
+// Both images, one behind the other, the program size, the numbers of the two blocks and the rule, as the listing takes
+// them.
+pub fn lfs_dir_audit_as(prog_size: u32, numbers: LfsPair, rules: u32, input: &[u8], out: &mut [u8]) -> u32
+    ensures { λ r. ⌜ r ≡ length (auditAs «prog_size» numbers rules (now (input .entry))) ⌝ }
     ensures { λ _. ⌜ now (out .exit)
-        ≡ writtenTo (now (out .entry)) (auditAs «prog_size» numbers (now (input .entry))) ⌝ }
+        ≡ writtenTo (now (out .entry)) (auditAs «prog_size» numbers rules (now (input .entry))) ⌝ }
 {
+    if 1 < rules {
+        return text_input::refused(out, 0, Refusal::Invalid);
+    }
     let half = input.len() / 2;
     match text_input::fetch_input(prog_size, numbers, input) {
         Fetched::Refused(r) => text_input::refused(out, 0, r),
         Fetched::Found(m, _) => {
             let pair = m.pair;
             if pair.n0 == numbers.n0 {
-                block_audit(out, &input[0..half], m)
+                block_audit(out, &input[0..half], m, rules)
             } else {
-                block_audit(out, &input[half..], m)
+                block_audit(out, &input[half..], m, rules)
             }
         }
     }
 }
 
-// The audit of document 01's own input: "program size 16, numbers 0 and 1".
+// The audit of document 01's own input: "program size 16, numbers 0 and 1", by its own rule.
 pub fn lfs_dir_audit(input: &[u8], out: &mut [u8]) -> u32
     ensures { λ r. ⌜ r ≡ length (auditOf (now (input .entry))) ⌝ }
     ensures { λ _. ⌜ now (out .exit) ≡ writtenTo (now (out .entry)) (auditOf (now (input .entry))) ⌝ }
 {
-    lfs_dir_audit_as(INPUT_PROG_SIZE, INPUT_PAIR, input, out)
+    lfs_dir_audit_as(INPUT_PROG_SIZE, INPUT_PAIR, INPUT_RULES, input, out)
 }

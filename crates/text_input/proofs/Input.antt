@@ -9,14 +9,17 @@ use lib.IntN.{pos, negℤ}
 use lib.ListN.{length, take, drop, length-drop}
 use lib.Dec.{eqb, ltb}
 use lib.Seq.{take-all}
-use borrow.Author.Tests.{not-false, eq-eqb, ne-eqb, lt-ltb, le-ltb}
+use borrow.Author.Tests.{not-false, eq-eqb, ne-eqb, lt-ltb, le-ltb, lt-leb, le-leb}
 use Rattle.format.specs.Log.{log}
 use Rattle.format.specs.Answer.{refusalNumber}
 use Rattle.format.specs.Fetch.{fetchOf}
 use Rattle.format.specs.Regular.{Regular}
+use Rattle.format.specs.declared.Rules.{Rules}
+use Rattle.format.specs.declared.Rules.the-variants.{Littlefs}
+use Rattle.format.proofs.Growing.{widest}
 use Rattle.format.specs.Writer.{blockAt, isSecond}
 use Rattle.format.specs.Listing.{ascii, numberLine}
-use Rattle.format.specs.Listing.{refusedLine, inputGeometry, fetchInput, fetchedText}
+use Rattle.format.specs.Listing.{refusedLine, ruledText, inputGeometry, fetchInput, fetchedText}
 use Rattle.format.specs.declared.LfsPair.{LfsPair}
 use Rattle.format.specs.declared.LfsMdir.{LfsMdir}
 use Rattle.format.specs.declared.Refusal.{Refusal}
@@ -40,11 +43,11 @@ pub refused-done : (s r : Text) (x : Refusal) (n : ℕ) → Numbers x n → r �
     → r ≡ putsOf s (refusedLine x)
 refused-done s r x n w er = er ∙ ap (putsOf s) (refused-line x n (w .is) (w .some))
 
--- ---- a block and its record; x is what the test of regularity answers
-pub block-slots : (b : List ℕ) (m : LfsMdir) (x : Bool) → Listable b m → x ≡ Regular (log b) → not x ≡ false
-    → Slots b (m .off) (m .etag) (m .count)
-block-slots b m x w ex h =
-    let regular : Regular (log b) ≡ true = sym ex ∙ not-false x h in
+-- ---- a block and its record; x is what the test of regularity answers, by the rule q
+pub block-slots : (b : List ℕ) (m : LfsMdir) (q : Rules) (x : Bool) → Listable b m → x ≡ Regular q (log b)
+    → not x ≡ false → Slots b (m .off) (m .etag) (m .count)
+block-slots b m q x w ex h =
+    let regular : Regular Littlefs (log b) ≡ true = widest q (log b) (sym ex ∙ not-false x h) in
     record {
       word = w .word;
       most = w .most;
@@ -53,6 +56,15 @@ block-slots b m x w ex h =
       endTag = w .endTag;
       count′ = w .count′ ∙ slots-counted b regular;
     }
+
+-- ---- a text that goes by a rule
+pub rule-refused : (rules : ℕ) (text : List ℕ) (s r : Text) → 1 < rules → r ≡ putsOf s (refusedLine Invalid)
+    → r ≡ putsOf s (ruledText rules text)
+rule-refused rules text s r h er = rw (lt-leb rules 1 h) er
+
+pub rule-fits : (rules : ℕ) (text : List ℕ) (s r : Text) → rules ≤ 1 → r ≡ putsOf s text
+    → r ≡ putsOf s (ruledText rules text)
+rule-fits rules text s r h er = rw (le-leb rules 1 h) er
 
 -- ---- the two parts that the code cuts
 pub cut-front : (n : ℕ) (l : List ℕ) → take (n - 0) (drop 0 l) ≡ take n l

@@ -1,6 +1,6 @@
 -- What every text is made of is short: numbers, names, a refusal, what a slot of a regular log holds. Assumes nothing.
 use mathlib.Core.Path.{_≡_, refl}
-use mathlib.Core.Bool.{Bool, true, false, cond}
+use mathlib.Core.Bool.{Bool, true, false, not, cond}
 use mathlib.Core.Option.{Option, none, some}
 use mathlib.Core.List.{List, [], _∷_, _++_}
 use Prim.Native.Nat.{ℕ, zero, suc, _+_, _*_, _/_, _^_, _≤_, _<_}
@@ -14,7 +14,9 @@ use Rattle.format.specs.Writer.{blockAt, isSecond}
 use Rattle.format.specs.Listing.{ascii, decimalDigit, decimalIn, decimal, hexByte, isPlain, nameByte}
 use Rattle.format.specs.Listing.{nameBytes, numberLine}
 use Rattle.format.specs.Listing.{integer, refusedLine}
-use Rattle.format.specs.Listing.{fetchedText}
+use Rattle.format.specs.Listing.{ruledText, fetchedText}
+use Rattle.format.specs.Regular.{rulesFit}
+use Rattle.format.specs.declared.Refusal.the-variants.{Invalid}
 use Rattle.format.specs.declared.LfsPair.{LfsPair}
 use Rattle.format.specs.declared.LfsMdir.{LfsMdir}
 use Rattle.format.specs.declared.Refusal.{Refusal}
@@ -76,6 +78,14 @@ slot-loads s ok c = go (s c) refl
     go : (o : Option Load) → s c ≡ o → Short o
     go none e = tt
     go (some v) e = omega (arith, ok c v e .1)
+
+-- a text that goes by a rule is short if it is
+pub ruled-short : (rules : ℕ) (text : List ℕ) → length text < 2 ^ 32 → length (ruledText rules text) < 2 ^ 32
+ruled-short rules text h = go (rulesFit rules)
+  where
+    go : (b : Bool) → length (cond (not b) (refusedLine Invalid) text) < 2 ^ 32
+    go true = h
+    go false = omega (arith, refused-short Invalid)
 
 -- a text is short if what is said of each block is
 pub fetched-short : (shows : LfsMdir → List ℕ → List ℕ) → ((m : LfsMdir) (b : List ℕ) → length (shows m b) < 2 ^ 32)

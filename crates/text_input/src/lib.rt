@@ -14,6 +14,9 @@ pub const INPUT_PROG_SIZE: u32 = 16;
 
 pub const INPUT_PAIR: LfsPair = LfsPair { n0: 0, n1: 1 };
 
+// Document 01's own rule, by which a log is regular.
+pub const INPUT_RULES: u32 = 0;
+
 // What fetch answers for both images, one behind the other: "block size is half the length, .. block count 0, seed 0;
 // an odd length or one above 65,536 is -22". The program size and the two block numbers are given.
 pub fn fetch_input(prog_size: u32, numbers: LfsPair, input: &[u8]) -> Fetched

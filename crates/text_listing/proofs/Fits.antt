@@ -8,13 +8,15 @@ use Prim.Native.Nat.{ℕ, zero, suc, _+_, _*_, _^_, _≤_, _<_}
 use native.Mathlib.Omega.{arith}
 use lib.ListN.{length, length-append}
 use Rattle.format.specs.Log.{log}
-use Rattle.format.specs.Regular.{Regular}
+use Rattle.format.specs.Regular.{Regular, rulesOf}
+use Rattle.format.specs.declared.Rules.{Rules}
+use Rattle.format.proofs.Growing.{widest}
 use Rattle.format.specs.Directory.{Load, Slot, dirOf}
 use Rattle.format.specs.Compaction.{isNoTail}
 use Rattle.format.specs.Listing.{ascii, decimal, hexByte, hexBytes, hexType}
 use Rattle.format.specs.Listing.{numberLine, tailKind, tailLine, erasedLine, recordLines, nameFields}
 use Rattle.format.specs.Listing.{structFields, slotLine, attrData, attrLine, attrLines, slotLines, refusedLine}
-use Rattle.format.specs.Listing.{dirLines, blockText, fetchInput, listingAs}
+use Rattle.format.specs.Listing.{dirLines, blockText, fetchInput, fetchedText, listingAs}
 use Rattle.format.specs.declared.LfsPair.{LfsPair}
 use Rattle.format.specs.declared.LfsMdir.{LfsMdir}
 use Rattle.format.specs.declared.Refusal.the-variants.{Irregular}
@@ -22,7 +24,7 @@ use Rattle.theory.specs.Blocks.SlotItems.{OkSlot, OkSlots, ok-dirOf}
 use Rattle.theory.specs.Commit.Tested.{regular-loads}
 use Rattle.theory.specs.Compact.AcceptedVerdict.{slots-few}
 use Rattle.text_input.proofs.Short.{decimal-short, name-length, number-short, refused-short, Short, slot-loads}
-use Rattle.text_input.proofs.Short.{fetched-short}
+use Rattle.text_input.proofs.Short.{ruled-short, fetched-short}
 
 -- ---- numbers and bytes
 hex-length : (l : List ℕ) → length (hexBytes l) ≤ 2 * length l
@@ -154,23 +156,25 @@ slots-short (s ∷ D) id h =
     )
 
 -- ---- the whole text
-dir-short : (b : List ℕ) → length (dirLines b) ≤ 546_327_012
+dir-short : (r : Rules) (b : List ℕ) → length (dirLines r b) ≤ 546_327_012
 unfolding dirLines
-dir-short b = go (Regular (log b)) refl
+dir-short r b = go (Regular r (log b)) refl
   where
-    go : (x : Bool) → Regular (log b) ≡ x → length (cond x (slotLines 0 (dirOf (log b))) (refusedLine Irregular))
+    go : (x : Bool) → Regular r (log b) ≡ x → length (cond x (slotLines 0 (dirOf (log b))) (refusedLine Irregular))
         ≤ 546_327_012
     go true e = omega (
       arith,
-      slots-short (dirOf (log b)) 0 (ok-dirOf (log b) (regular-loads b (log b) refl e)),
-      slots-few b e,
+      slots-short (dirOf (log b)) 0 (ok-dirOf (log b) (regular-loads b (log b) refl (widest r (log b) e))),
+      slots-few b (widest r (log b) e),
     )
     go false e = omega (arith, refused-short Irregular)
 
-block-short : (m : LfsMdir) (b : List ℕ) → length (blockText m b) ≤ 546_327_132
+block-short : (r : Rules) (m : LfsMdir) (b : List ℕ) → length (blockText r m b) ≤ 546_327_132
 unfolding blockText
-block-short m b = omega (arith, length-append (recordLines m) (dirLines b), record-short m, dir-short b)
+block-short r m b = omega (arith, length-append (recordLines m) (dirLines r b), record-short m, dir-short r b)
 
-pub listing-short : (prog : ℕ) (p : LfsPair) (input : List ℕ) → length (listingAs prog p input) < 2 ^ 32
-listing-short prog p input =
-    fetched-short blockText (λ m b. omega (arith, block-short m b)) p input (fetchInput prog p input)
+pub listing-short : (prog : ℕ) (p : LfsPair) (rules : ℕ) (input : List ℕ) → length (listingAs prog p rules input) < 2 ^ 32
+listing-short prog p rules input =
+    ruled-short rules (fetchedText (blockText (rulesOf rules)) p input (fetchInput prog p input))
+    (fetched-short (blockText (rulesOf rules)) (λ m b. omega (arith, block-short (rulesOf rules) m b)) p input
+    (fetchInput prog p input))

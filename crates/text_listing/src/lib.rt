@@ -5,6 +5,7 @@ ghost use mathlib.Core.Path.{_≡_};
 ghost use Prim.Native.Nat.{_^_};
 ghost use lib.ListN.{length};
 ghost use Rattle.format.specs.Log.{log};
+ghost use Rattle.format.specs.Regular.{rulesOf};
 ghost use Rattle.format.specs.Directory.{dirOf};
 ghost use Rattle.format.specs.Listing.{tailKind, tailLine, erasedLine, recordLines, nameFields, structFields, attrData};
 ghost use Rattle.format.specs.Listing.{attrLine, attrLines, slotLines, blockText, listingOf, listingAs, writtenTo};
@@ -22,6 +23,7 @@ use format::Refusal;
 use format::types::LFS_BLOCK_NULL;
 use text_input::INPUT_PAIR;
 use text_input::INPUT_PROG_SIZE;
+use text_input::INPUT_RULES;
 
 // The class of the first user attribute: a name and a struct come before.
 const ATTRIBUTES: usize = 2;
@@ -179,44 +181,48 @@ fn record_lines(out: &mut [u8], at: u32, m: LfsMdir) -> u32
 }
 
 // "for -202 after the erased line"
-fn block_text(out: &mut [u8], b: &[u8], m: LfsMdir) -> u32
+fn block_text(out: &mut [u8], b: &[u8], m: LfsMdir, rules: u32) -> u32
     requires { ⌜ Listable (now b) m ⌝ }
-    ensures { λ r. ⌜ text r (now (out .exit)) ≡ putsOf (text 0 (now (out .entry))) (blockText m (now (b .entry))) ⌝ }
+    ensures { λ r. ⌜ text r (now (out .exit)) ≡ putsOf (text 0 (now (out .entry)))
+        (blockText (rulesOf rules) m (now (b .entry))) ⌝ }
 {
     let n = record_lines(out, 0, m);
-    if !commit_regular::log_regular(b) {
+    if !commit_regular::log_regular(b, commit_regular::rules_of(rules)) {
         return text_input::refused(out, n, Refusal::Irregular);
     }
     slot_lines(out, n, b, m.off as usize, m.etag, m.count as u32)
 }
 
-// The listing of both images, one behind the other, as far as `out` has room; the program size and the numbers of the
-// two blocks are given. The answer is the length of the whole text, so a caller whose buffer was too short knows how
+// The listing of both images, one behind the other, as far as `out` has room; the program size, the numbers of the two
+// blocks and the rule by which the log must be regular are given: 0 or 1, "any other -22". The answer is the length of the whole text, so a caller whose buffer was too short knows how
 // long a one to lend. Fetch refuses two equal numbers, so the first number of the record says which half is listed. No
 // listing reaches 2^32 bytes, where `text`'s count would wrap.
-pub fn lfs_dir_list_as(prog_size: u32, numbers: LfsPair, input: &[u8], out: &mut [u8]) -> u32
-    ensures { λ r. ⌜ r ≡ length (listingAs «prog_size» numbers (now (input .entry))) ⌝ }
+pub fn lfs_dir_list_as(prog_size: u32, numbers: LfsPair, rules: u32, input: &[u8], out: &mut [u8]) -> u32
+    ensures { λ r. ⌜ r ≡ length (listingAs «prog_size» numbers rules (now (input .entry))) ⌝ }
     ensures { λ _. ⌜ now (out .exit)
-        ≡ writtenTo (now (out .entry)) (listingAs «prog_size» numbers (now (input .entry))) ⌝ }
+        ≡ writtenTo (now (out .entry)) (listingAs «prog_size» numbers rules (now (input .entry))) ⌝ }
 {
+    if 1 < rules {
+        return text_input::refused(out, 0, Refusal::Invalid);
+    }
     let half = input.len() / 2;
     match text_input::fetch_input(prog_size, numbers, input) {
         Fetched::Refused(r) => text_input::refused(out, 0, r),
         Fetched::Found(m, _) => {
             let pair = m.pair;
             if pair.n0 == numbers.n0 {
-                block_text(out, &input[0..half], m)
+                block_text(out, &input[0..half], m, rules)
             } else {
-                block_text(out, &input[half..], m)
+                block_text(out, &input[half..], m, rules)
             }
         }
     }
 }
 
-// The listing of document 01's own input: "program size 16, numbers 0 and 1".
+// The listing of document 01's own input: "program size 16, numbers 0 and 1", by its own rule.
 pub fn lfs_dir_list(input: &[u8], out: &mut [u8]) -> u32
     ensures { λ r. ⌜ r ≡ length (listingOf (now (input .entry))) ⌝ }
     ensures { λ _. ⌜ now (out .exit) ≡ writtenTo (now (out .entry)) (listingOf (now (input .entry))) ⌝ }
 {
-    lfs_dir_list_as(INPUT_PROG_SIZE, INPUT_PAIR, input, out)
+    lfs_dir_list_as(INPUT_PROG_SIZE, INPUT_PAIR, INPUT_RULES, input, out)
 }
