@@ -24,7 +24,7 @@ extern "C" {
 
 /* The version, as littlefs has its own: the major number in the upper half, the minor in the lower. */
 #define LANOLIN_VERSION_MAJOR 0
-#define LANOLIN_VERSION_MINOR 3
+#define LANOLIN_VERSION_MINOR 4
 #define LANOLIN_VERSION (LANOLIN_VERSION_MAJOR << 16 | LANOLIN_VERSION_MINOR)
 
 /* Results. The first four refusals are littlefs's LFS_ERR_ numbers, the others are this project's own. */
@@ -34,7 +34,7 @@ extern "C" {
 #define LANOLIN_ERR_NOENT (-2)         /* a lookup: no such entry; the other calls: a pair of more than 1,023 slots */
 #define LANOLIN_ERR_NOSPC (-28)        /* writing: what is to be written passes the block */
 #define LANOLIN_ERR_BADENTRY (-201)    /* commit: an entry is bad; `index` says which */
-#define LANOLIN_ERR_IRREGULAR (-202)   /* writing: the log that is there isn't regular; reading it is allowed */
+#define LANOLIN_ERR_IRREGULAR (-202)   /* writing: the log isn't regular by the rules given; reading it is allowed */
 #define LANOLIN_ERR_MISALIGNED (-211)  /* commit: the log's end is no multiple of the program size: compact */
 #define LANOLIN_ERR_TOPBIT (-212)      /* commit: the end tag's top bit is set: compact */
 #define LANOLIN_ERR_NOTERASED (-213)   /* commit: a byte behind the end isn't erased; `index` is its offset: compact */
@@ -69,6 +69,11 @@ extern "C" {
 /* Masks of a lookup: which bits of the key must agree. */
 #define LANOLIN_MASK_TYPE 0x7ffffc00u  /* this type exactly, of this slot: a user attribute */
 #define LANOLIN_MASK_CLASS 0x700ffc00u /* any type of the same class, of this slot: the name, the struct */
+
+/* Rules of a regular log, which a writing call takes. The slots of a pair that this library wrote are made by creates.
+ * littlefs's own compaction writes no creates: there a name makes its slot. */
+#define LANOLIN_RULES_DOCUMENT 0 /* document 01's: for pairs that this library wrote */
+#define LANOLIN_RULES_LITTLEFS 1 /* littlefs's too: also for pairs that littlefs itself compacted */
 
 /* Marks. */
 #define LANOLIN_NO_SLOT 0x3ff          /* the id of what belongs to no slot: tails, the move state, the root */
@@ -170,29 +175,44 @@ lanolin_info lanolin_getinfo(lanolin_geometry g, const uint8_t *b0, size_t b0_le
 int32_t lanolin_getgstate(lanolin_geometry g, const uint8_t *b0, size_t b0_len, const uint8_t *b1, size_t b1_len,
                           uint32_t n0, uint32_t n1, lanolin_mdir dir, lanolin_gstate gdisk, lanolin_gstate *gstate);
 
-/* ---- writing; a refused call alters no byte */
+/* ---- writing; a refused call alters no byte
+ *
+ * `rules` says which logs are regular; any other log is LANOLIN_ERR_IRREGULAR.
+ *
+ *     LANOLIN_RULES_DOCUMENT   the log's entries keep to what lanolin_entry says, from no slot on; superblock names, as
+ *                              names, and forward checks may be among them
+ *     LANOLIN_RULES_LITTLEFS   the same, but as long as no create and no delete has come in the log, a name whose id is
+ *                              at or above the number of slots, and below LANOLIN_SLOTS_MAX, first makes its slot, and
+ *                              those in between, empty
+ *
+ * Any other number is LANOLIN_ERR_INVAL. Use the first for pairs that this library wrote; the second takes these too,
+ * with the same answers and bytes, and pairs that littlefs itself compacted. The entries of a commit are judged by
+ * lanolin_entry alone, and what a compaction writes is regular by both. */
 
 /* One commit of all the entries, appended to the block that answers; answers what a fetch of the finished pair from the
  * same seed gives. Where there is no room for it the result says why; LANOLIN_NEEDS_COMPACTION says that a compaction
  * serves. */
 lanolin_committed lanolin_commit(lanolin_geometry g, uint8_t *b0, size_t b0_len, uint8_t *b1, size_t b1_len,
-                                 uint32_t n0, uint32_t n1, uint32_t block_count, uint32_t seed,
+                                 uint32_t n0, uint32_t n1, uint32_t block_count, uint32_t seed, uint32_t rules,
                                  const lanolin_entry *entries, size_t entries_len,
                                  const uint8_t *data, size_t data_len);
 
 /* The same, stopped after so many single-byte stores. */
 lanolin_stored lanolin_commit_stores(lanolin_geometry g, uint8_t *b0, size_t b0_len, uint8_t *b1, size_t b1_len,
-                                     uint32_t n0, uint32_t n1, uint32_t block_count, uint32_t seed,
+                                     uint32_t n0, uint32_t n1, uint32_t block_count, uint32_t seed, uint32_t rules,
                                      const lanolin_entry *entries, size_t entries_len,
                                      const uint8_t *data, size_t data_len, uint32_t stores);
 
-/* All that the pair holds as one commit in the other block, which is erased first, under the next revision. */
+/* All that the pair holds as one commit in the other block, which is erased first, under the next revision: of each
+ * slot a create, its name, its struct and its user attributes. A full block that littlefs compacted has no creates, and
+ * may have no room for them: LANOLIN_ERR_NOSPC. */
 lanolin_committed lanolin_compact(lanolin_geometry g, uint8_t *b0, size_t b0_len, uint8_t *b1, size_t b1_len,
-                                  uint32_t n0, uint32_t n1, uint32_t block_count, uint32_t seed);
+                                  uint32_t n0, uint32_t n1, uint32_t block_count, uint32_t seed, uint32_t rules);
 
 /* The same, stopped after so many stores; the erase is the first. */
 lanolin_stored lanolin_compact_stores(lanolin_geometry g, uint8_t *b0, size_t b0_len, uint8_t *b1, size_t b1_len,
-                                      uint32_t n0, uint32_t n1, uint32_t block_count, uint32_t seed, uint32_t stores);
+                                      uint32_t n0, uint32_t n1, uint32_t block_count, uint32_t seed, uint32_t rules,
+                                      uint32_t stores);
 
 /* ---- the leaves; a test answers exactly 0 or 1. lanolin_x is littlefs's lfs_x, but where another name is said */
 

@@ -1,115 +1,24 @@
 #!/usr/bin/env python3
 """Writes samples/listings/cases, inputs of the programs list and audit, and the text that each must give: expected and
-audited.
+audited by document 01's rule of a regular log, expected-littlefs and audited-littlefs by littlefs's.
 
-What is expected is worked out here from document 01 alone, by a walk, a directory and a rendering of its own; nothing
-is taken from the port. A case is one line, `NAME BYTES`, the bytes as runs of hex (aa*9 is aa nine times), joined by
-commas, - for none. What is expected of it is a line `== NAME` and the text behind it, or, for a text of more than 2,000
-bytes, a line with its length and CRC-32. tests/listing/run.py shows the program's text in the same form. Run by hand
-when the set changes.
+What is expected is worked out here from document 01 and the sentence of littlefs's rule alone, by a walk, a directory
+(reader.py) and a rendering of its own; nothing is taken from the port. A case is one line, `NAME BYTES`, the bytes as
+runs of hex (aa*9 is aa nine times), joined by commas, - for none. What is expected of it is a line `== NAME` and the
+text behind it, or, for a text of more than 2,000 bytes, a line with its length and CRC-32. tests/listing/run.py shows
+the program's text in the same form. Run by hand when the set changes.
 """
 import os
 import random
 import zlib
 
+from reader import (CHECK, CREATE, CTZ, DELETE, DIR, DIR_STRUCT, DOCUMENT_01, FILE, FORWARD, HARD, INLINE, LITTLEFS,
+                    MOVE, NO_SLOT, SOFT, SUPER, attributes, fetched, summed)
 from writer import runs
 
 ROOT = os.path.dirname(os.path.abspath(__file__))
 HERE = os.path.join(ROOT, "listings")
-CREATE, FILE, DIR, SUPER, INLINE, CTZ, DELETE = 0x401, 0x001, 0x002, 0x0FF, 0x201, 0x202, 0x4FF
-CHECK, FORWARD, SOFT, HARD, MOVE, NO_SLOT = 0x500, 0x5FF, 0x600, 0x601, 0x7FF, 1023
 PROG = 16
-
-
-def summed(register, data):
-    """The register behind the bytes, with no final inversion."""
-    return zlib.crc32(data, register ^ 0xFFFFFFFF) ^ 0xFFFFFFFF
-
-
-# ---- document 01's fetch and directory
-class Tag:
-    """ "validity (bit 31, valid when 0), type 11 bits, id 10 bits, size 10 bits" """
-
-    def __init__(self, word):
-        self.word, self.valid = word, word < 1 << 31
-        self.type, self.id, self.size = word >> 20 & 0x7FF, word >> 10 & 0x3FF, word & 0x3FF
-        self.chunk, self.removal = self.type & 0xFF, self.size == 0x3FF
-        self.length = 4 if self.removal else 4 + self.size
-        self.splice = self.chunk - 256 if self.chunk > 127 else self.chunk
-
-
-class Log:
-    """What the walk of a block takes: nothing (`ends` is None) until its first commit."""
-
-    def __init__(self, block):
-        self.block, self.revision = block, int.from_bytes(block[:4], "little")
-        self.ends, self.count, self.split, self.tail = None, 0, False, (0xFFFFFFFF,) * 2
-        self.forward, self.entries, self.checks = None, [], []
-        self.straight = False
-        count, split, tail, forward, entries, after_check = 0, False, self.tail, None, [], False
-        register, previous, at = summed(0xFFFFFFFF, block[:4]), 0xFFFFFFFF, 4
-        while at + 4 <= len(block):
-            register = summed(register, block[at:at + 4])
-            tag = Tag(int.from_bytes(block[at:at + 4], "big") ^ previous)
-            if not tag.valid:
-                self.straight = after_check
-                return
-            if at + tag.length > len(block):
-                return
-            if tag.type & 0x780 == CHECK:
-                if at + 8 > len(block) or int.from_bytes(block[at + 4:at + 8], "little") != register:
-                    return
-                at += tag.length
-                self.ends, self.count, self.split, self.tail, self.forward = at, count, split, tail, forward
-                self.entries, self.checks = list(entries), self.checks + [tag]
-                previous, register, after_check = tag.word ^ (tag.chunk & 1) << 31, 0xFFFFFFFF, True
-                continue
-            kind = tag.type & 0x700
-            wide = block[at + 4:at + 12]
-            if (kind == 0x600 or tag.type == FORWARD) and len(wide) < 8:
-                return
-            if kind == 0x000:
-                count = max(count, tag.id + 1)
-            elif kind == 0x400:
-                count = max(count + tag.splice, 0) % 65536
-            elif kind == 0x600:
-                split = bool(tag.chunk & 1)
-                tail = (int.from_bytes(wide[:4], "little"), int.from_bytes(wide[4:], "little"))
-            elif tag.type == FORWARD:
-                forward = (int.from_bytes(wide[:4], "little"), int.from_bytes(wide[4:], "little"))
-            data = block[at + 4:at + tag.length]
-            entries.append((tag, data))
-            register, previous, after_check, at = summed(register, data), tag.word, False, at + tag.length
-
-    def erased(self):
-        if not self.straight or self.ends % PROG or self.forward is None:
-            return False
-        size, sum = self.forward
-        return self.ends + size <= len(self.block) and summed(0xFFFFFFFF, self.block[self.ends:self.ends + size]) == sum
-
-    def slots(self):
-        """The directory machine over the entries, or None: "the committed log isn't regular"."""
-        slots = []
-        if any(not 4 <= check.size <= 1022 for check in self.checks):
-            return None
-        for tag, data in self.entries:
-            c, inside = len(slots), tag.id < len(slots)
-            if tag.type == CREATE and tag.id <= c and c <= 1022 and tag.size == 0:
-                slots.insert(tag.id, {})
-            elif tag.type == DELETE and inside and tag.size == 0:
-                del slots[tag.id]
-            elif tag.type in (FILE, DIR, SUPER) and inside and 1 <= tag.size <= 1022:
-                slots[tag.id]["name"] = (tag.type, data)
-            elif inside and (tag.type in (0x200, CTZ) and tag.size == 8 or tag.type == INLINE and tag.size <= 1022):
-                slots[tag.id]["struct"] = (tag.type, data)
-            elif 0x300 <= tag.type <= 0x3FF and inside:
-                if tag.removal:
-                    slots[tag.id].pop(tag.type, None)
-                else:
-                    slots[tag.id][tag.type] = data
-            elif tag.id != NO_SLOT or (tag.type, tag.size) not in ((SOFT, 8), (HARD, 8), (FORWARD, 8), (MOVE, 12)):
-                return None
-        return slots
 
 
 # ---- document 01's text
@@ -118,51 +27,33 @@ def shown(name):
     return "".join(chr(b) if 0x21 <= b <= 0x7E and b != 0x5C else f"\\x{b:02x}" for b in name)
 
 
-def fetched(data):
-    """The number of the block that answers and its log, or no number and the refusal's text."""
-    half = len(data) // 2
-    if len(data) % 2 or len(data) > 65536 or not 128 <= half <= 32768 or half % PROG:
-        return None, "refused -22\n"
-    logs = [Log(data[:half]), Log(data[half:])]
-    difference = (logs[1].revision - logs[0].revision) % 2 ** 32
-    order = (1, 0) if 0 < difference < 1 << 31 else (0, 1)
-    found = [n for n in order if logs[n].ends is not None]
-    if not found:
-        return None, "refused -84\n"
-    if logs[found[0]].count > 1023:
-        return None, "refused -2\n"
-    return found[0], logs[found[0]]
-
-
-def listing(data):
-    number, log = fetched(data)
+def listing(data, rule):
+    number, log = fetched(data, PROG)
     if number is None:
-        return log
-    tail = f"{'hard' if log.split else 'soft'} {log.tail[0]} {log.tail[1]}"
-    if not log.split and log.tail == (0xFFFFFFFF,) * 2:
-        tail = "none"
+        return f"refused {log}\n"
+    tail = f"{'hard' if log.split else 'soft'} {log.tail[0]} {log.tail[1]}" if log.has_tail() else "none"
     lines = [f"rev {log.revision}", f"block {number}", f"end {log.ends}", f"count {log.count}", f"tail {tail}",
-             f"erased {'yes' if log.erased() else 'no'}"]
-    slots = log.slots()
+             f"erased {'yes' if log.erased(PROG) else 'no'}"]
+    slots = log.slots(rule)
     if slots is None:
         lines.append("refused -202")
     for id, slot in enumerate(slots or []):
         name, struct = slot.get("name"), slot.get("struct")
         lines.append(f"slot {id} " + (f"{name[0]:03x} {shown(name[1])}" if name else "- -") + " "
                      + (f"{struct[0]:03x} {len(struct[1])}" if struct else "- -"))
-        for type in sorted(k for k in slot if isinstance(k, int)):
-            lines.append(f"attr {id} {type:03x} {slot[type].hex() or '-'}")
+        for type, value in attributes(slot):
+            lines.append(f"attr {id} {type:03x} {value.hex() or '-'}")
     return "\n".join(lines) + "\n"
 
 
 # ---- the audit's text
-def audit(data):
+def audit(data, rule):
     """The slots that have a payload and no deadline of four bytes, or a deadline of any length and no payload;
     directories and superblocks are not looked at."""
-    number, log = fetched(data)
+    number, log = fetched(data, PROG)
     if number is None:
-        return log
-    slots = log.slots()
+        return f"refused {log}\n"
+    slots = log.slots(rule)
     if slots is None:
         return "refused -202\n"
     lines, late, bare = [], 0, 0
@@ -204,21 +95,27 @@ def block(size, commits, revision=1, check=CHECK, sizes=None, break_sum=False):
     return data.ljust(size, b"\xff")[:size]
 
 
-CASES, EXPECTED, AUDITED = [], [], []
+# each output: what it shows of a case, and by which rule
+SHOWS = {"expected": (listing, DOCUMENT_01), "audited": (audit, DOCUMENT_01),
+         "expected-littlefs": (listing, LITTLEFS), "audited-littlefs": (audit, LITTLEFS)}
+CASES, TEXTS = [], {output: [] for output in SHOWS}
 
 
-def case(name, data, want=None, lacks=None):
-    """`want` and `lacks` are the texts of listing and audit written out by hand, where there are any: the renderings
-    must agree with them."""
+def case(name, data, *given):
+    """`given` are the texts in the order of SHOWS, written out by hand where there are any: the renderings must agree
+    with them."""
     CASES.append(f"{name} {runs(data)}")
-    for text, given, texts in ((listing(data), want, EXPECTED), (audit(data), lacks, AUDITED)):
-        assert given is None or text == given, (name, text)
-        texts.append(f"== {name}\n" + (text if len(text) <= 2000
-                                       else f"{len(text)} bytes, CRC-32 {zlib.crc32(text.encode()):08x}\n"))
+    texts = [shows(data, rule) for shows, rule in SHOWS.values()]
+    for output, text, by_hand in zip(SHOWS, texts, given + (None,) * 4):
+        assert by_hand is None or text == by_hand, (name, output, text)
+        TEXTS[output].append(f"== {name}\n" + (text if len(text) <= 2000
+                                               else f"{len(text)} bytes, CRC-32 {zlib.crc32(text.encode()):08x}\n"))
+    # what is regular by document 01 is so by littlefs's rule, and holds the same
+    assert texts[1] == "refused -202\n" or texts[:2] == texts[2:], name
 
 
-def pair(name, first, want=None, second=None, lacks=None):
-    case(name, first + (b"\xff" * len(first) if second is None else second), want, lacks)
+def pair(name, first, want=None, second=None, *others):
+    case(name, first + (b"\xff" * len(first) if second is None else second), want, *others)
 
 
 SLOT = [entry(CREATE, 0), entry(FILE, 0, b"q212"), entry(INLINE, 0, b"abc"), entry(0x374, 0, b"\x90\x5f\x01\x00")]
@@ -332,11 +229,13 @@ pair("full-of-slots", block(32768, [slots + held]))
 pair("every-attribute", block(4096, [[entry(CREATE, 0)] + [entry(0x3FF - i, 0, bytes([i])) for i in range(256)]]))
 pair("largest-block-second", block(32768, [SLOT], 1), None, block(32768, [SLOT + [entry(0x300, 0, bytes(1022))]], 2))
 
-# pairs that a real littlefs wrote: many of them are irregular to document 01
+# pairs that a real littlefs wrote: many of them are irregular to document 01, none by littlefs's rule
 for name in sorted(os.listdir(os.path.join(ROOT, "real"))):
     if name.endswith(".pair"):
         with open(os.path.join(ROOT, "real", name), "rb") as f:
-            case("real-" + name[:-5], f.read())
+            image = f.read()
+        assert "refused" not in listing(image, LITTLEFS), name
+        case("real-" + name[:-5], image)
 
 # random histories: entries that are mostly allowed, in several commits; some blocks get a byte changed
 random.seed(20261115)
@@ -501,8 +400,107 @@ for k in range(60):
         entries.append(entry(DELETE, random.randrange(count)))
     pair(f"audit-random-{k}", block(512, [entries]))
 
+# ---- littlefs's rule: names raise the count, as long as nothing was created or deleted
+REFUSED = "refused -202\n"
+
+
+def grown(name, commits, record, slots=REFUSED, lacks=None):
+    """What document 01's rule refuses behind the record, and what littlefs's shows there."""
+    pair("grown-" + name, block(128, commits), record + REFUSED, None, REFUSED, record + slots, lacks)
+
+
+def empty(*ids):
+    return "".join(f"slot {id} - - - -\n" for id in ids)
+
+
+A, B, NAMED = entry(FILE, 0, b"a"), entry(FILE, 1, b"b"), SLOT[1:]
+grown("names-alone", [NAMED + [entry(DIR, 1, b"d"), entry(DIR_STRUCT, 1, bytes(8))]], head(64, 2),
+      "slot 0 001 q212 201 3\nattr 0 374 905f0100\nslot 1 002 d 200 8\n", lacks=totals(0, 0, 2))
+grown("superblock", [[entry(SUPER, 0, b"littlefs"), entry(INLINE, 0, bytes(24))]], head(64),
+      "slot 0 0ff littlefs 201 24\n", lacks=totals(0, 0, 1))
+# the slots below a name are made, empty; what they hold may come later, as littlefs's own compaction has it
+grown("gap", [[entry(FILE, 3, b"a")]], head(32, 4), empty(0, 1, 2) + "slot 3 001 a - -\n", lacks=totals(0, 0, 4))
+grown("gap-filled", [[entry(FILE, 2, b"c"), entry(DIR, 0, b"a"), B, entry(INLINE, 1, b"xyz")]], head(48, 3),
+      "slot 0 002 a - -\nslot 1 001 b 201 3\nslot 2 001 c - -\n", lacks="slot 1 b no deadline\n" + totals(1, 0, 3))
+grown("gap-without-names", [[entry(FILE, 2, b"c"), entry(INLINE, 0, b"abc"), entry(0x374, 1, b"time")]], head(32, 3),
+      "slot 0 - - 201 3\nslot 1 - - - -\nattr 1 374 74696d65\nslot 2 001 c - -\n",
+      lacks="slot 0 - no deadline\nslot 1 - no payload\n" + totals(1, 1, 3))
+grown("named-anew", [[A, entry(DIR, 0, b"d")]], head(32), "slot 0 002 d - -\n")
+# later commits go on, and neither tail, move state nor forward check is in the way
+grown("second-commit-raises", [[A], [B], [entry(FILE, 4, b"e")]], head(64, 5),
+      "slot 0 001 a - -\nslot 1 001 b - -\n" + empty(2, 3) + "slot 4 001 e - -\n")
+grown("behind-tail-and-move", [[A, entry(SOFT, NO_SLOT, numbers), entry(MOVE, NO_SLOT, bytes(12)),
+                                entry(FORWARD, NO_SLOT, bytes(8)), B]], head(64, 2, "soft 7 4294967294"),
+      "slot 0 001 a - -\nslot 1 001 b - -\n")
+# a create or a delete behind it: from there on names go by document 01's rule
+grown("then-created", [[A, B], [entry(CREATE, 1), entry(FILE, 1, b"x")]], head(64, 3),
+      "slot 0 001 a - -\nslot 1 001 x - -\nslot 2 001 b - -\n")
+grown("then-deleted", [[A, B], [entry(DELETE, 0)]], head(48), "slot 0 001 b - -\n")
+grown("named-behind-a-create", [[B, entry(CREATE, 0), entry(FILE, 2, b"c")]], head(32, 3),
+      empty(0, 1) + "slot 2 001 c - -\n")
+grown("raises-behind-a-create", [[A, entry(CREATE, 1), entry(FILE, 2, b"c")]], head(32, 3))
+grown("raises-behind-a-delete", [[A, B, entry(DELETE, 1), B]], head(32, 2))
+grown("raises-behind-the-delete-of-all", [[A], [entry(DELETE, 0)], [A]], head(64))
+grown("raises-in-the-commit-behind", [[entry(CREATE, 0), A], [B]], head(48, 2))
+# the highest ids: 1,022 makes all slots, and behind it there is room for a create only where one was deleted
+grown("id-1022", [[entry(FILE, 1022, b"z"), A, entry(0x300, 512)]], head(32, 1023),
+      "slot 0 001 a - -\n" + empty(*range(1, 513)) + "attr 512 300 -\n" + empty(*range(513, 1022))
+      + "slot 1022 001 z - -\n")
+grown("id-1022-then-moved", [[entry(FILE, 1022, b"z"), entry(DELETE, 5), entry(CREATE, 5)]], head(32, 1023),
+      empty(*range(1022)) + "slot 1022 001 z - -\n", lacks=totals(0, 0, 1023))
+grown("id-1022-then-created", [[entry(FILE, 1022, b"z"), entry(CREATE, 5), entry(DELETE, 5)]], head(32, 1023))
+grown("id-1023", [[entry(FILE, 1023, b"z"), entry(DELETE, 0)]], head(32, 1023))
+# nothing but these three names raises it
+grown("struct-above", [[A, entry(INLINE, 1, b"x")]], head(32))
+grown("struct-before-its-name", [[entry(INLINE, 0, b"x"), A]], head(32))
+grown("attribute-above", [[A, entry(0x374, 1, b"time")]], head(32))
+grown("attribute-removed-above", [[A, entry(0x374, 1, removal=True)]], head(32))
+grown("another-name-type", [[entry(0x003, 0, b"a")]], head(32))
+grown("another-splice-type", [[entry(0x400, 0), A]], head(32))
+# a name of no length a name has
+grown("removal-raises", [[entry(FILE, 0, removal=True)]], head(16))
+grown("empty-name-raises", [[A, entry(FILE, 1)]], head(32, 2))
+grown("empty-superblock-raises", [[entry(SUPER, 0)]], head(16))
+grown("empty-name-below", [[entry(FILE, 1, b"b"), entry(FILE, 0)]], head(32, 2))
+# a torn commit does not raise it; a check of another size refuses it as before
+torn = block(128, [NAMED, [B]])
+pair("grown-not-committed", torn[:60] + b"\xff" * 68, head(48) + REFUSED, None, REFUSED,
+     head(48) + "slot 0 001 q212 201 3\nattr 0 374 905f0100\n", totals(0, 0, 1))
+pair("grown-check-of-3", block(128, [[A]], sizes=[3]), head(16) + REFUSED, None, REFUSED, head(16) + REFUSED, REFUSED)
+# the longest texts: 1,023 slots for one name, and the rest of the block in what shows most for its length, empty
+# attributes of ids of four digits and bytes of names; in the audit an empty deadline for each slot, and names
+filled = [entry(0x300 + i % 256, 1022 - i // 256) for i in range(256 * 23)]
+names = [entry(FILE, 1022 - i, b"\x80" * (1022 if i < 8 else 992)) for i in range(9)]
+pair("grown-longest-listing", block(32768, [names[:1] + filled + names[1:]], 0xFFFFFFFF))
+names = [entry(FILE, 1022 - i, b"\x80" * (1022 if i < 27 else 958)) for i in range(28)]
+pair("grown-longest-audit", block(32768, [names + [entry(0x374, i) for i in range(1023)]]))
+
+
+def grown_history(size, revision):
+    """Names, structs and attributes that mostly reach or pass the count, and at some time creates and deletes."""
+    commits, count, spliced = [], 0, False
+    for _ in range(random.randrange(1, 5)):
+        entries = []
+        for _ in range(random.randrange(1, 9)):
+            spliced = spliced or random.random() < 0.05
+            if spliced or random.random() < 0.5 and count:
+                made, step = some_entry(count)
+            else:
+                id = random.choice((count, count, count + 1, random.randrange(count + 4)))
+                made, step = entry(random.choice((FILE, DIR, SUPER)), id, b"n%d" % id), max(id + 1 - count, 0)
+            entries.append(made)
+            count += step
+        commits.append(entries)
+    return block(size, commits, revision)
+
+
+for k in range(80):
+    case(f"grown-random-{k}", grown_history(512, random.randrange(3)) + grown_history(512, random.randrange(3)))
+
 os.makedirs(HERE, exist_ok=True)
-for name, text in (("cases", "\n".join(CASES) + "\n"), ("expected", "".join(EXPECTED)), ("audited", "".join(AUDITED))):
-    with open(os.path.join(HERE, name), "w") as f:
+for output, text in (("cases", "\n".join(CASES) + "\n"), *((o, "".join(texts)) for o, texts in TEXTS.items())):
+    with open(os.path.join(HERE, output), "w") as f:
         f.write(text)
-print(f"{len(CASES)} cases")
+refusals = {output: sum("refused -202" in text for text in texts) for output, texts in TEXTS.items()}
+print(f"{len(CASES)} cases; -202 in {refusals['expected']} by document 01's rule, in {refusals['expected-littlefs']} by"
+      " littlefs's")

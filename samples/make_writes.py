@@ -2,18 +2,21 @@
 """Writes samples/writes/cases and samples/writes/expected: commits and compactions at the edges of document 01, and
 what each must answer and leave.
 
-What is expected is worked out here from document 01 alone, by a writer of its own (writer.py); nothing is taken from
-the port. A case is one line,
-    NAME OP BLOCK PROG N0 N1 COUNT SEED LIMIT IMAGE0 IMAGE1 ENTRIES DATA
-with OP commit or compact, LIMIT a number of stores or -, images and data as runs of hex (aa*9 is aa nine times),
-ENTRIES as type:id:off:len*times, all joined by commas, - for none. Run by hand when the set changes.
+What is expected is worked out here from document 01 and the sentence of littlefs's rule alone, by a writer and a reader
+of its own (writer.py, reader.py); nothing is taken from the port. A case is one line,
+    NAME OP BLOCK PROG N0 N1 COUNT SEED RULES LIMIT IMAGE0 IMAGE1 ENTRIES DATA
+with OP commit or compact, RULES the rule of a regular log by its number, LIMIT a number of stores or -, images and data
+as runs of hex (aa*9 is aa nine times), ENTRIES as type:id:off:len*times, all joined by commas, - for none. Run by hand
+when the set changes.
 """
 import os
 
+from reader import DOCUMENT_01, LITTLEFS, Log, attributes, fetched
 from writer import (ATTR, CREATE, DELETE, FILE, HARD, INLINE, MOVE, SOFT, appended, block, check_size, checksum,
                     compacted, runs, tag)
 
-HERE = os.path.join(os.path.dirname(os.path.abspath(__file__)), "writes")
+ROOT = os.path.dirname(os.path.abspath(__file__))
+HERE = os.path.join(ROOT, "writes")
 
 
 def entry_text(entries):
@@ -38,9 +41,10 @@ def fnv1a(image):
     return value
 
 
-def case(name, op, size, prog, images, entries, data, answer, after, numbers=(0, 1), count=0, seed=7, limit=None):
+def case(name, op, size, prog, images, entries, data, answer, after, numbers=(0, 1), count=0, seed=7,
+         rules=DOCUMENT_01, limit=None):
     """`answer` is what is printed behind the name; `after` the two images."""
-    CASES.append(" ".join(map(str, (name, op, size, prog, *numbers, count, seed, "-" if limit is None else limit,
+    CASES.append(" ".join(map(str, (name, op, size, prog, *numbers, count, seed, rules, "-" if limit is None else limit,
                                     runs(images[0]), runs(images[1]), entry_text(entries), runs(data)))))
     EXPECTED.append(f"{name}: {answer} images {fnv1a(after[0]):08x} {fnv1a(after[1]):08x}")
 
@@ -209,6 +213,99 @@ new, _, stop, this = compacted(128, 32, 2, SLOT, None, erased)
 for name, first in (("byte", dirty), ("top-bit", flipped), ("all-three-reasons", flipped[:127] + b"\x00")):
     case(f"compact-misaligned-{name}", "compact", 128, 32, (first, erased), [], b"",
          f"end {stop} tag {this:08x} count 1 rev 2", (first, new))
+
+# ---- littlefs's rule
+def laid(log):
+    """What a compaction lays: "a create for each slot, then its name, struct, attributes by rising type, then tail,
+    then move state"."""
+    entries = []
+    for id, slot in enumerate(log.slots(LITTLEFS)):
+        parts = [(CREATE, b"")] + [slot[part] for part in ("name", "struct") if part in slot] + attributes(slot)
+        entries += [(tag(type, id, len(data)), data) for type, data in parts]
+    if log.has_tail():
+        numbers = b"".join(number.to_bytes(4, "little") for number in log.tail)
+        entries.append((tag(HARD if log.split else SOFT, 1023, 8), numbers))
+    return entries + [(this.word, data) for this, data in log.entries if this.type == MOVE][-1:]
+
+
+def taken(name, op, images, entries, data, added=0, **more):
+    """An accepted call on a pair of program size 16: a commit goes behind the log of the block that answers, a
+    compaction into the other. `added` is how many slots the entries add."""
+    number, log = fetched(b"".join(images), 16)
+    limit, size, revision = more.get("limit"), len(log.block), log.revision
+    if op == "commit":
+        image, made, stop, this = appended(log.block, 16, log.ends, log.last, entries, data, limit)
+        assert not log.block[log.ends:].strip(b"\xff"), name
+    else:
+        number, revision = 1 - number, (revision + 1) % 2 ** 32
+        image, made, stop, this = compacted(size, 16, revision, laid(log), limit, images[number])
+        # what is laid is regular by document 01 and holds the same
+        assert limit is not None or Log(image).slots(DOCUMENT_01) == log.slots(LITTLEFS), name
+    assert len(image) == size and stop <= size, name
+    answer = f"end {stop} tag {this:08x} count {log.count + added} rev {revision}"
+    after = (image, images[1]) if number == 0 else (images[0], image)
+    case(name, op, size, 16, images, entries, data, answer if limit is None else f"made {made}", after, **more)
+
+
+def by_both_rules(name, images, entries, data, added=0, limits=(), **more):
+    """A commit and a compaction by each rule: refused by document 01's where the log is not regular."""
+    irregular = fetched(b"".join(images), 16)[1].slots(DOCUMENT_01) is None
+    for op, *rest in (("commit", entries, data, added), ("compact", [], b"")):
+        first = f"{op}-{name}"
+        if irregular:
+            refused(f"{first}-document-01", op, len(images[0]), 16, images, *rest[:2], -202, **more)
+        else:
+            taken(f"{first}-document-01", op, images, *rest, **more)
+        taken(f"{first}-littlefs", op, images, *rest, rules=LITTLEFS, **more)
+        for limit in limits:
+            taken(f"{first}-littlefs-stores-{limit}", op, images, *rest, rules=LITTLEFS, limit=limit, **more)
+
+
+def names_alone(*names):
+    """A pair whose log has names and no creates."""
+    return block(128, 16, [(tag(FILE, id, len(name)), name) for id, name in enumerate(names)])[0], erased
+
+
+def real(file):
+    with open(os.path.join(ROOT, "real", file + ".pair"), "rb") as f:
+        image = f.read()
+    return (image[:len(image) // 2], image[len(image) // 2:]), tuple(map(int, file.split("-")[-2:]))
+
+
+# a rule of another number, before all else: on a good pair and where nothing is valid
+for op, entries, data in (("commit", DEADLINE, SECONDS), ("compact", [], b"")):
+    for rules, first in ((2, image), (0xFFFFFFFF, erased)):
+        for name, limit in (("", None), ("-limited", 3)):
+            refused(f"{op}-rules-{rules}{name}", op, 128, 16, (first, erased), entries, data, -22, rules=rules,
+                    limit=limit)
+# names alone, and a name above empty slots; a new slot has its create, and an empty one takes a payload
+two = (block(128, 16, [(tag(FILE, 1, 1), b"b"), (tag(FILE, 0, 4), b"q212")] + SLOT[2:])[0], erased)
+by_both_rules("names-alone", two, [(CREATE, 2, 0, 0), (FILE, 2, 0, 1), *DEADLINE], SECONDS, added=1, limits=(0, 5))
+gap = (block(128, 16, [(tag(FILE, 3, 1), b"a")])[0], erased)
+by_both_rules("gap", gap, [(INLINE, 1, 0, 4)], SECONDS, limits=(7,))
+# the entries of a commit go by document 01's rules all the same: two slots, and no name makes a third
+refused("commit-name-at-the-count", "commit", 128, 16, two, [*DEADLINE, (FILE, 2, 0, 1)], SECONDS, -201, 1,
+        rules=LITTLEFS)
+# irregular by both: a name raises the count behind a create
+behind = block(128, 16, SLOT + [(tag(FILE, 1, 1), b"b")])[0]
+refused("commit-raised-behind-a-create", "commit", 128, 16, (behind, erased), DEADLINE, SECONDS, -202, rules=LITTLEFS)
+refused("compact-raised-behind-a-create", "compact", 128, 16, (behind, erased), [], b"", -202, rules=LITTLEFS)
+# the creates need room: with them 4 + 12 * 4 + 11 * 5 + (4 + 9) + 8 = 128, and one byte more is a unit past
+taken("compact-creates-just-fit", "compact", names_alone(*[b"a"] * 11, b"a" * 9), [], b"", rules=LITTLEFS)
+crowd = names_alone(*[b"a"] * 11, b"a" * 10)
+for name, limit in (("", None), ("-limited", 3)):
+    refused(f"compact-no-room-for-creates{name}", "compact", 128, 16, crowd, [], b"", -28, rules=LITTLEFS, limit=limit)
+# pairs that a real littlefs wrote: many attributes; a move pending; a delete behind names alone; regular by both
+for file in ("attrs-512-0-1", "move-256-pending-69-70", "churn-256-110-111", "attrs-512-2-3"):
+    images, numbers = real(file)
+    by_both_rules(f"real-{file}", images, [(ATTR, 1, 0, 4)], SECONDS, numbers=numbers)
+# one that was torn by a power cut: no room to append, so it is compacted
+images, numbers = real("cut-512-setattr-torn-0-0-1")
+log = fetched(b"".join(images), 16)[1]
+unerased = next(at for at in range(log.ends, 512) if log.block[at] != 0xFF)
+refused("commit-real-torn-littlefs", "commit", 512, 16, images, [(ATTR, 1, 0, 4)], SECONDS, -213, unerased,
+        numbers=numbers, rules=LITTLEFS)
+taken("compact-real-torn-littlefs", "compact", images, [], b"", numbers=numbers, rules=LITTLEFS)
 
 os.makedirs(HERE, exist_ok=True)
 for name, lines in (("cases", CASES), ("expected", EXPECTED)):

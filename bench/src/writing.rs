@@ -9,7 +9,7 @@
 
 use crate::directory::{Directory, ATTRIBUTE};
 use crate::measure::{in_turn, Beside};
-use oracle::calls::write::{Answer, Entry, Task, Work, Writes};
+use oracle::calls::write::{Answer, Entry, Task, Work, Writes, DOCUMENT};
 use oracle::calls::Voice;
 use oracle::port::Port;
 use std::hint::black_box;
@@ -55,6 +55,7 @@ fn time(directory: &Directory, work: Work) -> Beside {
         numbers: [0, 1],
         block_count: 0,
         seed: 0,
+        rules: DOCUMENT,
         work,
         stores: None,
     };

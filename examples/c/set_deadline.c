@@ -3,8 +3,9 @@
  *
  *     set_deadline FILE SLOT SECONDS [PROG_SIZE]
  *
- * FILE has both blocks of a pair, one behind the other, and is written anew; without PROG_SIZE it is 16. Exits 1 if it
- * is refused, with FILE as it was; 2 if it is used wrongly or the file can't be read or written. */
+ * FILE has both blocks of a pair, one behind the other, and is written anew: one that this library wrote, or littlefs
+ * itself. Without PROG_SIZE it is 16. Exits 1 if it is refused, with FILE as it was; 2 if it is used wrongly or the
+ * file can't be read or written. */
 #include "lanolin.h"
 
 #include <stdio.h>
@@ -25,17 +26,18 @@ static void say_why(lanolin_committed refused, uint32_t end) {
 
 static int set_deadline(uint8_t *b0, uint8_t *b1, size_t size, uint32_t prog_size, uint16_t slot, uint32_t seconds) {
     const lanolin_geometry g = {(uint32_t)size, prog_size};
+    const uint32_t rules = LANOLIN_RULES_LITTLEFS; /* the pair may be one that littlefs itself compacted */
     const lanolin_entry entry = {LANOLIN_TYPE_USERATTR + 0x74, slot, 0, 4};
     uint8_t data[4];
     lanolin_put_le32(data, sizeof data, 0, seconds);
     uint32_t end = lanolin_fetch(g, b0, size, b1, size, 0, 1, 0, 0).dir.off;
-    lanolin_committed c = lanolin_commit(g, b0, size, b1, size, 0, 1, 0, 0, &entry, 1, data, sizeof data);
+    lanolin_committed c = lanolin_commit(g, b0, size, b1, size, 0, 1, 0, 0, rules, &entry, 1, data, sizeof data);
     if (LANOLIN_NEEDS_COMPACTION(c.result)) {
         say_why(c, end);
-        c = lanolin_compact(g, b0, size, b1, size, 0, 1, 0, 0);
+        c = lanolin_compact(g, b0, size, b1, size, 0, 1, 0, 0, rules);
         if (c.result == LANOLIN_OK) puts("compacted");
         if (c.result == LANOLIN_OK)
-            c = lanolin_commit(g, b0, size, b1, size, 0, 1, 0, 0, &entry, 1, data, sizeof data);
+            c = lanolin_commit(g, b0, size, b1, size, 0, 1, 0, 0, rules, &entry, 1, data, sizeof data);
     }
     if (c.result != LANOLIN_OK) return fprintf(stderr, "refused: %d\n", (int)c.result), 1;
     printf("committed: revision %lu, end %lu\n", (unsigned long)c.dir.rev, (unsigned long)c.dir.off);

@@ -1,7 +1,8 @@
-//! Writing: random histories of commits, compactions and cuts. There is no Rust
-//! that writes; the port is held against the second implementation, answers and
-//! both images byte for byte, and what stands there afterwards is read by the
-//! unchanged Rust and held against a simple directory machine.
+//! Writing: random histories of commits, compactions and cuts, under both rules,
+//! from made pairs and from pairs that a real littlefs wrote. There is no Rust that
+//! writes; the port is held against the second implementation, answers and both
+//! images byte for byte, and what stands there afterwards is read by the unchanged
+//! Rust and held against a simple directory machine.
 //!
 //! Assumes what `device` assumes of the Rust.
 
@@ -10,19 +11,27 @@ mod cuts;
 pub mod history;
 mod lists;
 mod long;
-mod reads;
+pub mod reads;
+pub mod real;
 mod solve;
 mod solved;
 mod start;
+mod wide;
 
-use crate::calls::write::{Answer, Task, Work, Writes};
+use crate::calls::write::*;
+use crate::calls::{CORRUPT, INVAL, NOENT};
+use crate::model::FAULTLESS_WRITER;
 use crate::tally::{Check, Subject};
 use ask::{text, After, Outcome, Step};
 use reads::Reads;
 
-/// How many histories, and how many steps each has.
-const HISTORIES: u64 = 12_000;
+/// How many histories from a made pair, and how many from pairs that a real
+/// littlefs wrote, in turn; and how many steps each has.
+const HISTORIES: u64 = 10_800;
+const REAL: u64 = 1_200;
 pub const STEPS: usize = 30;
+/// How many logs of the wider kind are written to once, under both rules.
+const WIDER: u64 = 8_000;
 
 /// The four calls, each with its counts.
 struct Histories {
@@ -30,6 +39,7 @@ struct Histories {
     commit_stores: Check,
     compact: Check,
     compact_stores: Check,
+    both: Check,
     reads: Reads,
 }
 
@@ -41,10 +51,27 @@ pub fn compare(voice: &impl Writes, parts: u64) -> Vec<Subject> {
         commit_stores: Check::ours("lanolin_commit_stores"),
         compact: Check::ours("lanolin_compact"),
         compact_stores: Check::ours("lanolin_compact_stores"),
+        both: Check::ours("both rules on one log"),
         reads: Reads::default(),
     };
     for number in 0..HISTORIES.div_ceil(parts) {
-        history::run(number, STEPS, &mut |step| all.judge(voice, step));
+        history::run(number, STEPS, &mut |step| {
+            all.judge(voice, step);
+            if number.is_multiple_of(8) {
+                all.both(voice, step);
+            }
+        });
+    }
+    let real = real::cases();
+    for number in 0..REAL.div_ceil(parts) {
+        let case = &real[number as usize % real.len()];
+        history::run_from(case, number, STEPS, &mut |step| all.judge(voice, step));
+    }
+    for number in 0..WIDER.div_ceil(parts) {
+        history::wider(number, &mut |step| {
+            all.judge(voice, step);
+            all.both(voice, step);
+        });
     }
     let mut calls = Subject::new("writing: the calls, by the second implementation");
     for check in [
@@ -52,6 +79,7 @@ pub fn compare(voice: &impl Writes, parts: u64) -> Vec<Subject> {
         all.commit_stores,
         all.compact,
         all.compact_stores,
+        all.both,
     ] {
         calls.add(check);
     }
@@ -77,6 +105,38 @@ impl Histories {
             check.outcome_of("stores", stores_kind(stored.stores, &step.after));
         }
         self.reads.read(step, &|| text(step));
+    }
+
+    /// A call under document 01's rule, asked once more under littlefs's: the same,
+    /// if the log is regular by the first; else as the second implementation says.
+    fn both(&mut self, voice: &impl Writes, step: &Step) {
+        let Task { rules, work, .. } = step.task;
+        if rules != DOCUMENT || step.task.stores.is_some() || !voice.can(&work) {
+            return;
+        }
+        let task = Task {
+            rules: LITTLEFS,
+            ..step.task
+        };
+        let images = &step.case.images;
+        let irregular = step.truth.answer.result() == IRREGULAR;
+        let expected = match irregular {
+            true => Outcome::of(&FAULTLESS_WRITER, &task, images),
+            false => step.truth.clone(),
+        };
+        let weight = || images[0].len();
+        let answer = Outcome::of(voice, &task, images);
+        self.both
+            .same_by_weight(&expected, &answer, weight, || text(step));
+        if matches!(work, Work::Compact) {
+            let verdict = match expected.answer.result() {
+                IRREGULAR => "regular by neither",
+                INVAL | CORRUPT | NOENT => "not read",
+                _ if irregular => "by littlefs's alone",
+                _ => "by both",
+            };
+            self.both.outcome_of(step.kind, verdict);
+        }
     }
 
     fn check(&mut self, task: &Task) -> &mut Check {

@@ -32,7 +32,6 @@ pub use committed::{log_of, regular};
 pub use directory::{Directory, Slot, Typed};
 pub use fault::{Fault, Seen, FAULTS};
 pub use lay::Laid;
-pub use rules::{Rules, Whose};
 pub use tag::*;
 pub use write_fault::{WriteFault, WRITE_FAULTS};
 pub use writer::{bytes_of, Plan, Writer, FAULTLESS_WRITER};

@@ -14,15 +14,18 @@ mod call;
 mod machine;
 mod next;
 
-use crate::calls::write::{Answer, Committed, Stored, Task, Work, Writes};
+use crate::calls::write::{Answer, Committed, Stored, Task, Work, Writes, DOCUMENT};
 use crate::calls::{Fetched, Mdir, Voice};
-use crate::histories::ask::{text, Outcome, Step};
-use crate::histories::history;
+use crate::histories::ask::{fetched, text, Outcome, Step};
+use crate::histories::{history, real};
+use crate::model::{log_of, regular, WriteFault};
 use crate::tally::{grouped, Check, Subject};
 use call::{Call, State};
 
-/// How many histories, and how many steps each has.
-const HISTORIES: u64 = 4_000;
+/// How many histories from a made pair, and how many from pairs that a real
+/// littlefs wrote, in turn; and how many steps each has.
+const HISTORIES: u64 = 3_940;
+const REAL: u64 = 60;
 const STEPS: usize = 8;
 /// Calls on larger blocks are left out: they have thousands of stops each.
 const LARGEST: u32 = 2048;
@@ -36,6 +39,8 @@ pub struct Asked<'a, W, R> {
 /// What is compared at the stops, and how often.
 pub struct Stopped {
     calls: u64,
+    /// Those on a log that isn't regular by document 01.
+    wider: u64,
     stops: u64,
     stores: Check,
     finished: Check,
@@ -50,6 +55,7 @@ impl Default for Stopped {
     fn default() -> Stopped {
         Stopped {
             calls: 0,
+            wider: 0,
             stops: 0,
             stores: Check::ours("stores: single bytes, rising"),
             finished: Check::ours("finished: record and seed"),
@@ -71,14 +77,21 @@ pub fn compare<W: Writes, R: Voice>(asked: &Asked<W, R>, parts: u64) -> (Subject
         run(number, &mut |step| stopped.judge(asked, step));
         pairs += u64::from(stopped.calls > calls);
     }
+    let real = real::cases();
+    for number in 0..REAL.div_ceil(parts) {
+        let (case, calls) = (&real[number as usize % real.len()], stopped.calls);
+        history::run_from(case, number, STEPS, &mut |step| stopped.judge(asked, step));
+        pairs += u64::from(stopped.calls > calls);
+    }
     let mut subject = Subject::new("stopped: every stop of an accepted call");
     for check in stopped.checks() {
         subject.add(check.clone());
     }
     let line = format!(
-        "stopped: {} pairs, {} accepted calls, {} stops, {} comparisons",
+        "stopped: {} pairs, {} accepted calls, {} of them on wider logs, {} stops, {} comparisons",
         grouped(pairs),
         grouped(stopped.calls),
+        grouped(stopped.wider),
         grouped(stopped.stops),
         grouped(subject.totals().ours)
     );
@@ -129,6 +142,7 @@ impl Stopped {
         }
         let every_type = self.calls.is_multiple_of(32);
         self.calls += 1;
+        self.wider += u64::from(wider(step));
         let call = Call::of(asked, step, answer, whole.images(), every_type);
         self.ends(asked, &call);
         for limit in 0..=call.all + 1 {
@@ -240,6 +254,14 @@ impl Stopped {
             self.old_lookups.same_by_weight(before, now, weight, say);
         }
     }
+}
+
+/// Whether the log is regular by littlefs's rule alone.
+fn wider(step: &Step) -> bool {
+    let record = fetched(step.case, &step.case.images).dir;
+    let which = usize::from(record.pair[0] == step.task.numbers[1]);
+    let log = log_of(&step.case.images[which], record.off as usize);
+    !regular(WriteFault::None, DOCUMENT, &log)
 }
 
 /// "only the old record's erased mark may differ"

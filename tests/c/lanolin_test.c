@@ -15,6 +15,8 @@ static const uint8_t LISTED[39] = {0x01, 0x00, 0x00, 0x00, 0xbf, 0xef, 0xff, 0xf
                                    '2',  '1',  '2',  0x20, 0x00, 0x00, 0x07, 'a',  'b',  'c',  0x17, 0x50, 0x00,
                                    0x07, 0x90, 0x5f, 0x01, 0x00, 0x67, 0x4f, 0xfc, 0x09, 0x47, 0x38, 0xe4, 0x4d};
 
+enum { DOCUMENT = LANOLIN_RULES_DOCUMENT, LITTLEFS = LANOLIN_RULES_LITTLEFS };
+
 static const lanolin_geometry G = {128, 16};
 static const lanolin_gstate STILL = {0, {0, 0}};
 static uint8_t b0[128], b1[128];
@@ -128,7 +130,8 @@ static void test_lengths(void) {
     for (int i = 0; i < 7; i++) {
         uint8_t read[4] = {9, 9, 9, 9};
         lanolin_entry entry = {0x374, 0, 0, SIZES[i]};
-        lanolin_mdir dir = lanolin_commit(g, c0, 4096, c1, 4096, 0, 1, 0, 0, &entry, 1, data, sizeof data).dir;
+        lanolin_mdir dir =
+            lanolin_commit(g, c0, 4096, c1, 4096, 0, 1, 0, 0, DOCUMENT, &entry, 1, data, sizeof data).dir;
         lanolin_got got = lanolin_getslice(g, c0, 4096, c1, 4096, 0, 1, dir, STILL, 0x7ffffc00, 0x37400000, 0, read, 4);
         size_t n = SIZES[i] < 4 ? SIZES[i] : 4;
         /* the commit's only entry begins at the old end */
@@ -145,15 +148,15 @@ static void test_moved_places(void) {
     uint8_t c0[128], c1[128], read[4];
     memcpy(c0, b0, sizeof c0);
     memcpy(c1, b1, sizeof c1);
-    lanolin_mdir dir = lanolin_commit(G, c0, 128, c1, 128, 0, 1, 0, 0, &before, 1, NULL, 0).dir;
+    lanolin_mdir dir = lanolin_commit(G, c0, 128, c1, 128, 0, 1, 0, 0, DOCUMENT, &before, 1, NULL, 0).dir;
     lanolin_got got = lanolin_getslice(G, c0, 128, c1, 128, 0, 1, dir, STILL, mask, key, 0, read, 4);
     EXPECT(dir.count == 2 && is_found(got, 0x37400404, 8, 27) && !memcmp(read, c0 + 27, 4));
     /* compacted into the other block, behind one create more */
-    dir = lanolin_compact(G, c0, 128, c1, 128, 0, 1, 0, 0).dir;
+    dir = lanolin_compact(G, c0, 128, c1, 128, 0, 1, 0, 0, DOCUMENT).dir;
     got = lanolin_getslice(G, c0, 128, c1, 128, 0, 1, dir, STILL, mask, key, 0, read, 4);
     EXPECT(dir.pair[0] == 1 && is_found(got, 0x37400404, 8, 31) && !memcmp(read, c1 + 31, 4));
     /* a removal is never found */
-    dir = lanolin_commit(G, c0, 128, c1, 128, 0, 1, 0, 0, &gone, 1, NULL, 0).dir;
+    dir = lanolin_commit(G, c0, 128, c1, 128, 0, 1, 0, 0, DOCUMENT, &gone, 1, NULL, 0).dir;
     got = lanolin_getslice(G, c0, 128, c1, 128, 0, 1, dir, STILL, mask, key, 0, read, 4);
     EXPECT(dir.off == 64 && is_refused(got, -2));
 }
@@ -318,17 +321,17 @@ static void test_commit(void) {
     memcpy(c1, b1, sizeof c1);
     const uint8_t data[4] = {0x10, 0x0e, 0x00, 0x00};
     lanolin_entry deadline = {0x374, 0, 0, 4}, bad[2] = {{0x401, 1, 0, 0}, {0x001, 1, 1, 4}};
-    lanolin_committed refused = lanolin_commit(G, c0, 128, c1, 128, 0, 1, 0, 7, bad, 2, data, 4);
+    lanolin_committed refused = lanolin_commit(G, c0, 128, c1, 128, 0, 1, 0, 7, DOCUMENT, bad, 2, data, 4);
     EXPECT(refused.result == -201 && refused.index == 1 && refused.seed == 7 &&
            is_zero(&refused.dir, sizeof refused.dir));
-    EXPECT(lanolin_commit(G, c0, 128, c1, 128, 3, 3, 0, 7, &deadline, 1, data, 4).result == -22);
+    EXPECT(lanolin_commit(G, c0, 128, c1, 128, 3, 3, 0, 7, DOCUMENT, &deadline, 1, data, 4).result == -22);
     EXPECT(!memcmp(c0, b0, 128) && !memcmp(c1, b1, 128));
-    lanolin_stored stored = lanolin_commit_stores(G, c0, 128, c1, 128, 0, 1, 0, 0, &deadline, 1, data, 4, 5);
+    lanolin_stored stored = lanolin_commit_stores(G, c0, 128, c1, 128, 0, 1, 0, 0, DOCUMENT, &deadline, 1, data, 4, 5);
     EXPECT(stored.result == 0 && stored.index == 0 && stored.stores == 5 && !memcmp(c0 + 48, MORE, 5) &&
            c0[53] == 0xff);
     EXPECT(lanolin_fetch(G, c0, 128, c1, 128, 0, 1, 0, 0).dir.off == 48);
     memcpy(c0, b0, sizeof c0);
-    lanolin_committed done = lanolin_commit(G, c0, 128, c1, 128, 0, 1, 0, 0, &deadline, 1, data, 4);
+    lanolin_committed done = lanolin_commit(G, c0, 128, c1, 128, 0, 1, 0, 0, DOCUMENT, &deadline, 1, data, 4);
     EXPECT(done.result == 0 && done.index == 0 && done.dir.off == 64 && done.dir.etag == 0x500ffc04 &&
            done.dir.count == 1);
     EXPECT(!memcmp(c0, b0, 48) && !memcmp(c0 + 48, MORE, 16) && !memcmp(c0 + 64, b1, 64) && !memcmp(c1, b1, 128));
@@ -346,18 +349,16 @@ static void test_compact(void) {
     memcpy(expected, LISTED, sizeof expected);
     expected[0] = 2;
     EXPECT(lanolin_put_le32(expected, 39, 35, lanolin_crc(0xffffffff, expected, 35)) == 0);
-    lanolin_stored stored = lanolin_compact_stores(G, c0, 128, c1, 128, 0, 1, 0, 0, 1);
+    lanolin_stored stored = lanolin_compact_stores(G, c0, 128, c1, 128, 0, 1, 0, 0, DOCUMENT, 1);
     EXPECT(stored.result == 0 && stored.stores == 1 && !memcmp(c1, b1, 128) && !memcmp(c0, b0, 128));
-    stored = lanolin_compact_stores(G, c0, 128, c1, 128, 0, 1, 0, 0, 1000);
+    stored = lanolin_compact_stores(G, c0, 128, c1, 128, 0, 1, 0, 0, DOCUMENT, 1000);
     EXPECT(stored.result == 0 && stored.stores == 40 && !memcmp(c1, expected, 39) && !memcmp(c1 + 39, b1, 89));
     memset(c1, 0x55, sizeof c1);
-    lanolin_committed done = lanolin_compact(G, c0, 128, c1, 128, 0, 1, 0, 0);
+    lanolin_committed done = lanolin_compact(G, c0, 128, c1, 128, 0, 1, 0, 0, DOCUMENT);
     EXPECT(done.result == 0 && done.dir.pair[0] == 1 && done.dir.rev == 2 && done.dir.off == 48 && done.dir.count == 1);
     EXPECT(!memcmp(c1, expected, 39) && !memcmp(c1 + 39, b1, 89) && !memcmp(c0, b0, 128));
-    EXPECT(lanolin_compact(G, b1, 128, c1, 64, 0, 1, 0, 7).result == -22);
+    EXPECT(lanolin_compact(G, b1, 128, c1, 64, 0, 1, 0, 7, DOCUMENT).result == -22);
 }
-
-/* ---- the names of lanolin.h, each by what the archive answers to it; document 01 says what that is */
 
 /* One entry and its check, in an erased block. */
 static void lay_one(uint8_t *block, uint32_t tag, const uint8_t *data, uint32_t n) {
@@ -369,14 +370,181 @@ static void lay_one(uint8_t *block, uint32_t tag, const uint8_t *data, uint32_t 
     EXPECT(lanolin_put_le32(block, 512, 12 + n, lanolin_crc(0xffffffff, block, 12 + n)) == LANOLIN_OK);
 }
 
+/* ---- the rules: a pair of images, written by the four calls */
+
+typedef struct { uint8_t b0[512], b1[512]; } images;
+static const lanolin_geometry WIDE = {512, 16};
+static const lanolin_entry DEADLINE = {LANOLIN_TYPE_USERATTR + 0x74, 0, 0, 4};
+
+static lanolin_committed commit_by(uint32_t rules, images *p) {
+    return lanolin_commit(WIDE, p->b0, 512, p->b1, 512, 0, 1, 0, 7, rules, &DEADLINE, 1, LISTED, 4);
+}
+
+static lanolin_committed compact_by(uint32_t rules, images *p) {
+    return lanolin_compact(WIDE, p->b0, 512, p->b1, 512, 0, 1, 0, 7, rules);
+}
+
+static lanolin_stored commit_stores_by(uint32_t rules, images *p, uint32_t stores) {
+    return lanolin_commit_stores(WIDE, p->b0, 512, p->b1, 512, 0, 1, 0, 7, rules, &DEADLINE, 1, LISTED, 4, stores);
+}
+
+static lanolin_stored compact_stores_by(uint32_t rules, images *p, uint32_t stores) {
+    return lanolin_compact_stores(WIDE, p->b0, 512, p->b1, 512, 0, 1, 0, 7, rules, stores);
+}
+
+/* The listing in the first block, and nothing in the second. */
+static images listing(void) {
+    images p;
+    memset(&p, 0xff, sizeof p);
+    memcpy(p.b0, LISTED, sizeof LISTED);
+    return p;
+}
+
+/* Refused so by all four calls: the record all zero, the seed as given, no store, no byte altered. */
+static int all_refuse(uint32_t rules, const images *given, int32_t result) {
+    images p = *given;
+    lanolin_committed c[2] = {commit_by(rules, &p), compact_by(rules, &p)};
+    lanolin_stored s[2] = {commit_stores_by(rules, &p, 1000), compact_stores_by(rules, &p, 1000)};
+    int all = !memcmp(&p, given, sizeof p);
+    for (int i = 0; i < 2; i++) {
+        all &= c[i].result == result && c[i].index == 0 && c[i].seed == 7 && is_zero(&c[i].dir, sizeof c[i].dir);
+        all &= s[i].result == result && s[i].index == 0 && s[i].stores == 0;
+    }
+    return all;
+}
+
+/* A number that is no rule is -22, before fetch's own -84 and -2 and before -202. */
+static void test_no_rules(void) {
+    static const uint32_t NUMBERS[4] = {2, 3, 0x80000000, 0xffffffff};
+    images good = listing(), erased, crowded, named;
+    memset(&erased, 0xff, sizeof erased);
+    named = crowded = erased;
+    lay_one(named.b0, lanolin_mktag(LANOLIN_TYPE_REG, 0, 4), LISTED + 12, 4);
+    lay_one(crowded.b0, lanolin_mktag(LANOLIN_TYPE_REG, LANOLIN_SLOTS_MAX, 4), LISTED + 12, 4);
+    for (int i = 0; i < 4; i++) {
+        EXPECT(all_refuse(NUMBERS[i], &good, LANOLIN_ERR_INVAL) && all_refuse(NUMBERS[i], &erased, LANOLIN_ERR_INVAL));
+        EXPECT(all_refuse(NUMBERS[i], &named, LANOLIN_ERR_INVAL));
+        EXPECT(all_refuse(NUMBERS[i], &crowded, LANOLIN_ERR_INVAL));
+    }
+    EXPECT(all_refuse(DOCUMENT, &erased, LANOLIN_ERR_CORRUPT) && all_refuse(LITTLEFS, &erased, LANOLIN_ERR_CORRUPT));
+    EXPECT(commit_by(LITTLEFS, &crowded).result == LANOLIN_ERR_NOENT);
+    EXPECT(compact_by(DOCUMENT, &crowded).result == LANOLIN_ERR_NOENT);
+}
+
+/* A log that is regular by document 01 is so by littlefs's rule, and each call answers and leaves the same. */
+static void test_same_under_both(void) {
+    images p[2] = {listing(), listing()};
+    lanolin_committed c[2];
+    lanolin_stored s[2];
+    for (uint32_t stores = 0; stores < 45; stores += 11) {
+        for (uint32_t rules = 0; rules < 2; rules++) p[rules] = listing();
+        for (uint32_t rules = 0; rules < 2; rules++) s[rules] = commit_stores_by(rules, &p[rules], stores);
+        EXPECT(!s[0].result && !memcmp(&s[0], &s[1], sizeof *s) && !memcmp(&p[0], &p[1], sizeof *p));
+        for (uint32_t rules = 0; rules < 2; rules++) s[rules] = compact_stores_by(rules, &p[rules], stores);
+        EXPECT(!s[0].result && !memcmp(&s[0], &s[1], sizeof *s) && !memcmp(&p[0], &p[1], sizeof *p));
+    }
+    for (uint32_t rules = 0; rules < 2; rules++) p[rules] = listing();
+    for (uint32_t rules = 0; rules < 2; rules++) c[rules] = commit_by(rules, &p[rules]);
+    EXPECT(!c[0].result && !memcmp(&c[0], &c[1], sizeof *c) && !memcmp(&p[0], &p[1], sizeof *p));
+    for (uint32_t rules = 0; rules < 2; rules++) c[rules] = compact_by(rules, &p[rules]);
+    EXPECT(!c[0].result && !memcmp(&c[0], &c[1], sizeof *c) && !memcmp(&p[0], &p[1], sizeof *p));
+}
+
+/* A log of these tags with four bytes of data each, of a removal and a splice none, and its check. */
+static images logged(const uint32_t *tags, int count) {
+    images p;
+    uint32_t at = 4, before = 0xffffffff;
+    memset(&p, 0xff, sizeof p);
+    EXPECT(lanolin_put_le32(p.b0, 512, 0, 1) == 0);
+    for (int i = 0; i < count; i++) {
+        before = chain(p.b0, at, before, tags[i]);
+        memcpy(p.b0 + at + 4, LISTED + 12, lanolin_tag_dsize(tags[i]) - 4);
+        at += lanolin_tag_dsize(tags[i]);
+    }
+    uint32_t size = (16 - (at + 8) % 16) % 16 + 4;
+    chain(p.b0, at, before, lanolin_mktag(LANOLIN_TYPE_CCRC, LANOLIN_NO_SLOT, size));
+    EXPECT(lanolin_put_le32(p.b0, 512, at + 4, lanolin_crc(0xffffffff, p.b0, at + 4)) == 0);
+    return p;
+}
+
+static lanolin_got look_in(images *p, lanolin_mdir dir, uint32_t mask, uint32_t type, uint32_t id) {
+    const uint32_t key = lanolin_mktag(type, id, 0);
+    return lanolin_getslice(WIDE, p->b0, 512, p->b1, 512, 0, 1, dir, STILL, mask, key, 0, NULL, 0);
+}
+
+/* Names without creates, and a slot in between that none makes: refused by document 01's rules, taken by littlefs's. */
+static void test_names_alone(void) {
+    static const uint32_t TAGS[4] = {0x00100004, 0x20100004, 0x00200804, 0x37400804}; /* slots 0 and 2 */
+    static const uint32_t CREATES[3] = {0x40100000, 0x40100400, 0x40100800};
+    images p = logged(TAGS, 4);
+    EXPECT(all_refuse(DOCUMENT, &p, LANOLIN_ERR_IRREGULAR));
+    lanolin_committed done = commit_by(LITTLEFS, &p);
+    EXPECT(done.result == LANOLIN_OK && done.dir.count == 3);
+    EXPECT(look_in(&p, done.dir, LANOLIN_MASK_TYPE, 0x374, 0).tag == 0x37400004);
+    EXPECT(all_refuse(DOCUMENT, &p, LANOLIN_ERR_IRREGULAR)); /* as it was before the commit */
+    done = compact_by(LITTLEFS, &p);
+    EXPECT(done.result == LANOLIN_OK && done.dir.count == 3 && done.dir.pair[0] == 1 && done.dir.rev == 2);
+    /* a create for each slot, the empty one too, and each entry behind its slot's create */
+    uint32_t before = 0xffffffff, at = 4, creates = 0;
+    for (; at < done.dir.off; at += lanolin_tag_dsize(before)) {
+        before ^= lanolin_be32_at(p.b1, 512, at).value;
+        if (lanolin_tag_type3(before) == LANOLIN_TYPE_CREATE) EXPECT(creates < 3 && before == CREATES[creates++]);
+        else EXPECT(lanolin_tag_id(before) == creates - 1 || lanolin_tag_type3(before) == LANOLIN_TYPE_CCRC);
+    }
+    EXPECT(at == done.dir.off && creates == 3);
+    EXPECT(look_in(&p, done.dir, LANOLIN_MASK_CLASS, 0x000, 0).tag == 0x00100004);
+    EXPECT(look_in(&p, done.dir, LANOLIN_MASK_CLASS, 0x000, 1).result == LANOLIN_ERR_NOENT);
+    EXPECT(look_in(&p, done.dir, LANOLIN_MASK_CLASS, 0x000, 2).tag == 0x00200804);
+    EXPECT(look_in(&p, done.dir, LANOLIN_MASK_TYPE, 0x374, 2).tag == 0x37400804);
+    images copy = p;
+    EXPECT(commit_by(DOCUMENT, &p).result == LANOLIN_OK && compact_by(DOCUMENT, &copy).result == LANOLIN_OK);
+}
+
+/* What makes no slot, under both rules: a struct, an attribute, and a name behind a create or a delete. */
+static void test_what_makes_no_slot(void) {
+    static const uint32_t LOGS[6][3] = {
+        {0x00100004, 0x20100404, 0x00100404}, /* a struct at the count */
+        {0x00100004, 0x37400404, 0x00100404}, /* an attribute */
+        {0x00100004, 0x40100400, 0x00100804}, /* a name behind a create */
+        {0x00100004, 0x4ff00000, 0x00100004}, /* a name behind a delete */
+        {0x40100000, 0x00100004, 0x00100404}, /* a create, its name, and a name behind them */
+        {0x00100004, 0x00100400, 0x00100404}, /* a name of no length makes its slot, and is bad all the same */
+    };
+    for (int i = 0; i < 6; i++) {
+        images p = logged(LOGS[i], 3);
+        EXPECT(all_refuse(DOCUMENT, &p, LANOLIN_ERR_IRREGULAR) && all_refuse(LITTLEFS, &p, LANOLIN_ERR_IRREGULAR));
+    }
+    /* within the count, behind a create or a delete, a name is as by document 01 */
+    static const uint32_t RENAMED[4] = {0x00100404, 0x4ff00000, 0x40100400, 0x00100404};
+    images p = logged(RENAMED, 4);
+    EXPECT(all_refuse(DOCUMENT, &p, LANOLIN_ERR_IRREGULAR) && commit_by(LITTLEFS, &p).result == LANOLIN_OK);
+}
+
+/* A block full of names: its creates have no room. A commit's own entries make no slot by a name. */
+static void test_no_room_for_creates(void) {
+    uint32_t tags[61];
+    for (uint32_t i = 0; i < 61; i++) tags[i] = lanolin_mktag(LANOLIN_TYPE_REG, i, 4);
+    images p = logged(tags, 61), copy = p;
+    EXPECT(lanolin_fetch(WIDE, p.b0, 512, p.b1, 512, 0, 1, 0, 7).dir.off == 512);
+    lanolin_committed refused = compact_by(LITTLEFS, &p);
+    EXPECT(refused.result == LANOLIN_ERR_NOSPC && refused.seed == 7 && is_zero(&refused.dir, sizeof refused.dir));
+    EXPECT(compact_stores_by(LITTLEFS, &p, 1000).result == LANOLIN_ERR_NOSPC && !memcmp(&p, &copy, sizeof p));
+    const lanolin_entry name = {LANOLIN_TYPE_REG, 1, 0, 4};
+    p = logged(tags, 1);
+    refused = lanolin_commit(WIDE, p.b0, 512, p.b1, 512, 0, 1, 0, 7, LITTLEFS, &name, 1, LISTED, 4);
+    EXPECT(refused.result == LANOLIN_ERR_BADENTRY && refused.index == 0);
+}
+
+/* ---- the names of lanolin.h, each by what the archive answers to it; document 01 says what that is */
+
 /* A commit behind the listing, on a copy. */
 static int32_t committed(const lanolin_entry *entries, size_t count, const uint8_t *data, size_t size) {
     static uint8_t c0[4096], c1[4096];
     memset(c0, 0xff, sizeof c0);
     memset(c1, 0xff, sizeof c1);
     memcpy(c0, LISTED, sizeof LISTED);
-    return lanolin_commit((lanolin_geometry){4096, 16}, c0, 4096, c1, 4096, 0, 1, 0, 0, entries, count, data, size)
-        .result;
+    const lanolin_geometry g = {4096, 16};
+    return lanolin_commit(g, c0, 4096, c1, 4096, 0, 1, 0, 0, DOCUMENT, entries, count, data, size).result;
 }
 
 static void test_names_of_refusals(void) {
@@ -391,18 +559,18 @@ static void test_names_of_refusals(void) {
     EXPECT(committed(&deadline, 1, LISTED, 4) == LANOLIN_OK && committed(&absent, 1, NULL, 0) == LANOLIN_ERR_BADENTRY);
     EXPECT(committed(&deadline, 1, COINCIDES, 4) == LANOLIN_ERR_COINCIDENCE);
     memcpy(c0, b0, sizeof c0);
-    EXPECT(lanolin_commit(G, c0, 128, b1, 128, 0, 1, 0, 0, &large, 1, b1, 69).result == LANOLIN_ERR_NOSPC);
+    EXPECT(lanolin_commit(G, c0, 128, b1, 128, 0, 1, 0, 0, DOCUMENT, &large, 1, b1, 69).result == LANOLIN_ERR_NOSPC);
     lay_one(block, lanolin_mktag(LANOLIN_TYPE_REG, 0, 4), LISTED + 12, 4); /* a name without its create */
     memset(erased, 0xff, sizeof erased);
-    EXPECT(lanolin_compact((lanolin_geometry){512, 16}, block, 512, erased, 512, 0, 1, 0, 0).result ==
+    EXPECT(lanolin_compact((lanolin_geometry){512, 16}, block, 512, erased, 512, 0, 1, 0, 0, DOCUMENT).result ==
            LANOLIN_ERR_IRREGULAR);
 }
 
 /* A commit of nothing, and its twin with a limit, which refuse alike. */
 static lanolin_committed bare(uint32_t prog_size, uint8_t *block) {
     const lanolin_geometry g = {128, prog_size};
-    lanolin_committed c = lanolin_commit(g, block, 128, b1, 128, 0, 1, 0, 0, NULL, 0, NULL, 0);
-    lanolin_stored s = lanolin_commit_stores(g, block, 128, b1, 128, 0, 1, 0, 0, NULL, 0, NULL, 0, 5);
+    lanolin_committed c = lanolin_commit(g, block, 128, b1, 128, 0, 1, 0, 0, DOCUMENT, NULL, 0, NULL, 0);
+    lanolin_stored s = lanolin_commit_stores(g, block, 128, b1, 128, 0, 1, 0, 0, DOCUMENT, NULL, 0, NULL, 0, 5);
     EXPECT(s.result == c.result && s.index == c.index && s.stores == 0);
     return c;
 }
@@ -453,9 +621,9 @@ static void test_names_of_types(void) {
     memset(c0, 0xff, sizeof c0);
     memset(c1, 0xff, sizeof c1);
     memcpy(c0, LISTED, sizeof LISTED);
-    lanolin_mdir dir = lanolin_commit(g, c0, 512, c1, 512, 0, 1, 0, 0, ENTRIES, 15, WORDS, 12).dir;
+    lanolin_mdir dir = lanolin_commit(g, c0, 512, c1, 512, 0, 1, 0, 0, DOCUMENT, ENTRIES, 15, WORDS, 12).dir;
     EXPECT(dir.count == 3 && !dir.split && dir.tail[0] == 5 && dir.tail[1] == 6);
-    dir = lanolin_commit(g, c0, 512, c1, 512, 0, 1, 0, 0, &HARD, 1, WORDS, 12).dir;
+    dir = lanolin_commit(g, c0, 512, c1, 512, 0, 1, 0, 0, DOCUMENT, &HARD, 1, WORDS, 12).dir;
     EXPECT(dir.count == 3 && dir.split && dir.tail[0] == 4 && dir.tail[1] == 5);
     EXPECT(lanolin_tag_type2(dir.etag) == LANOLIN_TYPE_CCRC && lanolin_tag_id(dir.etag) == LANOLIN_NO_SLOT);
     for (uint32_t id = 0; id < 3; id++) {
@@ -499,7 +667,7 @@ static void test_names_of_what_is_read(void) {
     EXPECT(got.result == LANOLIN_OK && lanolin_tag_type3(got.tag) == LANOLIN_TYPE_SUPERBLOCK);
     lanolin_info info = lanolin_getinfo(g, block, 512, other, 512, 0, 1, dir, STILL, LANOLIN_NAME_MAX, 0);
     EXPECT(info.result == LANOLIN_ERR_NOENT); /* it looks for names under 0x780, as littlefs's own */
-    EXPECT(lanolin_compact(g, block, 512, other, 512, 0, 1, 0, 0).result == LANOLIN_OK);
+    EXPECT(lanolin_compact(g, block, 512, other, 512, 0, 1, 0, 0, DOCUMENT).result == LANOLIN_OK);
     memset(other, 0xff, sizeof other);
     EXPECT(lanolin_put_le32(forward, 8, 4, lanolin_crc(0xffffffff, other, 4)) == LANOLIN_OK);
     lay_one(block, lanolin_mktag(LANOLIN_TYPE_FCRC, LANOLIN_NO_SLOT, 8), forward, 8);
@@ -555,6 +723,11 @@ int main(void) {
     test_pairs_and_states();
     test_commit();
     test_compact();
+    test_no_rules();
+    test_same_under_both();
+    test_names_alone();
+    test_what_makes_no_slot();
+    test_no_room_for_creates();
     test_names_of_refusals();
     test_no_room();
     test_names_of_types();

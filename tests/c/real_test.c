@@ -1,8 +1,9 @@
 /* Fetches every pair of samples/real/ and looks up each name, struct, size and attribute, all 256 attribute types of
  * each slot: they must be what the littlefs that wrote the pairs shows (shown.txt; README.md there has its lines), and
- * stand in the block where the answer says.
+ * stand in the block where the answer says. Then commits to a copy of each, and compacts one, under both rules: by
+ * littlefs's no pair is irregular, and after each accepted call all that littlefs shows is shown as before.
  *
- *     real_test samples/real        prints each difference and exits 1, or one line with what was compared */
+ *     real_test samples/real        prints each difference and exits 1, or two lines with what was compared */
 #include "lanolin.h"
 
 #include <stdio.h>
@@ -23,9 +24,27 @@ static pair_t at;
 static char file[256];
 static unsigned pairs, slots, attrs, absent, differences;
 
+/* The ways in which a pair is looked at: first as it is, then written to, a compaction before a commit. */
+enum { AS_IT_IS, COMMITTED, COMPACTED, COMMITTED_BY_LITTLEFS, COMPACTED_BY_LITTLEFS, BOTH_BY_LITTLEFS, WAYS };
+static const struct { const char *what; bool compact, commit; uint32_t rules; } WRITES[WAYS] = {
+    {"as it is", false, false, 0},
+    {"committed to by document 01's rules", false, true, LANOLIN_RULES_DOCUMENT},
+    {"compacted by document 01's rules", true, false, LANOLIN_RULES_DOCUMENT},
+    {"committed to by littlefs's rules", false, true, LANOLIN_RULES_LITTLEFS},
+    {"compacted by littlefs's rules", true, false, LANOLIN_RULES_LITTLEFS},
+    {"compacted and committed to by littlefs's rules", true, true, LANOLIN_RULES_LITTLEFS},
+};
+static int way;
+static unsigned accepted[WAYS];
+static bool refused; /* the pair at hand, in this way */
+
+/* What a commit sets: an attribute of slot 0 that no pair has. */
+enum { NEW = 0x65 };
+static const uint8_t NEW_DATA[4] = {'n', 'e', 'w', '!'};
+
 static void differs(const char *what, unsigned long id, const char *line) {
     differences++;
-    printf("%s: %s of slot %lu differs: %s\n", file, what, id, line);
+    printf("%s, %s: %s of slot %lu differs: %s\n", file, WRITES[way].what, what, id, line);
 }
 
 static size_t bytes_of(const char *hex, uint8_t *out) {
@@ -55,7 +74,12 @@ static bool listed[256];
 static long slot_now = -1;
 
 static void check_absent(void) {
-    uint8_t byte = 0xa5;
+    uint8_t byte = 0xa5, have[4];
+    if (slot_now == 0 && WRITES[way].commit) {
+        const uint32_t tag = lanolin_mktag(0x300 + NEW, 0, sizeof NEW_DATA);
+        if (!has(look(0x7ffffc00, tag, have, 4), tag, have, NEW_DATA, 4)) differs("the new attribute", 0, "missing");
+        listed[NEW] = true;
+    }
     for (uint32_t type = 0; slot_now >= 0 && type < 256; type++) {
         if (listed[type]) continue;
         lanolin_got got = look(0x7ffffc00, lanolin_mktag(0x300 + type, (uint32_t)slot_now, 0), &byte, 1);
@@ -83,19 +107,45 @@ static void read_pair(const char *directory, const char *line) {
     at.n0 = n0;
     at.n1 = n1;
     at.gdisk = (lanolin_gstate){tag, {p0, p1}};
-    pairs++;
 }
 
+static lanolin_fetched fetch(void) {
+    return lanolin_fetch(at.g, at.b0, at.g.block_size, at.b1, at.g.block_size, at.n0, at.n1, 0, 0);
+}
+
+/* Writes to the pair as this way says. A refused call alters nothing, and by littlefs's rules no pair is irregular. */
+static void write_pair(void) {
+    const lanolin_entry entry = {0x300 + NEW, 0, 0, sizeof NEW_DATA};
+    const uint32_t size = at.g.block_size, rules = WRITES[way].rules;
+    const pair_t before = at;
+    const size_t entries = fetch().dir.count > 0; /* without a slot a commit of nothing */
+    lanolin_committed c = {0};
+    if (WRITES[way].compact) c = lanolin_compact(at.g, at.b0, size, at.b1, size, at.n0, at.n1, 0, 0, rules);
+    bool half = WRITES[way].compact && c.result == LANOLIN_OK;
+    if (WRITES[way].commit && c.result == LANOLIN_OK)
+        c = lanolin_commit(at.g, at.b0, size, at.b1, size, at.n0, at.n1, 0, 0, rules, &entry, entries, NEW_DATA, 4);
+    refused = c.result != LANOLIN_OK;
+    accepted[way] += !refused;
+    if (refused && !half && memcmp(&before, &at, sizeof at)) differs("a block", 0, "altered by a refused call");
+    if (c.result == LANOLIN_ERR_IRREGULAR && rules == LANOLIN_RULES_LITTLEFS) differs("the log", 0, "irregular");
+    lanolin_fetched f = fetch();
+    if (!refused && way != AS_IT_IS && (f.result || f.seed != c.seed || memcmp(&f.dir, &c.dir, sizeof f.dir)))
+        differs("the answered record", 0, "not what fetch gives");
+}
+
+/* What littlefs shows of the record; of a pair that was written to count and tail. */
 static void check_record(const char *line) {
     unsigned p0, p1, rev, off, etag, count, erased, split, t0, t1;
     if (sscanf(line, "record %u %u %u %u %u %u %u %u %u %u", &p0, &p1, &rev, &off, &etag, &count, &erased, &split, &t0,
                &t1) != 10)
         exit(2);
-    lanolin_fetched f = lanolin_fetch(at.g, at.b0, at.g.block_size, at.b1, at.g.block_size, at.n0, at.n1, 0, 0);
+    lanolin_fetched f = fetch();
     lanolin_mdir *d = &f.dir;
     at.dir = f.dir;
-    if (f.result || d->pair[0] != p0 || d->pair[1] != p1 || d->rev != rev || d->off != off || d->etag != etag ||
-        d->count != count || d->erased != erased || d->split != split || d->tail[0] != t0 || d->tail[1] != t1)
+    if (f.result || d->count != count || d->split != split || d->tail[0] != t0 || d->tail[1] != t1)
+        differs("the record", 0, line);
+    if (way == AS_IT_IS && (d->pair[0] != p0 || d->pair[1] != p1 || d->rev != rev || d->off != off ||
+                            d->etag != etag || d->erased != erased))
         differs("the record", 0, line);
 }
 
@@ -143,23 +193,40 @@ static void check_hidden(const char *line) {
     if (look(0x700ffc00, lanolin_mktag(0, id, 0), &byte, 1).result != -2) differs("the moved entry", id, line);
 }
 
-int main(int argc, char **argv) {
-    char path[1024], line[8192];
-    if (argc != 2) return fprintf(stderr, "usage: real_test DIRECTORY   (samples/real)\n"), 2;
-    snprintf(path, sizeof path, "%s/shown.txt", argv[1]);
+/* Every line of shown.txt, in one way. */
+static void check_all(const char *directory, const char *path) {
+    char line[8192];
     FILE *f = fopen(path, "r");
-    if (!f) return fprintf(stderr, "%s can't be read\n", path), 2;
+    if (!f) fprintf(stderr, "%s can't be read\n", path), exit(2);
+    pairs = slots = attrs = absent = 0;
     while (fgets(line, sizeof line, f)) {
         if (strncmp(line, "attr ", 5)) check_absent();
-        if (!strncmp(line, "pair ", 5)) read_pair(argv[1], line);
+        if (!strncmp(line, "pair ", 5)) {
+            read_pair(directory, line);
+            write_pair();
+            pairs++;
+        } else if (refused) continue;
         else if (!strncmp(line, "record ", 7)) check_record(line);
         else if (!strncmp(line, "slot ", 5)) check_slot(line);
         else if (!strncmp(line, "attr ", 5)) check_attr(line);
         else if (!strncmp(line, "hidden ", 7)) check_hidden(line);
-        else return fprintf(stderr, "%s: not a line: %s", path, line), 2;
+        else fprintf(stderr, "%s: not a line: %s", path, line), exit(2);
     }
     check_absent();
+    fclose(f);
+}
+
+int main(int argc, char **argv) {
+    char path[1024];
+    if (argc != 2) return fprintf(stderr, "usage: real_test DIRECTORY   (samples/real)\n"), 2;
+    snprintf(path, sizeof path, "%s/shown.txt", argv[1]);
+    check_all(argv[1], path);
     printf("real pairs: %u pairs, %u slots, %u attributes, %u missing attributes, %u differences\n", pairs, slots,
            attrs, absent, differences);
+    for (way = AS_IT_IS + 1; way < WAYS; way++) check_all(argv[1], path);
+    printf("real pairs, written to: by document 01's rules %u committed to and %u compacted, by littlefs's %u and %u, "
+           "and %u both; %u differences\n",
+           accepted[COMMITTED], accepted[COMPACTED], accepted[COMMITTED_BY_LITTLEFS], accepted[COMPACTED_BY_LITTLEFS],
+           accepted[BOTH_BY_LITTLEFS], differences);
     return differences != 0 || pairs == 0;
 }

@@ -1,7 +1,7 @@
 /* How deep each call of the archive really goes: the stack below a call is painted, the call is made, and the paint
- * that is gone is counted. A pair of 32,768-byte blocks with 1,000 slots is read, written and compacted, and refused
- * calls are among them. Prints each call's name and the most bytes that it took, return address included: a measure on
- * these inputs, to hold beside the bounds of tools/stack.py. Exits 1 if a call does not answer as it must.
+ * that is gone is counted. A pair of 32,768-byte blocks with 1,000 slots is read, written and compacted, by both rules,
+ * and refused calls are among them. Prints each call's name and the most bytes that it took, return address included: a
+ * measure on these inputs, to hold beside the bounds of tools/stack.py. Exits 1 if a call does not answer as it must.
  *
  * Compiled with -maccumulate-outgoing-args, so that the stack pointer stays where it is in a function that calls, and
  * linked with -z now, since a function of the C library that is bound at its first call goes through the loader. */
@@ -44,6 +44,7 @@ static void took(const char *name, long bytes) {
     } while (0)
 
 #define PAIR b0, BLOCK, b1, BLOCK, 0, 1
+enum { DOCUMENT = LANOLIN_RULES_DOCUMENT, LITTLEFS = LANOLIN_RULES_LITTLEFS, NONE };
 
 /* The first commit, a check alone: what a writer finds when it is called for the first time. */
 static void format(void) {
@@ -52,6 +53,21 @@ static void format(void) {
     MUST(lanolin_put_le32(b0, BLOCK, 0, 1) == 0);
     MUST(lanolin_put_be32(b0, BLOCK, 4, 0xffffffff ^ lanolin_mktag(0x500, 0x3ff, 8)) == 0);
     MUST(lanolin_put_le32(b0, BLOCK, 8, lanolin_crc(0xffffffff, b0, 8)) == 0);
+}
+
+/* Slots as littlefs compacts them: names of one byte, without creates. */
+static void name_all(int slots) {
+    uint32_t at = 4, before = 0xffffffff, tag;
+    memset(b0, 0xff, BLOCK);
+    memset(b1, 0xff, BLOCK);
+    MUST(lanolin_put_le32(b0, BLOCK, 0, 1) == 0);
+    for (int id = 0; id < slots; id++, at += 5, before = tag) {
+        tag = lanolin_mktag(0x001, (uint32_t)id, 1);
+        MUST(lanolin_put_be32(b0, BLOCK, at, before ^ tag) == 0);
+    }
+    tag = lanolin_mktag(0x500, 0x3ff, 4 + (PROG - (at + 8) % PROG) % PROG);
+    MUST(lanolin_put_be32(b0, BLOCK, at, before ^ tag) == 0);
+    MUST(lanolin_put_le32(b0, BLOCK, at + 4, lanolin_crc(0xffffffff, b0, at + 4)) == 0);
 }
 
 /* Slots of a name of four bytes, a payload of three and a deadline of four, eight to a commit. */
@@ -66,7 +82,7 @@ static void fill(int slots) {
             entries[n++] = (lanolin_entry){0x201, (uint16_t)i, 4, 3};
             entries[n++] = (lanolin_entry){0x374, (uint16_t)i, 7, 4};
         }
-        MUST(lanolin_commit(G, PAIR, 0, 0, entries, n, DATA, sizeof DATA).result == 0);
+        MUST(lanolin_commit(G, PAIR, 0, 0, DOCUMENT, entries, n, DATA, sizeof DATA).result == 0);
     }
 }
 
@@ -91,32 +107,33 @@ static __attribute__((noinline)) void reading(void) {
 }
 
 /* An entry of every kind, and one that is bad. */
-static __attribute__((noinline)) void committing(void) {
+static __attribute__((noinline)) void committing(uint32_t rules) {
     static const uint8_t DATA[16] = "0123456789abcde";
     static const lanolin_entry ENTRIES[] = {
         {0x401, 0, 0, 0},    {0x001, 0, 0, 9}, {0x201, 0, 1, 15}, {0x374, 0, 0, 4}, {0x374, 0, 0, 1023},
         {0x4ff, 0, 0, 0},    {0x002, 1, 0, 3}, {0x200, 1, 0, 8},  {0x202, 2, 0, 8}, {0x601, 0x3ff, 0, 8},
         {0x7ff, 0x3ff, 0, 12}, {0x500, 0, 0, 0}};
     const size_t good = sizeof ENTRIES / sizeof *ENTRIES - 1;
-    lanolin_stored half = lanolin_commit_stores(G, PAIR, 0, 0, ENTRIES, good, DATA, sizeof DATA, 0);
+    lanolin_stored half = lanolin_commit_stores(G, PAIR, 0, 0, rules, ENTRIES, good, DATA, sizeof DATA, 0);
     MUST(half.result == 0);
-    DEPTH(lanolin_commit_stores, G, PAIR, 0, 0, ENTRIES, good + 1, DATA, sizeof DATA, 100);
-    DEPTH(lanolin_commit, G, PAIR, 0, 0, ENTRIES, good + 1, DATA, sizeof DATA);
-    DEPTH(lanolin_commit, G, PAIR, 0, 0, ENTRIES, good, DATA, sizeof DATA);
-    DEPTH(lanolin_commit_stores, G, PAIR, 0, 0, ENTRIES, good, DATA, sizeof DATA, 50);
-    DEPTH(lanolin_commit, G, PAIR, 0, 0, ENTRIES, good, DATA, sizeof DATA); /* torn: -213 */
-    MUST(lanolin_commit(G, PAIR, 0, 0, ENTRIES, good, DATA, sizeof DATA).result == -213);
-    DEPTH(lanolin_commit, G, PAIR, 1, 0, ENTRIES, good, DATA, sizeof DATA);
+    DEPTH(lanolin_commit_stores, G, PAIR, 0, 0, rules, ENTRIES, good + 1, DATA, sizeof DATA, 100);
+    DEPTH(lanolin_commit, G, PAIR, 0, 0, rules, ENTRIES, good + 1, DATA, sizeof DATA);
+    DEPTH(lanolin_commit, G, PAIR, 0, 0, rules, ENTRIES, good, DATA, sizeof DATA);
+    DEPTH(lanolin_commit_stores, G, PAIR, 0, 0, rules, ENTRIES, good, DATA, sizeof DATA, 50);
+    DEPTH(lanolin_commit, G, PAIR, 0, 0, rules, ENTRIES, good, DATA, sizeof DATA); /* torn: -213 */
+    MUST(lanolin_commit(G, PAIR, 0, 0, rules, ENTRIES, good, DATA, sizeof DATA).result == -213);
+    DEPTH(lanolin_commit, G, PAIR, 1, 0, rules, ENTRIES, good, DATA, sizeof DATA);
+    DEPTH(lanolin_commit, G, PAIR, 0, 0, NONE, ENTRIES, good, DATA, sizeof DATA);
 }
 
-static __attribute__((noinline)) void compacting(void) {
+static __attribute__((noinline)) void compacting(uint32_t rules) {
     uint32_t answers = lanolin_fetch(G, PAIR, 0, 0).dir.pair[0];
-    DEPTH(lanolin_compact_stores, G, PAIR, 0, 0, 1000);
-    DEPTH(lanolin_compact, G, PAIR, 0, 0);
+    DEPTH(lanolin_compact_stores, G, PAIR, 0, 0, rules, 1000);
+    DEPTH(lanolin_compact, G, PAIR, 0, 0, rules);
     MUST(lanolin_fetch(G, PAIR, 0, 0).dir.pair[0] != answers);
-    DEPTH(lanolin_compact, G, PAIR, 0, 0);
-    DEPTH(lanolin_compact_stores, G, PAIR, 0, 0, 0xffffffff);
-    DEPTH(lanolin_compact, G, PAIR, 1, 0);
+    DEPTH(lanolin_compact, G, PAIR, 0, 0, rules);
+    DEPTH(lanolin_compact_stores, G, PAIR, 0, 0, rules, 0xffffffff);
+    DEPTH(lanolin_compact, G, PAIR, 1, 0, rules);
     MUST(lanolin_fetch(G, PAIR, 0, 0).dir.count == SLOTS);
 }
 
@@ -156,11 +173,15 @@ static __attribute__((noinline)) void leaves(void) {
 int main(void) {
     leaves();
     format();
-    DEPTH(lanolin_compact, G, PAIR, 0, 0); /* no slot */
+    DEPTH(lanolin_compact, G, PAIR, 0, 0, DOCUMENT); /* no slot */
     fill(SLOTS);
     reading();
-    committing();
-    compacting();
+    committing(DOCUMENT);
+    compacting(DOCUMENT);
+    name_all(SLOTS);
+    DEPTH(lanolin_compact, G, PAIR, 0, 0, DOCUMENT); /* -202 */
+    committing(LITTLEFS);
+    compacting(LITTLEFS);
     for (int i = 0; calls[i].name; i++) printf("%s %ld\n", calls[i].name, calls[i].most);
     return 0;
 }

@@ -58,30 +58,31 @@ static uint32_t sum(const uint8_t *image, size_t n) {
 }
 
 static void run(char *line) {
-    char *field[13];
-    for (int i = 0; i < 13; i++) {
+    char *field[14];
+    for (int i = 0; i < 14; i++) {
         field[i] = line;
-        line = strchr(line, i < 12 ? ' ' : '\n');
+        line = strchr(line, i < 13 ? ' ' : '\n');
         if (!line) broken("too few fields");
         *line++ = 0;
     }
     lanolin_geometry g = {(uint32_t)atol(field[2]), (uint32_t)atol(field[3])};
     uint32_t n0 = (uint32_t)atol(field[4]), n1 = (uint32_t)atol(field[5]), count = (uint32_t)atol(field[6]),
-             seed = (uint32_t)atol(field[7]);
-    size_t l0 = bytes_of(field[9], b0), l1 = bytes_of(field[10], b1), e = entries_of(field[11]),
-           d = bytes_of(field[12], data);
-    int commit = !strcmp(field[1], "commit"), limited = strcmp(field[8], "-");
+             seed = (uint32_t)atol(field[7]), rules = (uint32_t)atol(field[8]);
+    size_t l0 = bytes_of(field[10], b0), l1 = bytes_of(field[11], b1), e = entries_of(field[12]),
+           d = bytes_of(field[13], data);
+    int commit = !strcmp(field[1], "commit"), limited = strcmp(field[9], "-");
     printf("%s: ", field[0]);
     if (limited) {
-        uint32_t limit = (uint32_t)atol(field[8]);
+        uint32_t limit = (uint32_t)atol(field[9]);
         lanolin_stored s =
-            commit ? lanolin_commit_stores(g, b0, l0, b1, l1, n0, n1, count, seed, entries, e, data, d, limit)
-                   : lanolin_compact_stores(g, b0, l0, b1, l1, n0, n1, count, seed, limit);
+            commit ? lanolin_commit_stores(g, b0, l0, b1, l1, n0, n1, count, seed, rules, entries, e, data, d, limit)
+                   : lanolin_compact_stores(g, b0, l0, b1, l1, n0, n1, count, seed, rules, limit);
         if (s.result == 0) printf("made %u", s.stores);
         else printf("refused %d index %u", s.result, s.index);
     } else {
-        lanolin_committed c = commit ? lanolin_commit(g, b0, l0, b1, l1, n0, n1, count, seed, entries, e, data, d)
-                                     : lanolin_compact(g, b0, l0, b1, l1, n0, n1, count, seed);
+        lanolin_committed c =
+            commit ? lanolin_commit(g, b0, l0, b1, l1, n0, n1, count, seed, rules, entries, e, data, d)
+                   : lanolin_compact(g, b0, l0, b1, l1, n0, n1, count, seed, rules);
         if (c.result == 0) printf("end %u tag %08x count %u rev %u", c.dir.off, c.dir.etag, c.dir.count, c.dir.rev);
         else printf("refused %d index %u", c.result, c.index);
     }

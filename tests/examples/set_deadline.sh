@@ -1,12 +1,13 @@
 #!/usr/bin/env bash
-# The example that writes, on the listing's pair and on pairs a step from it: for each reason why there is no room, what
-# it says, and the deadline afterwards. What it refuses leaves the file as it was.
+# The example that writes, on the listing's pair, on pairs a step from it and on pairs that a real littlefs wrote: for
+# each reason why there is no room, what it says, and the deadline afterwards. What it refuses leaves the file as it
+# was.
 #
 #     set_deadline.sh SET_DEADLINE DEADLINE     the commands that set and print a deadline
 set -euo pipefail
 set=$1 get=$2
 pair=$(mktemp)
-trap 'rm -f "$pair"' EXIT
+trap 'rm -f "$pair" "$pair.full"' EXIT
 
 # tried OFFSET BYTES PROG_SIZE SAID: the listing's pair with these bytes at this offset
 tried() {
@@ -32,6 +33,30 @@ $get "$pair" | diff - <(echo 6)
 cp samples/instructions.pair "$pair"
 $set "$pair" 8 3600 | diff - <(echo "committed: revision 7, end 448")
 $get "$pair" 8 | diff - <(echo 3600)
+
+# littlefs's own pairs, which have names without creates. real PAIR SLOT SAID
+real() {
+  cp "samples/real/$1.pair" "$pair"
+  $set "$pair" "$2" 3600 | diff - <(printf "$3\n")
+  $get "$pair" "$2" | diff - <(echo 3600)
+}
+# in the place of one of eight bytes: 16 bytes behind the end, 256
+real attrs-512-0-1 3 "committed: revision 4, end 272"
+# torn by a power cut while a deadline was set: four slots compacted end at 144
+torn="no room, -213: byte 448 isn't erased, as after a commit that was cut short"
+real cut-512-setattr-torn-0-0-1 3 "$torn\ncompacted\ncommitted: revision 3, end 160"
+# full: five slots compacted, with a create each, end at 176
+real cut-512-setattr-torn-0-2-3 1 "no room, -28: the block is full\n$again 192"
+# a name of slot 1,022 alone: six commits fill the block, and there is no room for 1,023 creates
+cp crates/check_edges/data/count-1023 "$pair"
+for seconds in 1 2 3 4 5 6; do $set "$pair" 0 $seconds >/dev/null; done
+cp "$pair" "$pair.full"
+status=0
+said=$($set "$pair" 0 7 2>&1) || status=$?
+[[ $status = 1 && $said == *'no room, -28'* && $said == *refused*-28* ]] ||
+  { echo "$set exits $status on a full block of names: $said"; exit 1; }
+cmp "$pair.full" "$pair"
+$get "$pair" 0 | diff - <(echo 6)
 
 # exit status, what is said, the pair, arguments
 while IFS=: read -r expected words from arguments; do

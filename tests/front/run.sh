@@ -68,6 +68,50 @@ refused -2 "more than 1,023 slots" crates/check_edges/data/count-1024
 refused -202 "not regular" samples/real/empty-128-0-1.pair
 [ "$(wc -l <"$scratch/out")" = 7 ] || fail "-202 comes behind six lines of the record"
 
+# ---- littlefs's rule: by it real pairs are shown as samples/make_listings.py says, and where it would help it is said
+hint="littlefs's own rule takes this pair: try --littlefs"
+# expects OUTPUT CASE: what samples/listings expects of a case, in the file named text
+expects() { sed -n "/^== $2\$/,/^== /{/^== /!p}" "samples/listings/$1" >"$text"; }
+text=$scratch/text
+for real in empty-128-0-1 move-256-pending-69-70 attrs-512-2-3; do
+  for shown in "list expected" "audit audited"; do
+    read -r command output <<<"$shown"
+    expects "$output" "real-$real"
+    status=0
+    [[ $(tail -n 1 "$text") != "refused -202" ]] || status=1
+    tries "$status" "$command" "samples/real/$real.pair"
+    shows "$text"
+    if [ "$status" = 1 ]; then says "$hint"; else quiet err; fi
+    expects "$output-littlefs" "real-$real"
+    tries 0 "$command" "samples/real/$real.pair" --littlefs
+    shows "$text"
+    quiet err
+  done
+done
+real=samples/real/empty-128-0-1.pair
+expects expected-littlefs real-empty-128-0-1
+lists "$text" --littlefs - <"$real"
+lists "$text" --littlefs --prog-size 8 "$real"
+lists "$listed" --littlefs "$pair" # what is regular by document 01 is shown as without it
+{ head -c 256 /dev/zero && cat "$real"; } >"$scratch/volume"
+sed 's/^block 1$/block 3/' "$text" >"$scratch/three"
+lists "$scratch/three" --block-size 128 --pair 2,3 --littlefs "$scratch/volume"
+lists "$scratch/three" --littlefs --pair=3,2 --block-size=128 --prog-size=16 - <"$scratch/volume"
+tries 1 list --block-size 128 --pair 2,3 "$scratch/volume"
+says "$hint"
+tries 1 list --littlefs crates/check_edges/data/all-erased
+ends "refused -84"
+# a pair that neither rule takes: its bytes, and 0xff behind them
+bytes=$(sed -n 's/^irregular-struct \([0-9a-f]*\),ff\*229$/\1/p' samples/listings/cases)
+{ printf "$(sed 's/../\\x&/g' <<<"$bytes")" && head -c 229 /dev/zero | tr '\0' '\377'; } >"$scratch/neither"
+refused -202 "where a real littlefs compacted" "$scratch/neither"
+lacks "--littlefs"
+tries 1 list --littlefs "$scratch/neither"
+ends "refused -202"
+says "by littlefs's own rule either"
+lacks "--littlefs"
+
+# ---- a pair out of a volume
 # A volume whose blocks 4 and 5 are the pair's: block 4 answers, and nothing else differs.
 volume=$scratch/volume four=$scratch/four
 { head -c 512 /dev/zero && cat "$pair" && head -c 256 /dev/zero; } >"$volume"
@@ -96,6 +140,8 @@ misused "no option --nope" list --nope "$pair"
 misused "--prog-size needs a value" list "$pair" --prog-size
 misused "--pair needs a value" list --pair= "$pair"
 misused "--full goes with log alone" list --full "$pair"
+misused "log shows every log as it is, and needs no rule" log --littlefs "$pair"
+misused "no option --littlefs=1" list --littlefs=1 "$pair"
 misused "go together" list --block-size 128 "$pair"
 misused "go together" audit --pair 4,5 "$pair"
 misused "lib takes no argument" lib all
@@ -116,7 +162,7 @@ unfit "standard input has 0 bytes" list - </dev/null
 for help in help --help -h "list --help" "lib -h"; do
   tries 0 $help
   quiet err
-  [[ $(cat "$scratch/out") == "usage: ./lanolin "* ]] || fail "does not say how it is used"
+  [[ $(cat "$scratch/out") == "usage: ./lanolin "*--littlefs* ]] || fail "does not say how it is used"
 done
 
 # ---- stubs: programs that say what they are told and how much they are given, an rt that notes its words, and an
@@ -128,24 +174,49 @@ door=$tree/lanolin path=$tools
 for tool in bash cat dd dirname env mktemp readlink rm sed tail tee wc; do ln -s "$(command -v $tool)" "$tools"; done
 # stub FILE COMMAND: a program that does this
 stub() { printf '#!/usr/bin/env bash\n%s\n' "$2" >"$1" && chmod +x "$1"; }
-program() { stub "$tree/target/bin/log" "$1"; }
+program() { for command in list audit log; do stub "$tree/target/bin/$command" "$1"; done; }
 stub "$tools/uname" 'echo x86_64'
 stub "$tools/apt-get" "echo >$scratch/installed"
 stub "$tools/rt" "echo \"\$*\" >>$scratch/asked; echo 'rt: format proved (12 s)'"
 stub "$tree/.ci/run" 'exit 7'
 
-# told WORDS BYTES ARGUMENTS..: what the program is told and given
+# told COMMAND WORDS BYTES ARGUMENTS..: what the program is told and given
 told() {
-  tries 0 log "${@:3}"
-  [ "$(cat "$scratch/out")" = "told '$1', given $2" ] || fail "has the program $(cat "$scratch/out")"
+  tries 0 "$1" "${@:4}"
+  [ "$(cat "$scratch/out")" = "told '$2', given $3" ] || fail "has the program $(cat "$scratch/out")"
 }
 program "echo \"told '\$*', given \$(wc -c)\""
-told "" 256 "$pair"
+told log "" 256 "$pair"
 says "proved format (12 s)"
-told "--full" 256 "$pair" --full
-told "8 0 1" 256 --prog-size 8 "$pair"
-told "--full 16 4 7" 256 --full --block-size 128 --pair 4,7 "$volume"
+told log "--full" 256 "$pair" --full
+told log "8 0 1" 256 --prog-size 8 "$pair"
+told log "--full 16 4 7" 256 --full --block-size 128 --pair 4,7 "$volume"
 [ "$(sort -u "$scratch/asked")" = "check log" ] || fail "asks rt otherwise: $(cat "$scratch/asked")"
+told list "" 256 "$pair"
+told list "16 0 1 1" 256 --littlefs "$pair"
+told audit "8 0 1 1" 256 "$pair" --prog-size 8 --littlefs
+told audit "16 4 7 1" 256 --littlefs --block-size 128 --pair 4,7 "$volume"
+
+# After -202 by document 01's rule, and then alone, the program is asked once more; what it shows then is not shown.
+# asked_again SAID WORDS ARGUMENTS..: what is said of littlefs's rule, and the words of each time
+asked_again() {
+  : >"$scratch/words"
+  tries 1 list "${@:3}"
+  [ "$(grep -F -- --littlefs "$scratch/err")" = "${1:+lanolin: $1}" ] || fail "says $(cat "$scratch/err")"
+  [ "$(paste -sd/ "$scratch/words")" = "$2" ] || fail "has the program told $(cat "$scratch/words")"
+  [ "$(wc -l <"$scratch/out")" = 1 ] || fail "shows $(cat "$scratch/out")"
+}
+note="echo \"\$*\" >>$scratch/words"
+program "$note; [ \$# = 4 ] && echo fine || echo 'refused -202'"
+asked_again "$hint" "/16 0 1 1" "$pair"
+asked_again "$hint" "8 4 7/8 4 7 1" --prog-size 8 --block-size 128 --pair 4,7 "$volume"
+program "$note; echo 'refused -202'"
+asked_again "" "/16 0 1 1" "$pair"
+asked_again "" "16 0 1 1" --littlefs "$pair"
+program "$note; [ \$# = 4 ] || echo 'refused -202'"
+asked_again "" "/16 0 1 1" "$pair" # nothing shown is not taken
+program "$note; echo 'refused -84'"
+asked_again "" "" "$pair"
 program 'echo "refused -22"'
 tries 1 log "$pair"
 says "outside of the limits"

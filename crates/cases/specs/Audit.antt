@@ -16,8 +16,8 @@ use Rattle.format.specs.Log.{committed, log, eventLength, span, tagAfter, stopp
 use Rattle.format.specs.Record.{counted, countOf, tailOf, splitOf, forwardOf, seedOf}
 use Rattle.format.specs.View.{rank, view}
 use Rattle.format.specs.Fetch.{geometryFits, pairFits, tooHigh, erasedOf, mdirOf, fetchOf}
-use Rattle.format.specs.Regular.{ruleOf, ruleHolds, countAfter, regularFrom, Regular}
-use Rattle.format.specs.Directory.{Slot, empty, upd, apply, dir, act, acts, dirOf}
+use Rattle.format.specs.Regular.{ruleOf, ruleHolds, countAfter, growsAfter, countRaised, regularFrom, Regular}
+use Rattle.format.specs.Directory.{Slot, empty, upd, reaching, apply, dir, act, acts, dirOf}
 use Rattle.format.specs.Listing.{ascii, hexDigit, decimalIn, isPlain, nameByte, nameBytes, numberLine, refusedLine}
 use Rattle.format.specs.Listing.{fetchInput}
 use Rattle.format.specs.Audit.{isInstruction, isPayload, isDeadline, isThere, lacksDeadline, lacksPayload}
@@ -30,7 +30,8 @@ pub together : auditOf (listing ++ blank 128)
     ≡ ascii "payload without deadline 0\ndeadline without payload 0\nslots 1\n"
 unfolding fetchInput blockAudit slotsAudit totalLines tally auditLines auditLine deadlineLine lackLine nameOrDash
     lacksPayload lacksDeadline isDeadline isThere isPayload isInstruction refusedLine numberLine nameBytes nameByte
-    isPlain decimalIn hexDigit dirOf acts act dir apply upd empty Regular regularFrom ruleOf ruleHolds countAfter
+    isPlain decimalIn hexDigit dirOf acts act dir apply reaching upd empty Regular regularFrom ruleOf ruleHolds
+    countAfter growsAfter countRaised
     fetchOf mdirOf erasedOf tooHigh pairFits geometryFits view rank seedOf forwardOf splitOf tailOf countOf counted
     stoppedStraight tagAfter span eventLength log committed walk walkFrom walkIn classOf readBehind bodyLength
     tagFlipped tagLength be32 le32 toLe32 xor crc crcByte crcBits crcBit
@@ -53,7 +54,8 @@ pub lost : auditOf (apart ++ blank 128)
     ≡ ascii "slot 0 q212 no deadline\npayload without deadline 1\ndeadline without payload 0\nslots 1\n"
 unfolding fetchInput blockAudit slotsAudit totalLines tally auditLines auditLine deadlineLine lackLine nameOrDash
     lacksPayload lacksDeadline isDeadline isThere isPayload isInstruction refusedLine numberLine nameBytes nameByte
-    isPlain decimalIn hexDigit dirOf acts act dir apply upd empty Regular regularFrom ruleOf ruleHolds countAfter
+    isPlain decimalIn hexDigit dirOf acts act dir apply reaching upd empty Regular regularFrom ruleOf ruleHolds
+    countAfter growsAfter countRaised
     fetchOf mdirOf erasedOf tooHigh pairFits geometryFits view rank seedOf forwardOf splitOf tailOf countOf counted
     stoppedStraight tagAfter span eventLength log committed walk walkFrom walkIn classOf readBehind bodyLength
     tagFlipped tagLength be32 le32 toLe32 xor crc crcByte crcBits crcBit

@@ -13,7 +13,7 @@ use Rattle.format.specs.Log.{committed, log, eventLength, span, tagAfter, stopp
 use Rattle.format.specs.Record.{counted, countOf, noTail, tailOf, splitOf, forwardOf, seedOf}
 use Rattle.format.specs.View.{rank, view}
 use Rattle.format.specs.Fetch.{geometryFits, pairFits, tooHigh, erasedOf, mdirOf, fetchOf}
-use Rattle.format.specs.Regular.{ruleOf, ruleHolds, countAfter, regularFrom, Regular}
+use Rattle.format.specs.Regular.{ruleOf, ruleHolds, countAfter, growsAfter, countRaised, regularFrom, Regular}
 use Rattle.format.specs.Commit.{commitBytes}
 use Rattle.format.specs.Stores.{erased, allErased, fill, entriesLength, appending, coincides}
 use Rattle.format.specs.Entries.{entryBody, judge}
@@ -70,18 +70,18 @@ abbrev struct : ℕ → Entry
 struct n = record { kind = 0x201; id = 0; off = 0; len = n }
 
 abbrev image : List Entry → List ℕ → ℕ → Images
-image es dat n = commitImages geometry first second 0 1 0 0 es dat n
+image es dat n = commitImages geometry first second 0 1 0 0 0 es dat n
 
 abbrev answer : List ℕ → List Entry → List ℕ → Committed
-answer b es dat = commitOf geometry b second 0 1 0 0 es dat
+answer b es dat = commitOf geometry b second 0 1 0 0 0 es dat
 
 -- five stores; all of them; the answers; "an entry is bad", the space, both ("-201, -28": the entry); the end, 48, no
 -- multiple of the program size 32, the end tag's top bit, a byte far behind the end that isn't erased; equal block
 -- numbers
 listing : (image (deadline ∷ []) seconds 5 ≡ images (laid ++ erased 9 ++ take 5 more ++ erased 75) second)
-    × (commitStoresOf geometry first second 0 1 0 0 (deadline ∷ []) seconds 5 ≡ stored.Made 5)
+    × (commitStoresOf geometry first second 0 1 0 0 0 (deadline ∷ []) seconds 5 ≡ stored.Made 5)
     × (image (deadline ∷ []) seconds unlimited ≡ images (laid ++ erased 9 ++ more ++ erased 64) second)
-    × (commitStoresOf geometry first second 0 1 0 0 (deadline ∷ []) seconds 17 ≡ stored.Made 16)
+    × (commitStoresOf geometry first second 0 1 0 0 0 (deadline ∷ []) seconds 17 ≡ stored.Made 16)
     × (answer first (deadline ∷ []) seconds
     ≡ committed.Done (record {
       pair = record { n0 = 0; n1 = 1 };
@@ -96,17 +96,18 @@ listing : (image (deadline ∷ []) seconds 5 ≡ images (laid ++ erased 9 ++ tak
     0x4cc2e8dd)
     × (answer first (create ∷ past ∷ []) seconds ≡ committed.Refused (BadEntry 1))
     × (image (create ∷ past ∷ []) seconds 5 ≡ images first second)
-    × (commitStoresOf geometry first second 0 1 0 0 (struct 68 ∷ []) (erased 69) 100 ≡ stored.Made 80)
+    × (commitStoresOf geometry first second 0 1 0 0 0 (struct 68 ∷ []) (erased 69) 100 ≡ stored.Made 80)
     × (answer first (struct 69 ∷ []) (erased 69) ≡ committed.Refused NoSpace)
     × (answer first (struct 69 ∷ past ∷ []) (erased 69) ≡ committed.Refused (BadEntry 1))
-    × (commitOf (record { «block_size» = 128; «prog_size» = 32 }) first second 0 1 0 0 (deadline ∷ []) seconds
+    × (commitOf (record { «block_size» = 128; «prog_size» = 32 }) first second 0 1 0 0 0 (deadline ∷ []) seconds
     ≡ committed.Refused Misaligned)
     × (answer flipped (deadline ∷ []) seconds ≡ committed.Refused TopBit)
     × (answer (laid ++ erased 88 ++ (0xfe ∷ [])) (deadline ∷ []) seconds ≡ committed.Refused (NotErased 127))
-    × (commitOf geometry first second 7 7 0 0 [] [] ≡ committed.Refused Invalid)
+    × (commitOf geometry first second 7 7 0 0 0 [] [] ≡ committed.Refused Invalid)
 unfolding commitImages commitOf commitStoresOf verdictOf commitFits pairFits geometryFits fetchOf tooHigh view rank log
     committed walk walkFrom walkIn classOf readBehind bodyLength tagLength tagFlipped be32 le32 toBe32 toLe32 xor crc
     crcByte crcBits crcBit mdirOf erasedOf stoppedStraight span eventLength tagAfter countOf counted splitOf tailOf
-    forwardOf seedOf appended Regular regularFrom ruleOf ruleHolds countAfter judge entryBody placed roundedEnd
+    forwardOf seedOf appended Regular regularFrom ruleOf ruleHolds countAfter growsAfter countRaised judge entryBody
+    placed roundedEnd
     checkSize roomOf erasedRun firstUnerased allErased coincides fill entriesLength tagOf appending commitBytes
 listing = (refl, refl, refl, refl, refl, refl, refl, refl, refl, refl, refl, refl, refl, refl)

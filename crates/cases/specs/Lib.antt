@@ -5,6 +5,7 @@ pub mod Commits
 pub mod Room
 pub mod Walks
 pub mod Rules
+pub mod Littlefs
 pub mod Pairs
 pub mod Lookups
 pub mod Text

@@ -11,7 +11,8 @@ use Rattle.format.specs.Kind.{typeFile, typeInlineStruct, typeCreate, typeCheck
 use Rattle.format.specs.Crc.{crc, crcByte, crcBits, crcBit}
 use Rattle.format.specs.Walk.{Event, ent, chk, inv, readBehind, classOf, bodyLength, walkIn, walkFrom, walk}
 use Rattle.format.specs.Log.{committed, log, eventLength, span, tagAfter, logEnd, logEndTag, stoppedStraight}
-use Rattle.format.specs.Regular.{ruleOf, ruleHolds, countAfter, regularFrom, Regular}
+use Rattle.format.specs.declared.Rules.the-variants.{Document, Littlefs}
+use Rattle.format.specs.Regular.{ruleOf, ruleHolds, countAfter, growsAfter, countRaised, regularFrom, Regular}
 
 -- "123456789", whose published CRC-32 is 0xcbf43926: "our register 0x340bc6d9 before inversion"
 pub published : crc 0xffff_ffff (0x31 ∷ 0x32 ∷ 0x33 ∷ 0x34 ∷ 0x35 ∷ 0x36 ∷ 0x37 ∷ 0x38 ∷ 0x39 ∷ []) ≡ 0x340b_c6d9
@@ -79,6 +80,6 @@ pub end-tag : logEndTag entries ≡ 0x500f_fc0d
 unfolding tagAfter tagFlipped
 end-tag = refl
 
-pub is-regular : Regular entries ≡ true
-unfolding Regular regularFrom ruleOf ruleHolds countAfter
-is-regular = refl
+pub is-regular : (Regular Document entries ≡ true) × (Regular Littlefs entries ≡ true)
+unfolding Regular regularFrom ruleOf ruleHolds countAfter growsAfter countRaised
+is-regular = (refl, refl)

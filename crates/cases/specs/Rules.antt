@@ -7,8 +7,9 @@ use Rattle.format.specs.Kind.{typeName, typeFile, typeDirectory, typeSuperblock
 use Rattle.format.specs.Kind.{typeCtzStruct, typeUserAttr, typeSplice, typeCreate, typeDelete, typeCheck, typeForward}
 use Rattle.format.specs.Kind.{typeTail, typeHardTail, typeMove, noSlot}
 use Rattle.format.specs.Tag.{mkTag}
-use Rattle.format.specs.Walk.{ent, chk}
-use Rattle.format.specs.Regular.{ruleOf, ruleHolds, countAfter, regularFrom, Regular}
+use Rattle.format.specs.Walk.{chk}
+use Rattle.format.specs.Regular.{ruleOf, ruleHolds, regularFrom, Regular}
+use Rattle.format.specs.declared.Rules.the-variants.{Document}
 
 -- an entry against a count, and whether it passes as an entry of a commit and in a log
 pub record Try : Type 0 where
@@ -69,13 +70,9 @@ pub in-a-log : map (tried true) tries ≡ map (λ t. t .logged) tries
 unfolding ruleOf ruleHolds
 in-a-log = refl
 
--- "every check tag's size is 4 to 1,022"; names alone don't raise the count
-pub check-sizes : map Regular ((chk (mkTag typeCheck 0 4) 0 ∷ []) ∷ (chk (mkTag typeCheck 0 3) 0 ∷ [])
+-- "every check tag's size is 4 to 1,022"
+pub check-sizes : map (Regular Document) ((chk (mkTag typeCheck 0 4) 0 ∷ []) ∷ (chk (mkTag typeCheck 0 3) 0 ∷ [])
     ∷ (chk (mkTag typeCheck 0 1_022) 0 ∷ []) ∷ (chk (mkTag typeCheck 0 1_023) 0 ∷ []) ∷ [])
     ≡ true ∷ false ∷ true ∷ false ∷ []
 unfolding Regular regularFrom
 check-sizes = refl
-
-pub named-only : Regular (ent (mkTag typeFile 0 1) (0x61 ∷ []) ∷ chk (mkTag typeCheck noSlot 4) 0 ∷ []) ≡ false
-unfolding Regular regularFrom ruleOf ruleHolds countAfter
-named-only = refl

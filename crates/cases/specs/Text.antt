@@ -9,8 +9,8 @@ use Rattle.format.specs.Log.{committed, log, eventLength, span, tagAfter, stopp
 use Rattle.format.specs.Record.{counted, countOf, tailOf, splitOf, forwardOf, seedOf}
 use Rattle.format.specs.View.{rank, view}
 use Rattle.format.specs.Fetch.{geometryFits, pairFits, tooHigh, erasedOf, mdirOf, fetchOf}
-use Rattle.format.specs.Regular.{ruleOf, ruleHolds, countAfter, regularFrom, Regular}
-use Rattle.format.specs.Directory.{empty, upd, apply, dir, act, acts, dirOf}
+use Rattle.format.specs.Regular.{ruleOf, ruleHolds, countAfter, growsAfter, countRaised, regularFrom, Regular}
+use Rattle.format.specs.Directory.{empty, upd, reaching, apply, dir, act, acts, dirOf}
 use Rattle.format.specs.Listing.{ascii, hexDigit, decimalIn, decimal, hexBytes, isPlain, nameByte, nameBytes}
 use Rattle.format.specs.Listing.{numberLine, tailLine, erasedLine, recordLines, nameFields, structFields, slotLine}
 use Rattle.format.specs.Listing.{attrLine, attrLines, slotLines, refusedLine, dirLines, blockText, fetchInput}
@@ -21,7 +21,8 @@ pub text : listingOf (listing ++ blank 128)
     ≡ ascii "rev 1\nblock 0\nend 48\ncount 1\ntail none\nerased no\nslot 0 001 q212 201 3\nattr 0 374 905f0100\n"
 unfolding fetchInput blockText dirLines refusedLine slotLines attrLines attrLine slotLine structFields nameFields
     recordLines erasedLine tailLine numberLine nameBytes nameByte isPlain hexBytes decimalIn hexDigit dirOf acts act dir
-    apply upd empty Regular regularFrom ruleOf ruleHolds countAfter fetchOf mdirOf erasedOf tooHigh pairFits
+    apply reaching upd empty Regular regularFrom ruleOf ruleHolds countAfter growsAfter countRaised fetchOf mdirOf
+    erasedOf tooHigh pairFits
     geometryFits view rank seedOf forwardOf splitOf tailOf countOf counted stoppedStraight tagAfter span eventLength log
     committed walk walkFrom walkIn classOf readBehind bodyLength tagFlipped tagLength be32 le32 toLe32 xor crc crcByte
     crcBits crcBit
@@ -29,14 +30,15 @@ text = refl
 
 -- The same images with program size 32, as the blocks 4 and 5: only the number is another, that of the half that
 -- answers. Two blocks with one number are no pair.
-pub text-as : (listingAs 32 (record { n0 = 4; n1 = 5 }) (listing ++ blank 128)
+pub text-as : (listingAs 32 (record { n0 = 4; n1 = 5 }) 0 (listing ++ blank 128)
     ≡ ascii "rev 1\nblock 4\nend 48\ncount 1\ntail none\nerased no\nslot 0 001 q212 201 3\nattr 0 374 905f0100\n")
-    × (listingAs 32 (record { n0 = 4; n1 = 5 }) (blank 128 ++ listing)
+    × (listingAs 32 (record { n0 = 4; n1 = 5 }) 0 (blank 128 ++ listing)
     ≡ ascii "rev 1\nblock 5\nend 48\ncount 1\ntail none\nerased no\nslot 0 001 q212 201 3\nattr 0 374 905f0100\n")
-    × (listingAs 32 (record { n0 = 4; n1 = 4 }) (listing ++ blank 128) ≡ ascii "refused -22\n")
+    × (listingAs 32 (record { n0 = 4; n1 = 4 }) 0 (listing ++ blank 128) ≡ ascii "refused -22\n")
 unfolding fetchInput blockText dirLines refusedLine slotLines attrLines attrLine slotLine structFields nameFields
     recordLines erasedLine tailLine numberLine nameBytes nameByte isPlain hexBytes decimalIn hexDigit dirOf acts act dir
-    apply upd empty Regular regularFrom ruleOf ruleHolds countAfter fetchOf mdirOf erasedOf tooHigh pairFits
+    apply reaching upd empty Regular regularFrom ruleOf ruleHolds countAfter growsAfter countRaised fetchOf mdirOf
+    erasedOf tooHigh pairFits
     geometryFits view rank seedOf forwardOf splitOf tailOf countOf counted stoppedStraight tagAfter span eventLength log
     committed walk walkFrom walkIn classOf readBehind bodyLength tagFlipped tagLength be32 le32 toLe32 xor crc crcByte
     crcBits crcBit
@@ -49,7 +51,8 @@ pub refusals : (listingOf (blank 256) ≡ ascii "refused -84\n")
     × (listingOf (blank 224) ≡ ascii "refused -22\n")
 unfolding fetchInput blockText dirLines refusedLine slotLines attrLines attrLine slotLine structFields nameFields
     recordLines erasedLine tailLine numberLine nameBytes nameByte isPlain hexBytes decimalIn hexDigit dirOf acts act dir
-    apply upd empty Regular regularFrom ruleOf ruleHolds countAfter fetchOf mdirOf erasedOf tooHigh pairFits
+    apply reaching upd empty Regular regularFrom ruleOf ruleHolds countAfter growsAfter countRaised fetchOf mdirOf
+    erasedOf tooHigh pairFits
     geometryFits view rank seedOf forwardOf splitOf tailOf countOf counted stoppedStraight tagAfter span eventLength log
     committed walk walkFrom walkIn classOf readBehind bodyLength tagFlipped tagLength be32 le32 toLe32 xor crc crcByte
     crcBits crcBit

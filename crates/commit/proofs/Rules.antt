@@ -31,9 +31,11 @@ module _ (es : List Entry) (dat b0 b1 : List ℕ) (st : State) where
 -- ---- demand 3, of what a call left
 stopped : (g : Geometry) (b0 b1 : List ℕ) (n0 n1 count seed rules : ℕ) (es : List Entry) (dat : List ℕ) (n : ℕ)
     (x0 y0 : List ℕ)
-    → x0 ≡ commitImages g b0 b1 n0 n1 count seed rules es dat n .b0 → y0 ≡ commitImages g b0 b1 n0 n1 count seed rules es dat n .b1
+    → x0 ≡ commitImages g b0 b1 n0 n1 count seed rules es dat n .b0 → y0 ≡ commitImages g b0 b1 n0 n1 count seed rules
+    es dat n .b1
     → CommitStopped g b0 b1 n0 n1 count seed rules es dat x0 y0
-stopped g b0 b1 n0 n1 count seed rules es dat n x0 y0 ex ey = rw (ex, ey) (stopped-commit g b0 b1 n0 n1 count seed rules es dat n)
+stopped g b0 b1 n0 n1 count seed rules es dat n x0 y0 ex ey = rw (ex, ey) (stopped-commit g b0 b1 n0 n1 count seed rules
+    es dat n)
 
 -- ---- the steps, one after the other
 module _ (b0 b1 : List ℕ) (es : List Entry) (dat : List ℕ) (g : Geometry) (n0 n1 count seed rules : ℕ) where
@@ -81,7 +83,8 @@ module _ (b0 b1 : List ℕ) (es : List Entry) (dat : List ℕ) (g : Geometry) (n
   unfolding commitStoresOf commitImages
   stores-glue stores r0 x0 y0 r1 e0 e1 =
       let t = ran g b0 b1 n0 n1 count seed rules es dat stores in
-      let ex : x0 ≡ commitImages g b0 b1 n0 n1 count seed rules es dat stores .b0 = ap (λ (u : Trio). u .b0) e0 ∙ t .first in
+      let ex : x0 ≡ commitImages g b0 b1 n0 n1 count seed rules es dat stores .b0 = ap (λ (u : Trio). u .b0) e0 ∙ t
+      .first in
       let ey : y0 ≡ commitImages g b0 b1 n0 n1 count seed rules es dat stores .b1 = ap (λ (u : Trio). u .b1) e0
       ∙ t .second in (
         e1 ∙ ap (λ (u : Trio). madeOf (u .st) stores) e0 ∙ t .made,

@@ -1,6 +1,7 @@
 // Whether the log of a block is regular, by document 01's rule or by littlefs's: one walk over the block, the rules run
-// against the count that the entries leave. What is not committed does not count. `log_regular` has a `requires` and is for the crates of this repository,
-// which have fetched from the block: littlefs has no such call, and none of ours to C is made of it alone.
+// against the count that the entries leave. What is not committed does not count. `log_regular` has a `requires` and is
+// for the crates of this repository, which have fetched from the block: littlefs has no such call, and none of ours to
+// C is made of it alone.
 ghost use mathlib.Core.Path.{_≡_};
 ghost use Prim.Native.Nat.{_≤_};
 ghost use lib.ListN.{length};

@@ -49,7 +49,8 @@ pub names-raise : (g : Bool) (c id : ℕ) → g && (leb c id && leb id 1_022) �
     → (id + 1 < 2 ^ 32) × (id + 1 ≡ countRaised g name c id)
 unfolding countRaised
 names-raise g c id h =
-    let most : id ≤ 1_022 = leb-true id 1_022 (both (leb c id) (leb id 1_022) (both g (leb c id && leb id 1_022) h .1) .1) in
+    let most : id ≤ 1_022 = leb-true id 1_022 (both (leb c id) (leb id 1_022) (both g (leb c id && leb id 1_022) h .1)
+    .1) in
     (omega arith, rw h (omega arith))
 
 pub names-stay : (g : Bool) (c id : ℕ) → g && (leb c id && leb id 1_022) ≡ false → c ≡ countRaised g name c id

@@ -25,7 +25,8 @@ use Rattle.commit_steps.specs.declared.Phase.the-variants.{Judge}
 -- ---- `start`: r is what `rules_of` answers, x what `log_regular` does
 module _ (second : Bool) (b : List ℕ) (m : LfsMdir) (rules : ℕ) (r : Rules) (asked : r ≡ rulesOf rules) (x : Bool)
     (is : x ≡ Regular r (log b)) where
-  pub starts-irregular : (s : State) → not x ≡ true → s ≡ refusedState Irregular → s ≡ startedOf (rulesOf rules) second b m
+  pub starts-irregular : (s : State) → not x ≡ true → s ≡ refusedState Irregular → s ≡ startedOf (rulesOf rules) second
+      b m
   unfolding startedOf
   starts-irregular s h e = rw (← asked, ← is, h) e
 

@@ -1,7 +1,7 @@
 // Compaction of a metadata pair: document 01's `lfs_dir_compact`, and the same with a limit of stores. The block that
 // fetch did not answer from is erased and gets the next revision and one commit of all that the pair holds. Any
-// geometry, images, numbers, block count and seed, and any number for the rule by which the log must be regular: 0 or 1,
-// "any other -22". What is written is regular by document 01's, whichever was asked for.
+// geometry, images, numbers, block count and seed, and any number for the rule by which the log must be regular: 0 or
+// 1, "any other -22". What is written is regular by document 01's, whichever was asked for.
 ghost use mathlib.Core.Path.{_≡_};
 ghost use Rattle.format.specs.Compaction.{compactOf, compactStoresOf};
 ghost use Rattle.format.specs.Stopped.{CompactLeaves, CompactStoresLeaves};

@@ -104,8 +104,9 @@ module _ (r : Rules) (prog : ℕ) (w : Bool) (x : List ℕ) where
       pub verdict-room : 4 ≤ prog → at + checkLength ≤ length x
       verdict-room h = omega (arith, rounded prog at h .0, fits)
 
--- ---- what the function answers and leaves, by its tests: x is whether the log is regular by r, the rule that was asked
--- for, e stands behind the entries with the block b, z is the rounded end, ct the check tag, y whether it coincides
+-- ---- what the function answers and leaves, by its tests: r is the rule that was asked for, x whether the log is
+-- regular by it, e stands behind the entries with the block b, z is the rounded end, ct the check tag, y whether it
+-- coincides
 abbrev pub Answered : ℕ → List ℕ → CompactVerdict → Stored → List ℕ → Type 0
 Answered n new v r b = (r ≡ compactMade n v) × (b ≡ renewedTo n new v)
 
@@ -152,7 +153,8 @@ module _ (prog : ℕ) (old new : List ℕ) (dir : LfsMdir) (n : ℕ) (w : Renewa
       rounded-is = ez ∙ ap (roundedEnd prog) end-is
 
       pub renew-full : length old < z → Answered n new v (stored.Refused NoSpace) b
-      renew-full h = refuses n new b v NoSpace (verdict-full (rulesOf rules) prog false old ruled (rw (← rounded-is) h)) same
+      renew-full h = refuses n new b v NoSpace (verdict-full (rulesOf rules) prog false old ruled (rw (← rounded-is) h))
+          same
 
       module _ (hz : z ≤ length old) (ct : ℕ) (ect : ct ≡ checkTag (checkSize prog (e .end))) (y : Bool)
           (ey : y ≡ meets (e .sum) (bitXor ct (e .prev))) where
@@ -162,7 +164,8 @@ module _ (prog : ℕ) (old new : List ℕ) (dir : LfsMdir) (n : ℕ) (w : Renewa
         tag-is : ct ≡ checkTag (checkSize prog (at (rulesOf rules) prog false old))
         tag-is = ect ∙ ap (λ (k : ℕ). checkTag (checkSize prog k)) end-is
 
-        coincides-is : coincides (crc allOnes (toLe32 (next (rulesOf rules) prog false old))) allOnes (compactionItems (log old))
+        coincides-is : coincides (crc allOnes (toLe32 (next (rulesOf rules) prog false old))) allOnes (compactionItems
+            (log old))
             (checkTag (checkSize prog (at (rulesOf rules) prog false old))) ≡ y
         coincides-is =
             sym (ey ∙ measured-meets rev (compactionItems (log old)) s e es b new ee ct ∙ rw (next-is, tag-is))

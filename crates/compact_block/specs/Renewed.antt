@@ -40,7 +40,8 @@ pub record Renewable (prog : ℕ) (old new : List ℕ) (dir : LfsMdir) : Type 0 
   pub long : length new ≡ length old
   pub recorded : Recorded old dir
 
--- and what the second pass asks: a log that is regular, by littlefs's rule, the wider one, and whose entries fit the other block
+-- and what the second pass asks: a log that is regular, by littlefs's rule, the wider one, and whose entries fit the
+-- other block
 pub record Writable (old new : List ℕ) (dir : LfsMdir) : Type 0 where
   pub recorded : Recorded old dir
   pub regular : Regular Littlefs (log old) ≡ true

@@ -1,6 +1,7 @@
 -- Document 01: "a simple directory machine: slots inserted, removed, attributes set". The directory of a log is what
 -- its entries make of an empty one. It is one machine for both rules: what is set in a slot that is not there makes it,
--- which in a log that is regular by document 01 never happens, and by littlefs's rule for a name alone. Assumes nothing.
+-- which in a log that is regular by document 01 never happens, and by littlefs's rule for a name alone. Assumes
+-- nothing.
 use mathlib.Core.Bool.{Bool, cond}
 use mathlib.Core.Option.{Option, none, some}
 use mathlib.Core.List.{List, [], _∷_, _++_, reverse}

@@ -63,9 +63,9 @@ countAfter forward c = c
 countAfter bad c = c
 
 -- ---- littlefs's rule
--- "The same, but as long as no create or delete has come, a name (0x001, 0x002, 0x0ff) with an id at or above the count,
--- and at most 1,022, first raises the count to id + 1; the slots in between are made, empty." So names may make slots
--- from the beginning of a log, or never.
+-- "The same, but as long as no create or delete has come, a name (0x001, 0x002, 0x0ff) with an id at or above the
+-- count, and at most 1,022, first raises the count to id + 1; the slots in between are made, empty." So names may make
+-- slots from the beginning of a log, or never.
 abbrev pub grows : Rules → Bool
 grows Document = false
 grows Littlefs = true

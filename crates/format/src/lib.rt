@@ -57,8 +57,8 @@ pub struct Entry {
     pub len: u32,
 }
 
-// Which logs are regular: by document 01's rule alone, or by littlefs's too. littlefs's own compaction writes no creates:
-// there the names alone make the slots.
+// Which logs are regular: by document 01's rule alone, or by littlefs's too. littlefs's own compaction writes no
+// creates: there the names alone make the slots.
 pub enum Rules {
     Document,
     Littlefs,

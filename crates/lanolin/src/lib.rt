@@ -37,8 +37,8 @@ pub extern "C" fn lanolin_commit(
     entries: &[Entry],
     dat: &[u8],
 ) -> CommittedOut
-    ensures { λ r. ⌜ (r ≡ committedOut seed (commitOf g (now (b0 .entry)) (now (b1 .entry)) n0 n1 «block_count» seed rules
-        (now (entries .entry)) (now (dat .entry))))
+    ensures { λ r. ⌜ (r ≡ committedOut seed (commitOf g (now (b0 .entry)) (now (b1 .entry)) n0 n1 «block_count» seed
+        rules (now (entries .entry)) (now (dat .entry))))
         × CommitLeaves g (now (b0 .entry)) (now (b1 .entry)) n0 n1 «block_count» seed rules
         (now (entries .entry)) (now (dat .entry)) (now (b0 .exit)) (now (b1 .exit)) ⌝ }
 {

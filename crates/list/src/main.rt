@@ -23,7 +23,9 @@ fn main() {
             show(prog_size, numbers, rules, &pair[..n]);
         }
         Request::Unclear => {
-            text_print::usage(b"usage: list [PROG_SIZE A B [RULES]], both images on standard input\n");
+            text_print::usage(
+                b"usage: list [PROG_SIZE A B [RULES]], both images on standard input\n",
+            );
         }
     }
 }

@@ -7,7 +7,8 @@ use text_args::Request;
 
 // Room for every text. Of what the walk meets a check with one byte behind it shows most for its length, a line of 71
 // bytes and one of 67 for five; so every byte of a block shows less than 28. The other lines of a block have less than
-// 300 bytes, and the last line has at most 30. A function of its own, so that no proof but its own sees so long an array.
+// 300 bytes, and the last line has at most 30. A function of its own, so that no proof but its own sees so long an
+// array.
 fn room() -> [u8; 1_836_000] {
     [0u8; 1_836_000]
 }

@@ -14,7 +14,7 @@ use Rattle.format.specs.Crc.{crc}
 use Rattle.format.specs.Log.{log, logEnd, logEndTag}
 use Rattle.format.specs.Record.{countOf}
 use Rattle.format.specs.Fetch.{fetchOf}
-use Rattle.format.specs.Regular.{Regular}
+use Rattle.format.specs.Regular.{Regular, rulesFit, rulesOf}
 use Rattle.format.specs.Commit.{Item, checkTag}
 use Rattle.format.specs.Stores.{coincides}
 use Rattle.format.specs.Entries.{itemsOf, good, judge}
@@ -37,15 +37,15 @@ module _ (g : Geometry) (b0 b1 : List ℕ) (n0 n1 count seed rules : ℕ) (entri
   -- b is the block that answers
   pub record CommitConditions (second : Bool) (b : List ℕ) (is : List Item) (size : ℕ) : Type 0 where
     -- not -22: no "size or number above is broken"
-    pub fits : commitFits g (length b0) (length b1) n0 n1 (length entries) (length dat) ≡ true
+    pub fits : commitFits g (length b0) (length b1) n0 n1 rules (length entries) (length dat) ≡ true
     -- none of "fetch's own refusals"
     pub dir : LfsMdir
     pub read : ℕ
     pub found : fetchOf g b0 b1 n0 n1 count seed ≡ fetched.Found dir read
     pub place : isSecond n0 dir ≡ second
     pub block : b ≡ blockAt second b0 b1
-    -- not -202: "the committed log" is "regular"
-    pub regular : Regular (log b) ≡ true
+    -- not -202: "the committed log" is "regular", by the rule that was asked for
+    pub regular : Regular (rulesOf rules) (log b) ≡ true
     -- not -201: no entry "is bad", from the record's count on
     pub slots : ℕ
     pub judged : judge dat 0 (countOf 0 (log b)) entries ≡ good slots
@@ -66,7 +66,8 @@ alike : (g : Geometry) (b0 b1 : List ℕ) (n0 n1 count seed rules : ℕ) (entrie
     → CommitConditions g b0 b1 n0 n1 count seed rules entries dat v (blockAt v b0 b1) js l
 alike g b0 b1 n0 n1 count seed rules entries dat w v is js k l e f h c = rw (← e, ← f, ← h) c
 
-module _ (g : Geometry) (b0 b1 : List ℕ) (n0 n1 count seed rules : ℕ) (entries : List Entry) (dat : List ℕ) (second : Bool)
+module _ (g : Geometry) (b0 b1 : List ℕ) (n0 n1 count seed rules : ℕ) (entries : List Entry) (dat : List ℕ) (second :
+    Bool)
     (is : List Item) (size : ℕ) where
   abbrev prog : ℕ
   prog = g .«prog_size»
@@ -75,15 +76,17 @@ module _ (g : Geometry) (b0 b1 : List ℕ) (n0 n1 count seed rules : ℕ) (entri
       → CommitConditions g b0 b1 n0 n1 count seed rules entries dat second (blockAt second b0 b1) is size
   unfolding verdictOf appended placed
   conditions h =
-      let p = past (not (commitFits g (length b0) (length b1) n0 n1 (length entries) (length dat))) Invalid _ second is
+      let p = past (not (commitFits g (length b0) (length b1) n0 n1 rules (length entries) (length dat))) Invalid _
+      second is
       size h in
       let f = found-then (fetchOf g b0 b1 n0 n1 count seed)
-      (λ m. appended prog (isSecond n0 m) (blockAt (isSecond n0 m) b0 b1) (log (blockAt (isSecond n0 m) b0 b1)) entries
+      (λ m. appended (rulesOf rules) prog (isSecond n0 m) (blockAt (isSecond n0 m) b0 b1) (log (blockAt (isSecond n0 m)
+      b0 b1)) entries
       dat) second is size (p .1) in
       let w : Bool = isSecond n0 (f .m) in
       let b : List ℕ = blockAt (isSecond n0 (f .m)) b0 b1 in
       let I : List Item = itemsOf dat entries in
-      let q = past (not (Regular (log b))) Irregular _ second is size (f .then) in
+      let q = past (not (Regular (rulesOf rules) (log b))) Irregular _ second is size (f .then) in
       let j = good-then (judge dat 0 (countOf 0 (log b)) entries) _ second is size (q .1) in
       let r = past (ltb (length b) (roundedEnd prog (checkAt (log b) I))) NoSpace _ second is size (j .then) in
       let c = past-room (roomOf prog b (logEnd (log b)) (logEndTag (log b))) _ second is size (r .1) in
@@ -92,7 +95,8 @@ module _ (g : Geometry) (b0 b1 : List ℕ) (n0 n1 count seed rules : ℕ) (entri
       let place : isSecond n0 (f .m) ≡ second = cc in
       let items : I ≡ is = cc in
       let check : checkSize prog (checkAt (log b) I) ≡ size = cc in
-      alike g b0 b1 n0 n1 count seed rules entries dat w second I is (checkSize prog (checkAt (log b) I)) size place items
+      alike g b0 b1 n0 n1 count seed rules entries dat w second I is (checkSize prog (checkAt (log b) I)) size place
+      items
       check
       (record {
         fits = not-false _ (p .0);
@@ -136,14 +140,15 @@ module _ (g : Geometry) (b0 b1 : List ℕ) (n0 n1 count seed rules : ℕ) (entri
 module _ (g : Geometry) (b0 b1 : List ℕ) (n0 n1 count seed rules : ℕ) where
   -- b is the block that answers
   pub record CompactConditions (second : Bool) (b : List ℕ) (rev : ℕ) (is : List Item) (size : ℕ) : Type 0 where
-    -- not -22, and none of fetch's own refusals
+    -- not -22: the rule is one of the two; and none of fetch's own refusals
+    pub ruled : rulesFit rules ≡ true
     pub dir : LfsMdir
     pub read : ℕ
     pub found : fetchOf g b0 b1 n0 n1 count seed ≡ fetched.Found dir read
     pub place : isSecond n0 dir ≡ second
     pub block : b ≡ blockAt second b0 b1
-    -- not -202
-    pub regular : Regular (log b) ≡ true
+    -- not -202, by the rule that was asked for
+    pub regular : Regular (rulesOf rules) (log b) ≡ true
     -- not -28
     pub room : ltb (length b) (roundedEnd (g .«prog_size») (compactCheckAt is)) ≡ false
     -- not -204
@@ -153,7 +158,8 @@ module _ (g : Geometry) (b0 b1 : List ℕ) (n0 n1 count seed rules : ℕ) where
     pub items : is ≡ compactionItems (log b)
     pub check : size ≡ checkSize (g .«prog_size») (compactCheckAt is)
 
-alike-anew : (g : Geometry) (b0 b1 : List ℕ) (n0 n1 count seed rules : ℕ) (w v : Bool) (r s : ℕ) (is js : List Item) (k l : ℕ)
+alike-anew : (g : Geometry) (b0 b1 : List ℕ) (n0 n1 count seed rules : ℕ) (w v : Bool) (r s : ℕ) (is js : List Item) (k
+    l : ℕ)
     → w ≡ v → r ≡ s → is ≡ js → k ≡ l
     → CompactConditions g b0 b1 n0 n1 count seed rules w (blockAt w b0 b1) r is k
     → CompactConditions g b0 b1 n0 n1 count seed rules v (blockAt v b0 b1) s js l
@@ -166,13 +172,14 @@ module _ (g : Geometry) (b0 b1 : List ℕ) (n0 n1 count seed rules : ℕ) (secon
   unfolding compactVerdict compactable placedAnew
   compact-conditions h =
       let p : ℕ = g .«prog_size» in
-      let f = anew.found-then p b0 b1 n0 (fetchOf g b0 b1 n0 n1 count seed) second rev is size h in
-      let t : compactable p (isSecond n0 (f .0)) (blockAt (isSecond n0 (f .0)) b0 b1)
-      (log (blockAt (isSecond n0 (f .0)) b0 b1)) ≡ compactAccepted second rev is size = rw (f .2) at h in
+      let k = anew.past (not (rulesFit rules)) Invalid _ second rev is size h in
+      let f = anew.found-then (rulesOf rules) p b0 b1 n0 (fetchOf g b0 b1 n0 n1 count seed) second rev is size (k .1) in
+      let t : compactable (rulesOf rules) p (isSecond n0 (f .0)) (blockAt (isSecond n0 (f .0)) b0 b1)
+      (log (blockAt (isSecond n0 (f .0)) b0 b1)) ≡ compactAccepted second rev is size = rw (f .2) at (k .1) in
       let b : List ℕ = blockAt (isSecond n0 (f .0)) b0 b1 in
       let I : List Item = compactionItems (log b) in
       let R : ℕ = plus32 (le32 b) 1 in
-      let q = anew.past (not (Regular (log b))) Irregular _ second rev is size t in
+      let q = anew.past (not (Regular (rulesOf rules) (log b))) Irregular _ second rev is size t in
       let r = anew.past (ltb (length b) (roundedEnd p (compactCheckAt I))) NoSpace _ second rev is size (q .1) in
       let l = anew.past (coincides (crc allOnes (toLe32 R)) allOnes I (checkTag (checkSize p (compactCheckAt I))))
       Coincidence _ second rev is size (r .1) in
@@ -180,9 +187,11 @@ module _ (g : Geometry) (b0 b1 : List ℕ) (n0 n1 count seed rules : ℕ) (secon
       let next : R ≡ rev = cc in
       let items : I ≡ is = cc in
       let check : checkSize p (compactCheckAt I) ≡ size = cc in
-      alike-anew g b0 b1 n0 n1 count seed rules (isSecond n0 (f .0)) second R rev I is (checkSize p (compactCheckAt I)) size
+      alike-anew g b0 b1 n0 n1 count seed rules (isSecond n0 (f .0)) second R rev I is (checkSize p (compactCheckAt I))
+      size
       place next items check
       (record {
+        ruled = not-false _ (k .0);
         dir = f .0;
         read = f .1;
         found = f .2;
@@ -199,7 +208,18 @@ module _ (g : Geometry) (b0 b1 : List ℕ) (n0 n1 count seed rules : ℕ) (secon
   compact-accepts : CompactConditions g b0 b1 n0 n1 count seed rules second (blockAt second b0 b1) rev is size
       → compactVerdict g b0 b1 n0 n1 count seed rules ≡ compactAccepted second rev is size
   unfolding compactVerdict compactable placedAnew
-  compact-accepts c = rw (c .found, c .place, c .regular, ← c .items, ← c .next, c .room, ← c .check, c .lucky)
+  compact-accepts c = rw (
+    c .ruled,
+    c .found,
+    c .place,
+    c .regular,
+    ← c .items,
+    ← c .next,
+    c .room,
+    ← c .check,
+    c
+        .lucky,
+  )
 
   pub compact-accepted-exactly : (compactVerdict g b0 b1 n0 n1 count seed rules ≡ compactAccepted second rev is size)
       ↔ CompactConditions g b0 b1 n0 n1 count seed rules second (blockAt second b0 b1) rev is size

@@ -42,6 +42,8 @@ module _ (g : Geometry) (b0 b1 : List ℕ) (n0 n1 count seed : ℕ) where
   pub fetch-decided : Decides (fetchOf g b0 b1 n0 n1 count seed)
   fetch-decided = decided (fetchOf g b0 b1 n0 n1 count seed)
 
+-- whatever number the rule has
+module _ (g : Geometry) (b0 b1 : List ℕ) (n0 n1 count seed rules : ℕ) where
   module _ (entries : List Entry) (dat : List ℕ) where
     abbrev left : ℕ → Images
     left n = commitImages g b0 b1 n0 n1 count seed rules entries dat n
@@ -50,7 +52,11 @@ module _ (g : Geometry) (b0 b1 : List ℕ) (n0 n1 count seed : ℕ) where
         × BothDecided (CommitLeaves g b0 b1 n0 n1 count seed rules entries dat)
     commit-decided = (
       decided (commitOf g b0 b1 n0 n1 count seed rules entries dat),
-      λ x0 x1 y0 y1 a b. (decided (left unlimited .b0) x0 y0 (a .0) (b .0), decided (left unlimited .b1) x1 y1 (a .1) (b .1)),
+      λ x0 x1 y0 y1 a b. (
+        decided (left unlimited .b0) x0 y0 (a .0) (b .0),
+        decided (left unlimited .b1) x1 y1 (a .1) (b
+            .1),
+      ),
     )
 
     pub commit-stores-decided : (n : ℕ) → Decides (commitStoresOf g b0 b1 n0 n1 count seed rules entries dat n)
@@ -114,14 +120,16 @@ TextDecided out text = Decides (length text) × Decides (writtenTo out text)
 text-decided : (out text : List ℕ) → TextDecided out text
 text-decided out text = (decided (length text), decided (writtenTo out text))
 
-pub list-as-decided : (prog : ℕ) (p : LfsPair) (input out : List ℕ) → TextDecided out (listingAs prog p input)
-list-as-decided prog p input out = text-decided out (listingAs prog p input)
+pub list-as-decided : (prog : ℕ) (p : LfsPair) (rules : ℕ) (input out : List ℕ)
+    → TextDecided out (listingAs prog p rules input)
+list-as-decided prog p rules input out = text-decided out (listingAs prog p rules input)
 
 pub list-decided : (input out : List ℕ) → TextDecided out (listingOf input)
 list-decided input out = text-decided out (listingOf input)
 
-pub audit-as-decided : (prog : ℕ) (p : LfsPair) (input out : List ℕ) → TextDecided out (auditAs prog p input)
-audit-as-decided prog p input out = text-decided out (auditAs prog p input)
+pub audit-as-decided : (prog : ℕ) (p : LfsPair) (rules : ℕ) (input out : List ℕ)
+    → TextDecided out (auditAs prog p rules input)
+audit-as-decided prog p rules input out = text-decided out (auditAs prog p rules input)
 
 pub audit-decided : (input out : List ℕ) → TextDecided out (auditOf input)
 audit-decided input out = text-decided out (auditOf input)

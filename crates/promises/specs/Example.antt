@@ -21,11 +21,11 @@ use Rattle.format.specs.Fetch.{geometryFits, pairFits, tooHigh, erasedOf, mdirO
 use Rattle.format.specs.Back.{backs, back}
 use Rattle.format.specs.Look.{maskType3, asIds, splicedAt, wlook}
 use Rattle.format.specs.Lookup.{recordFits, searched, getsliceFits, getsliceBuffer}
-use Rattle.format.specs.Regular.{ruleOf, ruleHolds, countAfter, regularFrom, Regular}
+use Rattle.format.specs.Regular.{ruleOf, ruleHolds, countAfter, growsAfter, countRaised, regularFrom, Regular}
 use Rattle.format.specs.Commit.{commitBytes, written}
 use Rattle.format.specs.Stores.{erased, allErased, fill, entriesLength, appending, coincides, compactBytes, compacting}
 use Rattle.format.specs.Entries.{entryBody, judge, itemsOf}
-use Rattle.format.specs.Directory.{empty, upd, dir, apply, applyAll, act, acts, dirOf, moveOf}
+use Rattle.format.specs.Directory.{empty, upd, dir, reaching, apply, applyAll, act, acts, dirOf, moveOf}
 use Rattle.format.specs.Room.{roomOf}
 use Rattle.format.specs.Writer.{unlimited, roundedEnd, checkSize, commitFits, placed, appended, accepted}
 use Rattle.format.specs.Writer.{verdictOf, Images, commitImages}
@@ -33,6 +33,7 @@ use Rattle.format.specs.Compaction.{slotItems, dirItems, compactionItems, place
 use Rattle.format.specs.Compaction.{compactVerdict, compactImages}
 use Rattle.format.specs.Machine.{machineOf, ran, asked, name, attribute}
 use Rattle.format.specs.Stopped.{Bytes, Stopped}
+use Rattle.format.specs.declared.Rules.the-variants.{Document}
 use Rattle.format.specs.declared.Geometry.{Geometry}
 use Rattle.format.specs.declared.LfsGstate.{LfsGstate}
 use Rattle.format.specs.declared.Entry.{Entry}
@@ -102,58 +103,65 @@ upTo zero = zero ∷ []
 upTo (suc n) = upTo n ++ (suc n ∷ [])
 
 -- 16 stores: after each of the first 15 the old deadline, after the last the new one
-pub commit-cut : map (λ n. seen (commitImages geometry first second 0 1 0 0 (deadline ∷ []) hour n)) (upTo 17)
+pub commit-cut : map (λ n. seen (commitImages geometry first second 0 1 0 0 0 (deadline ∷ []) hour n)) (upTo 17)
     ≡ replicate 16 old ++ replicate 2 (record { block = 0; rev = 1; end = 64; due = hour })
 unfolding upTo seenBy commitImages verdictOf commitFits pairFits geometryFits fetchOf tooHigh view rank log committed
     walk walkFrom walkIn classOf readBehind bodyLength tagLength tagFlipped be32 le32 toBe32 toLe32 xor crc crcByte
     crcBits crcBit mdirOf erasedOf stoppedStraight span eventLength tagAfter countOf counted splitOf tailOf forwardOf
-    seedOf appended Regular regularFrom ruleOf ruleHolds countAfter judge entryBody placed roundedEnd checkSize
+    seedOf appended Regular regularFrom ruleOf ruleHolds countAfter growsAfter countRaised judge entryBody placed
+    roundedEnd checkSize
     roomOf allErased coincides fill entriesLength tagOf appending commitBytes getsliceBuffer getsliceFits recordFits
     searched back backs wlook splicedAt asIds
 commit-cut = refl
 
 -- 40 stores, the first the erase: after each of the first 39 the old pair, after the last the second block with the
 -- next revision
-pub compaction-cut : map (λ n. seen (compactImages geometry first second 0 1 0 0 n)) (upTo 41)
+pub compaction-cut : map (λ n. seen (compactImages geometry first second 0 1 0 0 0 n)) (upTo 41)
     ≡ replicate 40 old ++ replicate 2 (record { block = 1; rev = 2; end = 48; due = day })
 unfolding upTo seenBy compactImages compactVerdict compactable placedAnew compacting compactBytes compactionItems
-    dirItems slotItems dirOf dir acts act apply upd empty moveOf verdictOf commitFits pairFits geometryFits fetchOf
+    dirItems slotItems dirOf dir acts act apply reaching upd empty moveOf verdictOf commitFits pairFits geometryFits
+    fetchOf
     tooHigh view rank log committed walk walkFrom walkIn classOf readBehind bodyLength tagLength tagFlipped be32 le32
     toBe32 toLe32 xor crc crcByte crcBits crcBit mdirOf erasedOf stoppedStraight span eventLength tagAfter countOf
-    counted splitOf tailOf forwardOf seedOf appended Regular regularFrom ruleOf ruleHolds countAfter judge entryBody
+    counted splitOf tailOf forwardOf seedOf appended Regular regularFrom ruleOf ruleHolds countAfter growsAfter
+    countRaised judge entryBody
     placed roundedEnd checkSize roomOf allErased coincides fill entriesLength tagOf appending commitBytes
     getsliceBuffer getsliceFits recordFits searched back backs wlook splicedAt asIds
 compaction-cut = refl
 
 -- both are accepted, so `commit-stopped` and `compact-stopped` speak of them
-pub takes-commit : verdictOf geometry first second 0 1 0 0 (deadline ∷ []) hour
+pub takes-commit : verdictOf geometry first second 0 1 0 0 0 (deadline ∷ []) hour
     ≡ accepted false (itemsOf hour (deadline ∷ [])) 4
 unfolding verdictOf commitFits pairFits geometryFits fetchOf tooHigh view rank log committed walk walkFrom walkIn
     classOf readBehind bodyLength tagLength tagFlipped be32 le32 toBe32 toLe32 xor crc crcByte crcBits crcBit mdirOf
     erasedOf stoppedStraight span eventLength tagAfter countOf counted splitOf tailOf forwardOf seedOf appended Regular
-    regularFrom ruleOf ruleHolds countAfter judge entryBody placed roundedEnd checkSize roomOf allErased coincides
+    regularFrom ruleOf ruleHolds countAfter growsAfter countRaised judge entryBody placed roundedEnd checkSize roomOf
+    allErased coincides
     fill entriesLength tagOf appending commitBytes getsliceBuffer getsliceFits recordFits searched back backs wlook
     splicedAt asIds
 takes-commit = refl
 
-pub takes-compaction : compactVerdict geometry first second 0 1 0 0 ≡ compactAccepted false 2
+pub takes-compaction : compactVerdict geometry first second 0 1 0 0 0 ≡ compactAccepted false 2
     (compactionItems (log first)) 13
-unfolding compactVerdict compactable placedAnew compactionItems dirItems slotItems dirOf dir acts act apply upd empty
+unfolding compactVerdict compactable placedAnew compactionItems dirItems slotItems dirOf dir acts act apply reaching upd
+    empty
     moveOf verdictOf commitFits pairFits geometryFits fetchOf tooHigh view rank log committed walk walkFrom walkIn
     classOf readBehind bodyLength tagLength tagFlipped be32 le32 toBe32 toLe32 xor crc crcByte crcBits crcBit mdirOf
     erasedOf stoppedStraight span eventLength tagAfter countOf counted splitOf tailOf forwardOf seedOf appended Regular
-    regularFrom ruleOf ruleHolds countAfter judge entryBody placed roundedEnd checkSize roomOf allErased coincides
+    regularFrom ruleOf ruleHolds countAfter growsAfter countRaised judge entryBody placed roundedEnd checkSize roomOf
+    allErased coincides
     fill entriesLength tagOf appending commitBytes getsliceBuffer getsliceFits recordFits searched back backs wlook
     splicedAt asIds
 takes-compaction = refl
 
 -- so of the commit: whatever n, the finished images or the old reading; and what the finished pair holds
 pub commit-example : (n : ℕ)
-    → Stopped geometry 0 1 first second (commitImages geometry first second 0 1 0 0 (deadline ∷ []) hour n .b0)
-    (commitImages geometry first second 0 1 0 0 (deadline ∷ []) hour n .b1)
-    (commitImages geometry first second 0 1 0 0 (deadline ∷ []) hour unlimited)
+    → Stopped geometry 0 1 Document Document first second (commitImages geometry first second 0 1 0 0 0 (deadline ∷ [])
+    hour n .b0)
+    (commitImages geometry first second 0 1 0 0 0 (deadline ∷ []) hour n .b1)
+    (commitImages geometry first second 0 1 0 0 0 (deadline ∷ []) hour unlimited)
     (machineOf (log first)) (ran (machineOf (log first)) (written (itemsOf hour (deadline ∷ [])) []))
-commit-example n = commit-stopped geometry first second 0 1 0 0 (deadline ∷ []) hour n false
+commit-example n = commit-stopped geometry first second 0 1 0 0 0 (deadline ∷ []) hour n false
     (itemsOf hour (deadline ∷ [])) 4 takes-commit
 
 -- which is the new deadline, and the name of before
@@ -161,7 +169,8 @@ pub holds-the-hour : (asked (ran (machineOf (log first)) (written (itemsOf hour 
     ≡ some (record { type = 0x374; bytes = hour }))
     × (asked (ran (machineOf (log first)) (written (itemsOf hour (deadline ∷ [])) [])) (name 0)
     ≡ some (record { type = 0x001; bytes = 0x71 ∷ 0x32 ∷ 0x31 ∷ 0x32 ∷ [] }))
-unfolding written dirOf dir acts act apply applyAll upd empty log committed walk walkFrom walkIn classOf readBehind
+unfolding written dirOf dir acts act apply reaching applyAll upd empty log committed walk walkFrom walkIn classOf
+    readBehind
     bodyLength tagLength tagFlipped be32 le32 xor crc crcByte crcBits crcBit entryBody tagOf
 holds-the-hour = (refl, refl)
 
@@ -181,15 +190,15 @@ unfolding allBytes
 are-bytes = (refl, refl)
 
 pub compaction-example : (n : ℕ)
-    → Stopped geometry 0 1 first second (compactImages geometry first second 0 1 0 0 n .b0)
-    (compactImages geometry first second 0 1 0 0 n .b1) (compactImages geometry first second 0 1 0 0 unlimited)
+    → Stopped geometry 0 1 Document Document first second (compactImages geometry first second 0 1 0 0 0 n .b0)
+    (compactImages geometry first second 0 1 0 0 0 n .b1) (compactImages geometry first second 0 1 0 0 0 unlimited)
     (machineOf (log first)) (machineOf (log first))
 compaction-example n =
-    compact-stopped geometry first second 0 1 0 0 n (bytes-of first (are-bytes .0)) (bytes-of second (are-bytes .1))
+    compact-stopped geometry first second 0 1 0 0 0 n (bytes-of first (are-bytes .0)) (bytes-of second (are-bytes .1))
     false 2 (compactionItems (log first)) 13 takes-compaction
 
 abbrev stopped : Images
-stopped = commitImages geometry first second 0 1 0 0 (deadline ∷ []) hour 10
+stopped = commitImages geometry first second 0 1 0 0 0 (deadline ∷ []) hour 10
 
 -- A restart fetches from a seed of its own, and with the block count that it knows: stopped after ten stores, the pair
 -- is found with the old end and the old deadline from the seed 7 and with two blocks.
@@ -197,7 +206,8 @@ pub other-seed : seenBy (stopped .b0) (stopped .b1) (fetchOf geometry (stopped .
 unfolding seenBy commitImages verdictOf commitFits pairFits geometryFits fetchOf tooHigh view rank log committed walk
     walkFrom walkIn classOf readBehind bodyLength tagLength tagFlipped be32 le32 toBe32 toLe32 xor crc crcByte crcBits
     crcBit mdirOf erasedOf stoppedStraight span eventLength tagAfter countOf counted splitOf tailOf forwardOf seedOf
-    appended Regular regularFrom ruleOf ruleHolds countAfter judge entryBody placed roundedEnd checkSize roomOf
+    appended Regular regularFrom ruleOf ruleHolds countAfter growsAfter countRaised judge entryBody placed roundedEnd
+    checkSize roomOf
     allErased coincides fill entriesLength tagOf appending commitBytes getsliceBuffer getsliceFits recordFits searched
     back backs wlook splicedAt asIds
 other-seed = refl

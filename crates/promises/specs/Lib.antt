@@ -16,6 +16,8 @@ pub mod PossibleWrites
 pub mod Numbers
 -- What a found answer's length and place say.
 pub mod FoundEntry
+-- Document 01's rule and littlefs's, by which a log is regular.
+pub mod Rules
 -- The directory machine, and demand 3.
 pub mod Directory
 pub mod Stopped

@@ -245,6 +245,7 @@ module _ (g : Geometry) (b0 b1 : List ℕ) (n0 n1 count seed : ℕ) where
   pub fetch-told : FetchedTold seed (fetchOf g b0 b1 n0 n1 count seed)
   fetch-told = fetched-determined seed _ (fetch-possible g b0 b1 n0 n1 count seed)
 
+module _ (g : Geometry) (b0 b1 : List ℕ) (n0 n1 count seed rules : ℕ) where
   pub commit-told : (entries : List Entry) (dat : List ℕ)
       → CommittedTold seed (commitOf g b0 b1 n0 n1 count seed rules entries dat)
   commit-told entries dat =

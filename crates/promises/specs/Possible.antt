@@ -76,7 +76,7 @@ pub data CommitRefuses : Refusal → Type 0 where
   commit213 : {at : ℕ} → CommitRefuses (NotErased at)
   commit204 : CommitRefuses Coincidence
 
--- "Compaction: the same without -201 and -203." Its -22 is fetch's.
+-- "Compaction: the same without -201 and -203." Its -22 is fetch's, or of a rule that is neither of the two.
 pub data CompactRefuses : Refusal → Type 0 where
   compactFetch : {r : Refusal} → FetchRefuses r → CompactRefuses r
   compact202 : CompactRefuses Irregular

@@ -12,7 +12,8 @@ use Rattle.format.specs.Walk.{Event}
 use Rattle.format.specs.Log.{log, logEnd, logEndTag}
 use Rattle.format.specs.Record.{countOf}
 use Rattle.format.specs.Fetch.{fetchOf}
-use Rattle.format.specs.Regular.{Regular}
+use Rattle.format.specs.Regular.{Regular, rulesFit, rulesOf}
+use Rattle.format.specs.declared.Rules.{Rules}
 use Rattle.format.specs.Commit.{Item, checkTag}
 use Rattle.format.specs.Stores.{allErased, coincides}
 use Rattle.format.specs.Entries.{itemsOf, Judged, bad, good, judge}
@@ -32,7 +33,7 @@ use Rattle.format.specs.declared.Fetched.{Fetched}
 use Rattle.format.specs.declared.Fetched.the-variants as fetched
 use Rattle.promises.specs.Possible.{CommitRefuses, commit22, commitFetch, commit202, commit201, commit28}
 use Rattle.promises.specs.Possible.{commit211, commit212, commit213, commit204}
-use Rattle.promises.specs.Possible.{CompactRefuses, compactFetch, compact202, compact28, compact204}
+use Rattle.promises.specs.Possible.{CompactRefuses, compactFetch, compact202, compact28, compact204, fetch22}
 use Rattle.promises.specs.Possible.{CommittedOr, StoredOr, through, Fetches, fetch-possible}
 
 -- ---- commit: a verdict that is no refusal, or one of these
@@ -68,11 +69,11 @@ placed-possible prog second b es is =
     (room-then (roomOf prog b (logEnd es) (logEndTag es)) _ (room-possible prog b (logEnd es) (logEndTag es))
     (through Commits (coincides allOnes (logEndTag es) is (checkTag (checkSize prog (checkAt es is)))) commit204 tt))
 
-appended-possible : (prog : ℕ) (second : Bool) (b : List ℕ) (es : List Event) (entries : List Entry) (dat : List ℕ)
-    → Commits (appended prog second b es entries dat)
+appended-possible : (r : Rules) (prog : ℕ) (second : Bool) (b : List ℕ) (es : List Event) (entries : List Entry)
+    (dat : List ℕ) → Commits (appended r prog second b es entries dat)
 unfolding appended
-appended-possible prog second b es entries dat =
-    through Commits (not (Regular es)) commit202
+appended-possible r prog second b es entries dat =
+    through Commits (not (Regular r es)) commit202
     (judged-possible (judge dat 0 (countOf 0 es) entries) (placed prog second b es (itemsOf dat entries))
     (placed-possible prog second b es (itemsOf dat entries)))
 
@@ -104,19 +105,19 @@ anew-possible prog block second rev is =
     through Compacts (ltb block (roundedEnd prog (compactCheckAt is))) compact28
     (through Compacts (coincides (crc allOnes (toLe32 rev)) allOnes is check) compact204 tt)
 
-compactable-possible : (prog : ℕ) (second : Bool) (b : List ℕ) (es : List Event)
-    → Compacts (compactable prog second b es)
+compactable-possible : (r : Rules) (prog : ℕ) (second : Bool) (b : List ℕ) (es : List Event)
+    → Compacts (compactable r prog second b es)
 unfolding compactable
-compactable-possible prog second b es =
-    through Compacts (not (Regular es)) compact202
+compactable-possible r prog second b es =
+    through Compacts (not (Regular r es)) compact202
     (anew-possible prog (length b) second (plus32 (le32 b) 1) (compactionItems es))
 
-compact-fetched : (prog : ℕ) (b0 b1 : List ℕ) (n0 : ℕ) (f : Fetched) → Fetches f
-    → Compacts (compactFetched prog b0 b1 n0 f)
-compact-fetched prog b0 b1 n0 (fetched.Refused r) h = compactFetch h
-compact-fetched prog b0 b1 n0 (fetched.Found m s) h =
+compact-fetched : (r : Rules) (prog : ℕ) (b0 b1 : List ℕ) (n0 : ℕ) (f : Fetched) → Fetches f
+    → Compacts (compactFetched r prog b0 b1 n0 f)
+compact-fetched r prog b0 b1 n0 (fetched.Refused q) h = compactFetch h
+compact-fetched r prog b0 b1 n0 (fetched.Found m s) h =
     let b : List ℕ = blockAt (isSecond n0 m) b0 b1 in
-    compactable-possible prog (isSecond n0 m) b (log b)
+    compactable-possible r prog (isSecond n0 m) b (log b)
 
 compact-answer : (f : Fetched) (v : CompactVerdict) → Fetches f → Compacts v
     → CommittedOr CompactRefuses (compactAnswer f v)
@@ -130,13 +131,14 @@ compact-made n (compactAccepted second rev is size) h = tt
 
 -- ---- the four calls that write: without a limit of stores, and with one
 module _ (g : Geometry) (b0 b1 : List ℕ) (n0 n1 count seed rules : ℕ) where
-  verdict-possible : (entries : List Entry) (dat : List ℕ) → Commits (verdictOf g b0 b1 n0 n1 count seed rules entries dat)
+  verdict-possible : (entries : List Entry) (dat : List ℕ) → Commits (verdictOf g b0 b1 n0 n1 count seed rules entries
+      dat)
   unfolding verdictOf
   verdict-possible entries dat =
-      through Commits (not (commitFits g (length b0) (length b1) n0 n1 (length entries) (length dat))) commit22
+      through Commits (not (commitFits g (length b0) (length b1) n0 n1 rules (length entries) (length dat))) commit22
       (fetched-then (fetchOf g b0 b1 n0 n1 count seed) _ (fetch-possible g b0 b1 n0 n1 count seed)
       (λ m. let b : List ℕ = blockAt (isSecond n0 m) b0 b1 in
-      appended-possible (g .«prog_size») (isSecond n0 m) b (log b) entries dat))
+      appended-possible (rulesOf rules) (g .«prog_size») (isSecond n0 m) b (log b) entries dat))
 
   pub commit-possible : (entries : List Entry) (dat : List ℕ)
       → CommittedOr CommitRefuses (commitOf g b0 b1 n0 n1 count seed rules entries dat)
@@ -156,14 +158,16 @@ module _ (g : Geometry) (b0 b1 : List ℕ) (n0 n1 count seed rules : ℕ) where
   compact-verdict-possible : Compacts (compactVerdict g b0 b1 n0 n1 count seed rules)
   unfolding compactVerdict
   compact-verdict-possible =
-      compact-fetched (g .«prog_size») b0 b1 n0 (fetchOf g b0 b1 n0 n1 count seed)
-      (fetch-possible g b0 b1 n0 n1 count seed)
+      through Compacts (not (rulesFit rules)) (compactFetch fetch22)
+      (compact-fetched (rulesOf rules) (g .«prog_size») b0 b1 n0 (fetchOf g b0 b1 n0 n1 count seed)
+      (fetch-possible g b0 b1 n0 n1 count seed))
 
   pub compact-possible : CommittedOr CompactRefuses (compactOf g b0 b1 n0 n1 count seed rules)
   unfolding compactOf
   compact-possible =
       let after : Images = compactImages g b0 b1 n0 n1 count seed rules unlimited in
-      compact-answer (fetchOf g (after .b0) (after .b1) n0 n1 count seed) (compactVerdict g b0 b1 n0 n1 count seed rules)
+      compact-answer (fetchOf g (after .b0) (after .b1) n0 n1 count seed) (compactVerdict g b0 b1 n0 n1 count seed
+      rules)
       (fetch-possible g (after .b0) (after .b1) n0 n1 count seed) compact-verdict-possible
 
   pub compact-stores-possible : (n : ℕ) → StoredOr CompactRefuses (compactStoresOf g b0 b1 n0 n1 count seed rules n)

@@ -1,5 +1,5 @@
-// What a program is asked for: the program size, the two block numbers and the rule that its arguments name, or document
-// 01's own where it has none.
+// What a program is asked for: the program size, the two block numbers and the rule that its arguments name, or
+// document 01's own where it has none.
 ghost use mathlib.Core.Path.{_≡_};
 ghost use Rattle.text_args.specs.Number.{digitBehind, numberOf};
 use format::LfsPair;

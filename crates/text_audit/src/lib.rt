@@ -198,7 +198,13 @@ fn block_audit(out: &mut [u8], b: &[u8], m: LfsMdir, rules: u32) -> u32
 
 // Both images, one behind the other, the program size, the numbers of the two blocks and the rule, as the listing takes
 // them.
-pub fn lfs_dir_audit_as(prog_size: u32, numbers: LfsPair, rules: u32, input: &[u8], out: &mut [u8]) -> u32
+pub fn lfs_dir_audit_as(
+    prog_size: u32,
+    numbers: LfsPair,
+    rules: u32,
+    input: &[u8],
+    out: &mut [u8],
+) -> u32
     ensures { λ r. ⌜ r ≡ length (auditAs «prog_size» numbers rules (now (input .entry))) ⌝ }
     ensures { λ _. ⌜ now (out .exit)
         ≡ writtenTo (now (out .entry)) (auditAs «prog_size» numbers rules (now (input .entry))) ⌝ }

@@ -173,7 +173,8 @@ block-short : (r : Rules) (m : LfsMdir) (b : List ℕ) → length (blockText r m
 unfolding blockText
 block-short r m b = omega (arith, length-append (recordLines m) (dirLines r b), record-short m, dir-short r b)
 
-pub listing-short : (prog : ℕ) (p : LfsPair) (rules : ℕ) (input : List ℕ) → length (listingAs prog p rules input) < 2 ^ 32
+pub listing-short : (prog : ℕ) (p : LfsPair) (rules : ℕ) (input : List ℕ) → length (listingAs prog p rules input) < 2 ^
+    32
 listing-short prog p rules input =
     ruled-short rules (fetchedText (blockText (rulesOf rules)) p input (fetchInput prog p input))
     (fetched-short (blockText (rulesOf rules)) (λ m b. omega (arith, block-short (rulesOf rules) m b)) p input

@@ -194,10 +194,17 @@ fn block_text(out: &mut [u8], b: &[u8], m: LfsMdir, rules: u32) -> u32
 }
 
 // The listing of both images, one behind the other, as far as `out` has room; the program size, the numbers of the two
-// blocks and the rule by which the log must be regular are given: 0 or 1, "any other -22". The answer is the length of the whole text, so a caller whose buffer was too short knows how
-// long a one to lend. Fetch refuses two equal numbers, so the first number of the record says which half is listed. No
-// listing reaches 2^32 bytes, where `text`'s count would wrap.
-pub fn lfs_dir_list_as(prog_size: u32, numbers: LfsPair, rules: u32, input: &[u8], out: &mut [u8]) -> u32
+// blocks and the rule by which the log must be regular are given: 0 or 1, "any other -22". The answer is the length of
+// the whole text, so a caller whose buffer was too short knows how long a one to lend. Fetch refuses two equal numbers,
+// so the first number of the record says which half is listed. No listing reaches 2^32 bytes, where `text`'s count
+// would wrap.
+pub fn lfs_dir_list_as(
+    prog_size: u32,
+    numbers: LfsPair,
+    rules: u32,
+    input: &[u8],
+    out: &mut [u8],
+) -> u32
     ensures { λ r. ⌜ r ≡ length (listingAs «prog_size» numbers rules (now (input .entry))) ⌝ }
     ensures { λ _. ⌜ now (out .exit)
         ≡ writtenTo (now (out .entry)) (listingAs «prog_size» numbers rules (now (input .entry))) ⌝ }

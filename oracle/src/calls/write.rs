@@ -17,6 +17,10 @@ pub const TOP_BIT: i32 = -212;
 pub const NOT_ERASED: i32 = -213;
 pub const COINCIDENCE: i32 = -204;
 
+/// Which logs are regular: by document 01's rule, or by littlefs's beside it.
+pub const DOCUMENT: u32 = 0;
+pub const LITTLEFS: u32 = 1;
+
 /// `lanolin_entry`.
 #[repr(C)]
 #[derive(Clone, Copy, Debug, PartialEq, Eq)]
@@ -62,6 +66,8 @@ pub struct Task<'a> {
     pub numbers: [u32; 2],
     pub block_count: u32,
     pub seed: u32,
+    /// `DOCUMENT` or `LITTLEFS`; "any other number is -22".
+    pub rules: u32,
     pub work: Work<'a>,
     /// The limit of n stores, in the two calls that have one.
     pub stores: Option<u32>,

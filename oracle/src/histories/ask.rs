@@ -74,11 +74,13 @@ pub enum After {
     Refused,
     Finished,
     /// Cut short, or not: fetched before and at the end, and whether the
-    /// finished bytes are there already.
+    /// finished bytes are there already. If the history goes on from there, the
+    /// directory is read too.
     Cut {
         old: Fetched,
         new: Fetched,
         finished: bool,
+        goes_on: bool,
     },
 }
 
@@ -97,12 +99,13 @@ pub struct Step<'a> {
     pub types: &'a [u32],
 }
 
-pub fn task<'a>(case: &Case, work: Work<'a>, stores: Option<u32>) -> Task<'a> {
+pub fn task<'a>(case: &Case, rules: u32, work: Work<'a>, stores: Option<u32>) -> Task<'a> {
     Task {
         geometry: case.geometry,
         numbers: case.numbers,
         block_count: case.block_count,
         seed: case.seed,
+        rules,
         work,
         stores,
     }
@@ -131,10 +134,11 @@ pub fn text(step: &Step) -> String {
         Work::Compact => String::from("compaction"),
     };
     format!(
-        "{geometry:?}, numbers {numbers:x?}, block count {:#x}, seed {:#x}, stores {:?}, \
+        "{geometry:?}, numbers {numbers:x?}, block count {:#x}, seed {:#x}, rules {}, stores {:?}, \
          {work}, images {} and {}",
         step.task.block_count,
         step.task.seed,
+        step.task.rules,
         step.task.stores,
         hex(b0),
         hex(b1)

@@ -9,7 +9,7 @@
 use super::ask::{fetched, task, After, Outcome, Step};
 use super::lists::{self, Habits, List};
 use super::start;
-use crate::calls::write::{Entry, Work, MISALIGNED, NOT_ERASED, NO_SPACE, TOP_BIT};
+use crate::calls::write::*;
 use crate::calls::{Fetched, Mdir};
 use crate::generate::{self, Case, Sizes};
 use crate::model::*;
@@ -23,14 +23,20 @@ pub struct History<'a> {
     pub(super) case: Case,
     pub(super) habits: Habits,
     pub(super) directory: Directory,
+    /// Those of the step at hand.
+    pub(super) rules: u32,
     /// The last answer asked for a compaction.
     stuck: bool,
     pub(super) tell: Tell<'a>,
 }
 
+fn random(number: u64, which: u64) -> Random {
+    Random::new(number.wrapping_mul(0x2545_f491_4f6c_dd1d) ^ which)
+}
+
 /// Every history by its number.
 pub fn run(number: u64, steps: usize, tell: Tell) {
-    let mut random = Random::new(number.wrapping_mul(0x2545_f491_4f6c_dd1d) ^ 0x3c1);
+    let mut random = random(number, 0x3c1);
     let geometry = start::geometry(&mut random);
     let habits = habits(&mut random, geometry.block_size);
     let case = start::case(&mut random, geometry, &habits);
@@ -39,17 +45,47 @@ pub fn run(number: u64, steps: usize, tell: Tell) {
         (_, 0..=2048) => steps,
         _ => steps.min(12),
     };
-    let mut history = History {
-        directory: read(&case),
-        random,
-        case,
-        habits,
-        stuck: false,
-        tell,
-    };
+    let mut history = History::new(random, case, habits, tell);
     history.starts();
     for _ in 0..steps {
         history.step();
+    }
+}
+
+/// The same from a given pair.
+pub fn run_from(case: &Case, number: u64, steps: usize, tell: Tell) {
+    let mut random = random(number, 0x9e1);
+    let habits = habits(&mut random, case.geometry.block_size);
+    let seed = random.word();
+    let case = Case {
+        seed,
+        ..case.clone()
+    };
+    let mut history = History::new(random, case, habits, tell);
+    for _ in 0..steps {
+        history.step();
+    }
+}
+
+/// One log of the wider kind by its number: a commit and a compaction under both
+/// rules, each from the same images.
+pub fn wider(number: u64, tell: Tell) {
+    let mut random = random(number, 0x71d);
+    let geometry = start::geometry(&mut random);
+    let habits = habits(&mut random, geometry.block_size);
+    let case = start::wider(&mut random, geometry, &habits);
+    let mut history = History::new(random, case, habits, tell);
+    let (mut list, count) = history.list_and_count();
+    if history.random.below(4) == 0 {
+        lists::doubtful(&mut history.random, &mut list, count);
+    }
+    let kept = (history.case.clone(), history.directory.clone());
+    for rules in [DOCUMENT, LITTLEFS] {
+        history.rules = rules;
+        history.commit("wider logs", &list);
+        (history.case, history.directory) = kept.clone();
+        history.compact("wider logs");
+        (history.case, history.directory) = kept.clone();
     }
 }
 
@@ -71,7 +107,26 @@ pub(super) fn read(case: &Case) -> Directory {
     Directory::of(&log_of(&case.images[which], fetched.dir.off as usize))
 }
 
+impl<'a> History<'a> {
+    fn new(random: Random, case: Case, habits: Habits, tell: Tell<'a>) -> History<'a> {
+        History {
+            directory: read(&case),
+            random,
+            case,
+            habits,
+            rules: DOCUMENT,
+            stuck: false,
+            tell,
+        }
+    }
+}
+
 impl History<'_> {
+    /// The step's own rules, on the pair as it is.
+    pub(super) fn task<'a>(&self, work: Work<'a>, stores: Option<u32>) -> Task<'a> {
+        task(&self.case, self.rules, work, stores)
+    }
+
     fn record(&self) -> Mdir {
         self.fetched().dir
     }
@@ -81,6 +136,8 @@ impl History<'_> {
     }
 
     fn step(&mut self) {
+        // littlefs's takes every log that document 01's takes.
+        self.rules = [DOCUMENT, LITTLEFS, LITTLEFS, LITTLEFS][self.random.below(4)];
         if self.stuck && self.random.below(4) > 0 {
             self.stuck = false;
             return self.compact("compaction of a block without room");
@@ -110,7 +167,7 @@ impl History<'_> {
         // The call with a limit has the same refusals.
         if self.random.below(8) == 0 {
             let limit = self.random.below(80) as u32;
-            self.limited(kind, work, limit);
+            self.limited(kind, work, limit, false);
         }
         let result = self.whole(kind, work);
         self.stuck = matches!(result, NO_SPACE | MISALIGNED | TOP_BIT | NOT_ERASED);
@@ -134,7 +191,7 @@ impl History<'_> {
 
     fn whole(&mut self, kind: &'static str, work: Work) -> i32 {
         let directory = self.applied(work);
-        let task = task(&self.case, work, None);
+        let task = self.task(work, None);
         let truth = Outcome::of(&FAULTLESS_WRITER, &task, &self.case.images);
         let result = truth.answer.result();
         (self.tell)(&Step {
@@ -227,9 +284,12 @@ impl History<'_> {
         self.good();
     }
 
-    /// A call on other inputs: any generated pair, or sizes at their bounds. The
-    /// history stays where it is.
+    /// A call on other inputs: any generated pair, sizes at their bounds, numbers
+    /// that are no rules. The history stays where it is.
     fn elsewhere(&mut self) {
+        if self.random.below(4) == 0 {
+            self.rules = [2, 3, 0x100, 1 << 31, u32::MAX][self.random.below(5)];
+        }
         let kept = (self.case.clone(), self.directory.clone());
         self.case = match self.random.below(5) {
             0 => start::irregular_and_coincident(&mut self.random).unwrap_or(kept.0.clone()),
@@ -248,7 +308,7 @@ impl History<'_> {
             }
             _ => {
                 let limit = self.random.below(40) as u32;
-                self.limited("elsewhere", Work::Compact, limit);
+                self.limited("elsewhere", Work::Compact, limit, false);
             }
         }
         (self.case, self.directory) = kept;

@@ -42,6 +42,16 @@ impl List {
         });
     }
 
+    /// The entries of another list behind its own.
+    pub fn append(&mut self, other: List) {
+        let before = self.data.len() as u32;
+        self.entries.extend(other.entries.iter().map(|entry| Entry {
+            off: entry.off.wrapping_add(before),
+            ..*entry
+        }));
+        self.data.extend(other.data);
+    }
+
     /// How many bytes its entries take in a log.
     pub fn length(&self) -> usize {
         let length = |entry: &Entry| match entry.len {
@@ -113,7 +123,7 @@ fn name(random: &mut Random, habits: &Habits, list: &mut List, id: u32) {
     list.push(type_, id, &random.bytes(length));
 }
 
-fn structure(random: &mut Random, habits: &Habits, list: &mut List, id: u32) {
+pub fn structure(random: &mut Random, habits: &Habits, list: &mut List, id: u32) {
     let (type_, length) = match random.below(4) {
         0 => (DIR_STRUCT, 8),
         1 => (CTZ, 8),
@@ -122,7 +132,7 @@ fn structure(random: &mut Random, habits: &Habits, list: &mut List, id: u32) {
     list.push(type_, id, &random.bytes(length));
 }
 
-fn attribute(random: &mut Random, habits: &Habits, list: &mut List, id: u32) {
+pub fn attribute(random: &mut Random, habits: &Habits, list: &mut List, id: u32) {
     let type_ = habits.types[random.below(habits.types.len())];
     let length = random.below(habits.longest + 1);
     list.push(type_, id, &random.bytes(length));

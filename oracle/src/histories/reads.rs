@@ -36,6 +36,13 @@ impl Default for Reads {
     }
 }
 
+/// The slots that are read, with their ids.
+pub fn read_of(directory: &Directory) -> impl Iterator<Item = (u32, &Slot)> {
+    let (half, all) = (MOST_READ / 2, directory.slots.len());
+    let slots = (0..).zip(&directory.slots);
+    slots.filter(move |&(id, _)| (id as usize) < half || id as usize + half >= all)
+}
+
 impl Reads {
     pub fn read(&mut self, step: &Step, text: &dyn Fn() -> String) {
         if step.task.numbers.iter().any(|&number| number >= SPECIAL) {
@@ -55,11 +62,24 @@ impl Reads {
                 let Fetched { result, dir, seed } = self.rust.fetch(&fetch);
                 let said = (answer.result, answer.dir, answer.seed);
                 self.fetches.same((result, dir, seed), said, text);
+                self.fetches.outcome_of("pairs", step.case.kind);
                 self.directory(fetch.blocks, dir, step.directories[1], step.types, text);
             }
-            (After::Cut { old, new, finished }, _) => {
+            (
+                After::Cut {
+                    old,
+                    new,
+                    finished,
+                    goes_on,
+                },
+                _,
+            ) => {
                 let read = self.rust.fetch(&fetch);
                 self.cut(read, old, new, *finished, text);
+                if *goes_on {
+                    let left = step.directories[usize::from(*finished)];
+                    self.directory(fetch.blocks, read.dir, left, step.types, text);
+                }
             }
             _ => {}
         }
@@ -112,11 +132,8 @@ impl Reads {
         self.lookups.same(count.0, count.1, text);
         let state = directory.move_state.clone().map(|data| (MOVE_STATE, data));
         self.one(&lookup, (0x7ff, 0), (MOVE_STATE, 0), NO_SLOT, state, text);
-        for (id, slot) in directory.slots.iter().enumerate() {
-            if id >= MOST_READ / 2 && id + MOST_READ / 2 < directory.slots.len() {
-                continue;
-            }
-            self.slot(&lookup, id as u32, slot, types, text);
+        for (id, slot) in read_of(directory) {
+            self.slot(&lookup, id, slot, types, text);
         }
     }
 

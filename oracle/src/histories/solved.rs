@@ -3,7 +3,7 @@
 //!
 //! Assumes nothing.
 
-use super::ask::{task, Outcome};
+use super::ask::Outcome;
 use super::history::History;
 use super::lists::List;
 use super::solve::{solve, Goal};
@@ -16,8 +16,7 @@ impl History<'_> {
         let mut list = self.list();
         let bytes = self.random.bytes(12);
         list.push(MOVE_STATE, NO_SLOT, &bytes);
-        let task = task(
-            &self.case,
+        let task = self.task(
             Work::Commit {
                 entries: &list.entries,
                 data: &list.data,
@@ -65,6 +64,7 @@ impl History<'_> {
                 "last cuts, checksum solved for",
                 Work::Compact,
                 limit as u32,
+                false,
             );
         }
         self.compact("compaction, checksum solved for");
@@ -76,10 +76,10 @@ impl History<'_> {
             entries: &list.entries,
             data: &list.data,
         };
-        let first = task(&self.case, work, None);
+        let first = self.task(work, None);
         let outcome = Outcome::of(&FAULTLESS_WRITER, &first, &self.case.images);
         let images = outcome.images();
-        let compact = task(&self.case, Work::Compact, None);
+        let compact = self.task(Work::Compact, None);
         let laid = FAULTLESS_WRITER.laid(&compact, [&images[0], &images[1]])?;
         match outcome.answer.result() {
             0 | COINCIDENCE => solve(&laid.bytes, goal),
@@ -99,7 +99,7 @@ impl History<'_> {
         };
         let length = self.stores(work);
         for limit in length.saturating_sub(6)..=length {
-            self.limited("last cuts, checksum solved for", work, limit as u32);
+            self.limited("last cuts, checksum solved for", work, limit as u32, false);
         }
         self.commit("checksum solved for", &list);
     }

@@ -5,7 +5,8 @@
 use super::ask;
 use super::lists::{self, Habits, List};
 use super::solve::{solve, Goal};
-use crate::calls::write::Work;
+use super::wide;
+use crate::calls::write::{Work, DOCUMENT};
 use crate::calls::Geometry;
 use crate::generate::{self, Case, Log, Sizes};
 use crate::model::*;
@@ -42,23 +43,50 @@ pub fn geometry(random: &mut Random) -> Geometry {
     }
 }
 
-/// A pair whose log is mostly regular.
+/// A pair whose log is mostly regular, by document 01's rule or by littlefs's.
 pub fn case(random: &mut Random, geometry: Geometry, habits: &Habits) -> Case {
     let revision = match random.below(4) {
         0 => [0, 1, u32::MAX, u32::MAX - 1, 0x7fff_ffff][random.below(5)],
         _ => random.word(),
     };
-    let (kind, log) = match random.below(20) {
-        0..10 => ("fresh", fresh(geometry, revision)),
-        10..18 => (
+    let (kind, log) = match random.below(24) {
+        0..9 => ("fresh", fresh(geometry, revision)),
+        9..16 => (
             "regular",
             regular(random, geometry, habits, revision, false),
         ),
-        _ => (
+        16..18 => (
             "irregular",
             regular(random, geometry, habits, revision, true),
         ),
+        18..23 => (
+            "wider",
+            wide::log(random, geometry, habits, revision, false),
+        ),
+        _ => (
+            "irregular",
+            wide::log(random, geometry, habits, revision, true),
+        ),
     };
+    finished(random, kind, geometry, habits, (log, revision))
+}
+
+/// A pair whose log is of the wider kind, or just not.
+pub fn wider(random: &mut Random, geometry: Geometry, habits: &Habits) -> Case {
+    let revision = random.word();
+    let spoil = random.below(3) == 0;
+    let log = wide::log(random, geometry, habits, revision, spoil);
+    finished(random, "wider", geometry, habits, (log, revision))
+}
+
+/// The log with another block beside it.
+fn finished(
+    random: &mut Random,
+    kind: &'static str,
+    geometry: Geometry,
+    habits: &Habits,
+    (log, revision): (Log, u32),
+) -> Case {
     let other = other(random, geometry, habits, revision);
     let mut case = generate::finish(random, kind, geometry, [log.bytes, other]);
     let high = case.numbers[0].max(case.numbers[1]);
@@ -152,7 +180,7 @@ fn regular(
     log
 }
 
-fn put(log: &mut Log, list: &List) {
+pub fn put(log: &mut Log, list: &List) {
     for entry in &list.entries {
         let data = bytes_of(entry, &list.data).unwrap_or_default();
         log.put(tag_of(entry.type_.into(), entry.id.into(), entry.len), data);
@@ -177,7 +205,7 @@ pub fn irregular_and_coincident(random: &mut Random) -> Option<Case> {
     };
     let mut case = generate::finish(random, "irregular", geometry, images([0; 4]));
     case.block_count = 0;
-    let compact = ask::task(&case, Work::Compact, None);
+    let compact = ask::task(&case, DOCUMENT, Work::Compact, None);
     let laid = FAULTLESS_WRITER.laid(&compact, [&case.images[0], &case.images[1]])?;
     let four = solve(&laid.bytes, Goal::Coincide(1 + random.below(3)))?;
     let second = case.images[1].first() != Some(&0xff);
@@ -214,7 +242,7 @@ fn spoilt(random: &mut Random, log: &mut Log, count: u32) {
     log.put(tag, &random.bytes(12)[..(length_of(tag) - 4).min(12)]);
 }
 
-fn check(random: &mut Random, log: &mut Log, geometry: Geometry, plain: bool, spoil: bool) {
+pub fn check(random: &mut Random, log: &mut Log, geometry: Geometry, plain: bool, spoil: bool) {
     let size = log.check_size(0, geometry.prog_size as usize);
     let tag = match random.below(12) {
         _ if plain => tag_of(CHECK, NO_SLOT, size),

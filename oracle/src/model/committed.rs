@@ -3,7 +3,7 @@
 //! Assumes that the end is a fetched record's: else what is met is answered all
 //! the same, and means nothing.
 
-use super::rules::{Rules, Whose};
+use super::rules::Rules;
 use super::{bytes::*, tag::*, WriteFault};
 
 /// An entry or a check: its tag, and the bytes behind it.
@@ -34,17 +34,13 @@ pub fn log_of(block: &[u8], end: usize) -> Vec<Logged<'_>> {
 
 /// "A log is regular if every check tag's size is 4 to 1,022 and its committed
 /// entries pass these rules from c = 0, superblock names (as names) and forward
-/// checks (id 1,023, length 8) allowed."
-pub fn regular(fault: WriteFault, log: &[Logged]) -> bool {
-    let mut rules = Rules {
-        fault,
-        whose: Whose::Log,
-        count: 0,
-    };
+/// checks (id 1,023, length 8) allowed." Which rules, the call says.
+pub fn regular(fault: WriteFault, which: u32, log: &[Logged]) -> bool {
+    let mut rules = Rules::of_log(fault, which);
     log.iter().all(|logged| {
         let size = size_of(logged.tag);
         match type2_of(logged.tag) {
-            CHECK => check_is_regular(fault, logged.tag, size),
+            CHECK => rules.check() && check_is_regular(fault, logged.tag, size),
             _ => rules.pass(type_of(logged.tag), id_of(logged.tag), size),
         }
     })

@@ -3,6 +3,7 @@
 //!
 //! Assumes nothing.
 
+use super::committed::regular;
 use super::directory::{Directory, Slot, Typed};
 use super::lay::Lay;
 use super::writer::{Plan, Read, Writer};
@@ -15,8 +16,9 @@ impl Writer {
         let prog = task.geometry.prog_size as usize;
         let laid = self.compacted(read).finish(prog);
         let mut tests = [
-            self.irregular(read),
-            self.full(task, &laid),
+            self.irregular(task, read),
+            self.full(task, &laid)
+                .filter(|_| !self.has(WriteFault::FullOfNames)),
             laid.coincides.then_some((COINCIDENCE, 0)),
         ];
         if self.has(WriteFault::CoincidenceBeforeIrregular) {
@@ -65,9 +67,13 @@ impl Writer {
                 _ => crc(ONES, &revision),
             },
         };
-        let directory = Directory::of(&read.log);
+        let mut directory = Directory::of(&read.log);
+        let wider = !regular(WriteFault::None, DOCUMENT, &read.log);
+        if wider && self.has(WriteFault::GapsClosed) {
+            directory.slots.retain(|slot| *slot != Slot::default());
+        }
         for (id, slot) in directory.slots.iter().enumerate() {
-            self.slot(&mut lay, id as u32, slot);
+            self.slot(&mut lay, id as u32, slot, wider);
         }
         let first = self.has(WriteFault::MoveStateBeforeTail);
         if first {
@@ -80,12 +86,21 @@ impl Writer {
         lay
     }
 
-    fn slot(&self, lay: &mut Lay, id: u32, slot: &Slot) {
+    /// "What compaction writes is always regular by document 01: a create for each
+    /// slot". `wider`: the log that is there isn't.
+    fn slot(&self, lay: &mut Lay, id: u32, slot: &Slot, wider: bool) {
         let lacks = slot.name.is_none() && self.has(WriteFault::NamelessDropped);
         if lacks {
             return;
         }
-        if !self.has(WriteFault::Uncreated) {
+        let uncreated = match self.fault {
+            WriteFault::Uncreated => true,
+            WriteFault::NamedUncreated => wider && slot.name.is_some(),
+            WriteFault::FirstUncreated => wider && id == 0 && slot.name.is_some(),
+            WriteFault::EmptyUncreated => wider && *slot == Slot::default(),
+            _ => false,
+        };
+        if !uncreated {
             lay.put(CREATE, id, 0, &[]);
         }
         let mut parts = [&slot.name, &slot.structure];

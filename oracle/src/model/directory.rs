@@ -1,7 +1,9 @@
 //! The simple directory machine: "slots inserted, removed, attributes set". It
-//! keeps the tail and the move state too.
+//! keeps the tail and the move state too. It is one machine for both rules: what is
+//! set in a slot "at or above the number of slots first makes the missing slots up
+//! to it, empty", which in a log that is regular by document 01 never happens.
 //!
-//! Assumes entries that pass the rules; others change nothing.
+//! Assumes entries that pass the rules; of others some change nothing.
 
 use super::committed::Logged;
 use super::{bytes::*, tag::*};
@@ -69,12 +71,24 @@ impl Directory {
         }
     }
 
+    /// The slot of this id, made if it is missing. None has the id of no slot.
+    fn reach(&mut self, id: usize) -> Option<&mut Slot> {
+        if (self.slots.len()..NO_SLOT as usize).contains(&id) {
+            self.slots.resize_with(id + 1, Slot::default);
+        }
+        self.slots.get_mut(id)
+    }
+
     fn set(&mut self, type_: u32, id: usize, data: Option<&[u8]>) {
-        let Some(slot) = self.slots.get_mut(id) else {
+        let class = type_ & 0x700;
+        if ![NAME, STRUCT, ATTRIBUTE].contains(&class) {
+            return;
+        }
+        let Some(slot) = self.reach(id) else {
             return;
         };
         let typed = data.map(|data| (type_, data.to_vec()));
-        match (type_ & 0x700, typed) {
+        match (class, typed) {
             (NAME, typed) => slot.name = typed,
             (STRUCT, typed) => slot.structure = typed,
             (ATTRIBUTE, Some((type_, data))) => {

@@ -1,8 +1,21 @@
 //! The rules for one entry, of a commit's list and of a regular log.
 //!
+//! Where they come from: of a commit's list and of rule 0 from document 01, The
+//! added writer, whose sentence stands at each. Rule 1, littlefs's, is that with one
+//! thing more, in these words: "as long as no create (0x401) or delete (0x4ff) has
+//! come in the log, a name (0x001, 0x002, 0x0ff) with an id at or above the count,
+//! and at most 1,022, first raises the count to id + 1; the slots in between are
+//! made, empty. Then the name's own rule applies. A struct or attribute never raises
+//! it; after the first create or delete in the log no name raises it." And: "A
+//! commit's own new entries are judged by document 01's rules from the record's
+//! count under both rules." It is there for what littlefs writes: its compaction
+//! keeps no types from 0x400 on, and so no creates, and its fetch takes a name's id
+//! + 1 for the count where that is more (in the Rust, `dir/fetch.rs`).
+//!
 //! Assumes nothing.
 
 use super::{tag::*, WriteFault};
+use crate::calls::write::{DOCUMENT, LITTLEFS};
 
 /// Whose entries are judged: a log may have two types more.
 #[derive(Clone, Copy, PartialEq, Eq)]
@@ -13,18 +26,78 @@ pub enum Whose {
 
 /// The entries run against a count.
 pub struct Rules {
-    pub fault: WriteFault,
-    pub whose: Whose,
-    pub count: u32,
+    fault: WriteFault,
+    whose: Whose,
+    count: u32,
+    /// Whether a name above the count raises it.
+    grows: bool,
 }
 
 /// "c at most 1,022"
 const LAST_CREATE: u32 = 1022;
+/// "at most 1,022"
+const LAST_NAME: u32 = 1022;
 const LONGEST: u32 = 1022;
 
 impl Rules {
+    /// The entries of a commit, behind a record's count.
+    pub fn of_list(fault: WriteFault, which: u32, count: u32) -> Rules {
+        Rules {
+            fault,
+            whose: Whose::List,
+            count,
+            grows: which == LITTLEFS && fault == WriteFault::ListGrows,
+        }
+    }
+
+    /// A whole log.
+    pub fn of_log(fault: WriteFault, which: u32) -> Rules {
+        let grows = match fault {
+            WriteFault::DocumentGrows => true,
+            WriteFault::LittlefsRefused => false,
+            _ => which != DOCUMENT,
+        };
+        Rules {
+            fault,
+            whose: Whose::Log,
+            count: 0,
+            grows,
+        }
+    }
+
     fn has(&self, fault: WriteFault) -> bool {
         self.fault == fault
+    }
+
+    /// A check between the entries changes nothing of what follows.
+    pub fn check(&mut self) -> bool {
+        match self.fault {
+            WriteFault::GrowsAtFirst => self.grows = false,
+            WriteFault::GrowsAgain => self.grows = true,
+            _ => {}
+        }
+        true
+    }
+
+    /// "a name .. first raises the count to id + 1"
+    fn raise(&mut self, type_: u32, id: u32) {
+        let raises = match (type_, self.fault) {
+            (FILE, _) => true,
+            (DIRECTORY, fault) => fault != WriteFault::OnlyFilesRaise,
+            (SUPERBLOCK, fault) => fault != WriteFault::SuperblockRaisesNothing,
+            (0x200..=0x2ff, fault) => fault == WriteFault::StructRaises,
+            (0x300..=0x3ff, fault) => fault == WriteFault::AttributeRaises,
+            _ => false,
+        };
+        let last = match self.fault {
+            WriteFault::Raises1023 => LAST_NAME + 1,
+            WriteFault::Raises1021 => LAST_NAME - 1,
+            WriteFault::NoGaps => self.count.min(LAST_NAME),
+            _ => LAST_NAME,
+        };
+        if self.grows && raises && id <= last {
+            self.count = self.count.max(id + 1);
+        }
     }
 
     /// Whether an entry passes; if so, the count goes on.
@@ -33,6 +106,7 @@ impl Rules {
             WriteFault::TypeMasked => type_ & 0x7ff,
             _ => type_,
         };
+        self.raise(type_, id);
         match type_ {
             CREATE => self.create(id, length),
             DELETE => self.delete(id, length),
@@ -62,6 +136,7 @@ impl Rules {
         if passes && !self.has(WriteFault::CreateRaisesNothing) {
             self.count += 1;
         }
+        self.grows &= self.has(WriteFault::GrowsBehindCreate);
         passes
     }
 
@@ -75,6 +150,7 @@ impl Rules {
         if place && empty && !self.has(WriteFault::DeleteLowersNothing) {
             self.count = self.count.saturating_sub(1);
         }
+        self.grows &= self.has(WriteFault::GrowsBehindDelete);
         place && empty
     }
 

@@ -20,6 +20,7 @@ macro_rules! write_faults {
 
 write_faults! {
     LengthsAfterFetch "order: -22 of the lengths behind fetch's refusals";
+    RulesAfterFetch "order: -22 of the rules behind fetch's refusals";
     BadBeforeIrregular "order: -201 before -202";
     SpaceBeforeBad "order: -28 before -201";
     RoomBeforeSpace "order: -211, -212 and -213 before -28";
@@ -33,6 +34,9 @@ write_faults! {
     Entries8191 "sizes: 8,192 entries refused";
     Data65537 "sizes: 65,537 bytes of data accepted";
     Data65535 "sizes: 65,536 bytes of data refused";
+    Rules2 "rules: 2 accepted";
+    RulesOfAnyNumber "rules: any number accepted";
+    RulesOfOneByte "rules: only the low byte tested";
 
     CountFromZero "entries: c from 0, not from the record";
     CreateBelowCount "entries: create at c refused";
@@ -72,6 +76,21 @@ write_faults! {
     CheckOfAnySize "regular: check of any size accepted";
     CheckNeedsNoSlot "regular: check of another id refused";
     CheckIs500 "regular: only 0x500 is a check";
+
+    DocumentGrows "wider: names raise the count under rule 0 too";
+    LittlefsRefused "wider: names raise no count under rule 1";
+    ListGrows "wider: a commit's own names raise the count";
+    GrowsBehindCreate "wider: count raised behind a create";
+    GrowsBehindDelete "wider: count raised behind a delete";
+    GrowsAtFirst "wider: count raised in the first commit alone";
+    GrowsAgain "wider: count raised anew in each commit";
+    StructRaises "wider: count raised by a struct";
+    AttributeRaises "wider: count raised by an attribute";
+    OnlyFilesRaise "wider: count not raised by a directory's name";
+    SuperblockRaisesNothing "wider: count not raised by a superblock name";
+    Raises1023 "wider: count raised by id 1,023";
+    Raises1021 "wider: count not raised by id 1,022";
+    NoGaps "wider: name that leaves slots in between refused";
 
     EndAtBlockRefused "space: end at the block size refused";
     CleanOnlyWhereLaid "room: clean only where bytes are stored";
@@ -127,6 +146,11 @@ write_faults! {
     RevisionBigEndian "compaction: revision big-endian";
     RevisionUnsummed "compaction: revision left out of the checksum";
     Uncreated "compaction: no create tags";
+    NamedUncreated "compaction, wider: no create before a name";
+    FirstUncreated "compaction, wider: the first create left out";
+    EmptyUncreated "compaction, wider: no create of a slot in between";
+    GapsClosed "compaction, wider: slots in between left out";
+    FullOfNames "compaction, wider: -28 not given";
     NamelessDropped "compaction: slots without a name dropped";
     StructFirst "compaction: struct before name";
     SuperblockBecomesFile "compaction: superblock name becomes a file";

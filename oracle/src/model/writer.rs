@@ -7,7 +7,7 @@
 
 use super::committed::{log_of, regular, Logged};
 use super::lay::{Laid, Lay};
-use super::rules::{Rules, Whose};
+use super::rules::Rules;
 use super::{tag::*, WriteFault, FAULTLESS};
 use crate::calls::write::*;
 use crate::calls::{Blocks, Fetch, Fetched, Mdir, Voice, INVAL};
@@ -91,12 +91,14 @@ impl Writer {
 
     /// What the call would store, or why it is refused.
     pub fn plan(&self, task: &Task, images: [&[u8]; 2]) -> Result<Plan, Refusal> {
-        let lengths = self.lengths_fit(&task.work);
-        if !lengths && !self.has(WriteFault::LengthsAfterFetch) {
+        let (lengths, rules) = (self.lengths_fit(&task.work), self.rules_fit(task.rules));
+        let unread = (!lengths && !self.has(WriteFault::LengthsAfterFetch))
+            || (!rules && !self.has(WriteFault::RulesAfterFetch));
+        if unread {
             return Err(refused((INVAL, 0), task.seed));
         }
         let read = Read::of(task, images)?;
-        if !lengths {
+        if !lengths || !rules {
             return Err(refused((INVAL, 0), task.seed));
         }
         let planned = match task.work {
@@ -133,6 +135,17 @@ impl Writer {
         entries.len() <= most && data.len() <= longest
     }
 
+    /// "0 = document 01's, 1 = littlefs's too, any other number is -22 (tested with
+    /// the sizes and numbers, before fetch's own -84/-2)"
+    fn rules_fit(&self, rules: u32) -> bool {
+        match self.fault {
+            WriteFault::Rules2 => rules <= LITTLEFS + 1,
+            WriteFault::RulesOfAnyNumber => true,
+            WriteFault::RulesOfOneByte => rules & 0xff <= LITTLEFS,
+            _ => rules <= LITTLEFS,
+        }
+    }
+
     /// "-202, -201, -28, -203, -204", and for -203 "-211 misaligned end, -212 top
     /// bit, -213 byte with offset"
     fn commit(
@@ -145,8 +158,8 @@ impl Writer {
         let prog = task.geometry.prog_size as usize;
         let laid = self.append(read, entries, data).finish(prog);
         let mut tests = [
-            self.irregular(read),
-            self.bad_entry(read, entries, data),
+            self.irregular(task, read),
+            self.bad_entry(task, read, entries, data),
             self.full(task, &laid),
             self.misaligned(task, read),
             self.top_bit(read),
@@ -174,8 +187,8 @@ impl Writer {
         }
     }
 
-    pub(super) fn irregular(&self, read: &Read) -> Refused {
-        (!regular(self.fault, &read.log)).then_some((IRREGULAR, 0))
+    pub(super) fn irregular(&self, task: &Task, read: &Read) -> Refused {
+        (!regular(self.fault, task.rules, &read.log)).then_some((IRREGULAR, 0))
     }
 
     /// The entries' bytes, behind the old end.
@@ -198,15 +211,12 @@ impl Writer {
     }
 
     /// "index from 0 of the first bad one"
-    fn bad_entry(&self, read: &Read, entries: &[Entry], data: &[u8]) -> Refused {
-        let mut rules = Rules {
-            fault: self.fault,
-            whose: Whose::List,
-            count: match self.fault {
-                WriteFault::CountFromZero => 0,
-                _ => read.dir.count.into(),
-            },
+    fn bad_entry(&self, task: &Task, read: &Read, entries: &[Entry], data: &[u8]) -> Refused {
+        let count = match self.fault {
+            WriteFault::CountFromZero => 0,
+            _ => read.dir.count.into(),
         };
+        let mut rules = Rules::of_list(self.fault, task.rules, count);
         let bad = entries.iter().position(|entry| {
             let placed = self.placed(entry, data);
             !(rules.pass(entry.type_.into(), entry.id.into(), entry.len) && placed)

@@ -23,6 +23,7 @@ extern "C" {
         n1: u32,
         block_count: u32,
         seed: u32,
+        rules: u32,
         entries: *const crate::calls::write::Entry,
         entries_len: usize,
         data: *const u8,
@@ -38,6 +39,7 @@ extern "C" {
         n1: u32,
         block_count: u32,
         seed: u32,
+        rules: u32,
         entries: *const crate::calls::write::Entry,
         entries_len: usize,
         data: *const u8,
@@ -58,6 +60,7 @@ extern "C" {
         n1: u32,
         block_count: u32,
         seed: u32,
+        rules: u32,
     ) -> crate::calls::write::Committed;
     fn lanolin_compact_stores(
         geometry: crate::calls::Geometry,
@@ -69,6 +72,7 @@ extern "C" {
         n1: u32,
         block_count: u32,
         seed: u32,
+        rules: u32,
         stores: u32,
     ) -> crate::calls::write::Stored;
 }
@@ -101,7 +105,8 @@ fn commit(
     entries: &[crate::calls::write::Entry],
     data: &[u8],
 ) -> Answer {
-    let ([n0, n1], count, seed) = (task.numbers, task.block_count, task.seed);
+    let ([n0, n1], count) = (task.numbers, task.block_count);
+    let (seed, rules) = (task.seed, task.rules);
     let (g, l0, l1) = (task.geometry, b0.len(), b1.len());
     let (p0, p1) = (start_of_mut(b0), start_of_mut(b1));
     let e = match entries {
@@ -114,10 +119,10 @@ fn commit(
     unsafe {
         match task.stores {
             None => Answer::Committed(lanolin_commit(
-                g, p0, l0, p1, l1, n0, n1, count, seed, e, el, d, dl,
+                g, p0, l0, p1, l1, n0, n1, count, seed, rules, e, el, d, dl,
             )),
             Some(n) => Answer::Stored(lanolin_commit_stores(
-                g, p0, l0, p1, l1, n0, n1, count, seed, e, el, d, dl, n,
+                g, p0, l0, p1, l1, n0, n1, count, seed, rules, e, el, d, dl, n,
             )),
         }
     }
@@ -125,15 +130,18 @@ fn commit(
 
 #[cfg(lanolin_compact)]
 fn compact(task: &Task, [b0, b1]: [&mut [u8]; 2]) -> Answer {
-    let ([n0, n1], count, seed) = (task.numbers, task.block_count, task.seed);
+    let ([n0, n1], count) = (task.numbers, task.block_count);
+    let (seed, rules) = (task.seed, task.rules);
     let (g, l0, l1) = (task.geometry, b0.len(), b1.len());
     let (p0, p1) = (start_of_mut(b0), start_of_mut(b1));
     // SAFETY: as for `commit`.
     unsafe {
         match task.stores {
-            None => Answer::Committed(lanolin_compact(g, p0, l0, p1, l1, n0, n1, count, seed)),
+            None => Answer::Committed(lanolin_compact(
+                g, p0, l0, p1, l1, n0, n1, count, seed, rules,
+            )),
             Some(n) => Answer::Stored(lanolin_compact_stores(
-                g, p0, l0, p1, l1, n0, n1, count, seed, n,
+                g, p0, l0, p1, l1, n0, n1, count, seed, rules, n,
             )),
         }
     }

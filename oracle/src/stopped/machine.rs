@@ -9,6 +9,7 @@
 use crate::calls::{Got, Query, NOENT};
 use crate::device::FILL;
 use crate::dirs::truth::{Sliced, MARGIN};
+use crate::histories::reads::read_of;
 use crate::model::*;
 use crate::tally::Check;
 
@@ -35,15 +36,15 @@ pub fn hold(
     }
 }
 
-/// Name and struct under 0x700 and each attribute type under 0x7ff, of each id;
-/// the move state under 0x7ff without ids. Of the attribute types all 256, or
-/// those that are set, those that the history uses, and some that it does not.
+/// Name and struct under 0x700 and each attribute type under 0x7ff, of each id, or
+/// of very many the first and last; the move state under 0x7ff without ids. Of the
+/// attribute types all 256, or those that are set, those that the history uses, and
+/// some that it does not.
 pub fn questions(directory: &Directory, types: &[u32], every_type: bool) -> Vec<Question> {
     let state = directory.move_state.as_ref();
     let state = state.map(|data| (MOVE_STATE, NO_SLOT, &data[..]));
     let mut asked = vec![question(0x7ff << 20, tag_of(MOVE_STATE, 0, 0), state)];
-    for (id, slot) in directory.slots.iter().enumerate() {
-        let id = id as u32;
+    for (id, slot) in read_of(directory) {
         for (type_, typed) in [(NAME, &slot.name), (STRUCT, &slot.structure)] {
             let said = typed.as_ref().map(|(type_, data)| (*type_, id, &data[..]));
             asked.push(question(0x700f_fc00, tag_of(type_, id, 0), said));

@@ -43,6 +43,7 @@ fn task<'a>(call: &Call, work: Work<'a>) -> Task<'a> {
         numbers,
         block_count,
         seed,
+        rules,
         ..
     } = call.step.task;
     Task {
@@ -50,6 +51,7 @@ fn task<'a>(call: &Call, work: Work<'a>) -> Task<'a> {
         numbers,
         block_count,
         seed,
+        rules,
         work,
         stores: None,
     }
@@ -114,7 +116,8 @@ fn compact<W: Writes, R: Voice>(
         check.same_by_weight(&expected, &next, weight, say);
     }
     if next.answer.result() != 0 {
-        // The coincidence of this compaction, as it would have been before.
+        // The coincidence of this compaction, or no room for the creates of a wider
+        // log, as it would have been before.
         return check.outcome("compaction refused, as before");
     }
     check.outcome("compaction accepted");

@@ -19,7 +19,7 @@ use crate::stopped::{run, Asked, Stopped};
 const HISTORIES: u64 = 6_000;
 
 /// The writer's faults that demand 3 rules out.
-const WRITES: [WriteFault; 29] = [
+const WRITES: [WriteFault; 32] = [
     WriteFault::TwoAtOnce,
     WriteFault::AllAtOnce,
     WriteFault::Falling,
@@ -41,6 +41,9 @@ const WRITES: [WriteFault; 29] = [
     WriteFault::SecondBlock,
     WriteFault::RevisionStays,
     WriteFault::Uncreated,
+    WriteFault::EmptyUncreated,
+    WriteFault::GapsClosed,
+    WriteFault::FullOfNames,
     WriteFault::SuperblockBecomesFile,
     WriteFault::EmptyAttributesDropped,
     WriteFault::LastAttributeDropped,

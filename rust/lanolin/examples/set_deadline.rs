@@ -4,11 +4,12 @@
 //!
 //!     set_deadline FILE SLOT SECONDS [PROG_SIZE]
 //!
-//! FILE has both blocks of a pair, one behind the other, and is written anew;
-//! without PROG_SIZE it is 16. Exits 1 if it is refused, with FILE as it was; 2 if
-//! it is used wrongly or the file can't be read or written.
+//! FILE has both blocks of a pair, one behind the other, and is written anew: one
+//! that this library wrote, or littlefs itself. Without PROG_SIZE it is 16. Exits 1
+//! if it is refused, with FILE as it was; 2 if it is used wrongly or the file can't
+//! be read or written.
 
-use lanolin::{Entry, Fetched, Geometry, PairMut, Refusal};
+use lanolin::{Entry, Fetched, Geometry, PairMut, Refusal, Rules};
 use std::path::PathBuf;
 use std::process::ExitCode;
 use std::{env, fs};
@@ -31,13 +32,14 @@ fn why(refusal: Refusal, end: u32) -> String {
 fn set_deadline(pair: &mut PairMut, slot: u16, seconds: u32) -> Result<Fetched, Refusal> {
     let deadline = [Entry::user_attr(0x74, slot, 0, 4)];
     let data = seconds.to_le_bytes();
+    let rules = Rules::Littlefs; // the pair may be one that littlefs itself compacted
     let end = pair.as_pair().fetch(0, 0)?.record.off;
-    match pair.commit(0, 0, &deadline, &data) {
+    match pair.commit(0, 0, rules, &deadline, &data) {
         Err(refusal) if refusal.needs_compaction() => {
             println!("no room, {}: {}", refusal.number(), why(refusal, end));
-            pair.compact(0, 0)?;
+            pair.compact(0, 0, rules)?;
             println!("compacted");
-            pair.commit(0, 0, &deadline, &data)
+            pair.commit(0, 0, rules, &deadline, &data)
         }
         other => other,
     }

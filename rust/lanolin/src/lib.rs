@@ -47,10 +47,12 @@ mod names;
 #[allow(unsafe_code)]
 mod raw;
 mod refusal;
+mod rules;
 
 pub use entry::Entry;
 pub use names::*;
 pub use refusal::Refusal;
+pub use rules::Rules;
 
 /// Block size 128 to 32,768, program size 4 to 512, block size a multiple of
 /// it; else every call answers [`Refusal::Invalid`].
@@ -386,11 +388,12 @@ impl PairMut<'_> {
         }
     }
 
-    /// One commit of all the entries, appended to the block that answers. Gives
-    /// what a fetch of the finished pair from the same seed gives. At most
-    /// [`ENTRIES_MAX`] entries and [`DATA_MAX`] bytes of data.
+    /// One commit of all the entries, appended to the block that answers, whose
+    /// log is regular by `rules`. Gives what a fetch of the finished pair from the
+    /// same seed gives. At most [`ENTRIES_MAX`] entries and [`DATA_MAX`] bytes of
+    /// data.
     ///
-    /// Proved: it is accepted exactly when document 01 says
+    /// Proved: it is accepted exactly when document 01 and the rules say
     /// (`commit-accepted-exactly`), and lays down exactly its bytes; a refused
     /// commit alters no byte (`commit-all-refused`). Stopped after any number of
     /// its stores the pair reads as finished or as never begun; only the old
@@ -408,10 +411,11 @@ impl PairMut<'_> {
     /// // cut, is compacted, and then it is tried once more.
     /// let deadline = [Entry::user_attr(0x74, 0, 0, 4)];
     /// let seconds = 3600u32.to_le_bytes();
-    /// let record = match pair.commit(0, 0, &deadline, &seconds) {
+    /// let rules = Rules::Littlefs; // the pair may be one that littlefs compacted
+    /// let record = match pair.commit(0, 0, rules, &deadline, &seconds) {
     ///     Err(refusal) if refusal.needs_compaction() => {
-    ///         pair.compact(0, 0)?;
-    ///         pair.commit(0, 0, &deadline, &seconds)?
+    ///         pair.compact(0, 0, rules)?;
+    ///         pair.commit(0, 0, rules, &deadline, &seconds)?
     ///     }
     ///     other => other?,
     /// }
@@ -423,18 +427,23 @@ impl PairMut<'_> {
         &mut self,
         block_count: u32,
         seed: u32,
+        rules: Rules,
         entries: &[Entry],
         data: &[u8],
     ) -> Result<Fetched, Refusal> {
-        let answer = raw::commit(self, block_count, seed, entries, data);
+        let answer = raw::commit(self, block_count, seed, rules.number(), entries, data);
         refusal::of_fetch(answer.result, answer.index, answer.record, answer.seed)
     }
 
-    /// All that the pair holds as one commit in the other block, which is erased
-    /// first, under the next revision. Gives what a fetch of the finished pair
-    /// from the same seed gives.
+    /// All that the pair holds, whose log is regular by `rules`, as one commit in
+    /// the other block, which is erased first, under the next revision: of each
+    /// slot a create, its name, its struct and its user attributes. Gives what a
+    /// fetch of the finished pair from the same seed gives.
     ///
-    /// Proved: it is accepted exactly when document 01 says
+    /// A full block that littlefs compacted has no creates, and may have no room
+    /// for them: [`Refusal::NoSpace`].
+    ///
+    /// Proved: it is accepted exactly when document 01 and the rules say
     /// (`compact-accepted-exactly`), and lays down exactly its bytes; a refused
     /// compaction alters no byte (`compact-all-refused`). The finished pair shows
     /// the same directory. Stopped after any number of its stores, the erase
@@ -447,12 +456,17 @@ impl PairMut<'_> {
     /// # let (b0, b1) = image.split_at_mut(128);
     /// # let geometry = Geometry { block_size: 128, prog_size: 16 };
     /// # let mut pair = PairMut { geometry, images: [b0, b1], numbers: [0, 1] };
-    /// let record = pair.compact(0, 0)?.record;
+    /// let record = pair.compact(0, 0, Rules::Document)?.record;
     /// assert_eq!((record.pair, record.rev, record.count), ([1, 0], 2, 1));
     /// # Ok::<(), lanolin::Refusal>(())
     /// ```
-    pub fn compact(&mut self, block_count: u32, seed: u32) -> Result<Fetched, Refusal> {
-        let answer = raw::compact(self, block_count, seed);
+    pub fn compact(
+        &mut self,
+        block_count: u32,
+        seed: u32,
+        rules: Rules,
+    ) -> Result<Fetched, Refusal> {
+        let answer = raw::compact(self, block_count, seed, rules.number());
         refusal::of_fetch(answer.result, answer.index, answer.record, answer.seed)
     }
 }

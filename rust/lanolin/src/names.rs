@@ -7,7 +7,7 @@
 /// The version of the header, major number.
 pub const VERSION_MAJOR: u32 = 0;
 /// The version of the header, minor number.
-pub const VERSION_MINOR: u32 = 3;
+pub const VERSION_MINOR: u32 = 4;
 /// Both: the major number in the upper half, the minor in the lower.
 pub const VERSION: u32 = VERSION_MAJOR << 16 | VERSION_MINOR;
 
@@ -79,6 +79,11 @@ pub const MASK_TYPE: u32 = 0x7ffffc00;
 /// The mask of a lookup that asks for any type of the same class, of this slot:
 /// the name, the struct.
 pub const MASK_CLASS: u32 = 0x700ffc00;
+
+/// The number of [`Rules::Document`](crate::Rules::Document).
+pub const RULES_DOCUMENT: u32 = 0;
+/// The number of [`Rules::Littlefs`](crate::Rules::Littlefs).
+pub const RULES_LITTLEFS: u32 = 1;
 
 /// The id of what belongs to no slot: tails, the move state, the root.
 pub const NO_SLOT: u32 = 0x3ff;

@@ -84,12 +84,12 @@ extern "C" {
     ) -> i32;
     fn lanolin_commit(
         geometry: Geometry, b0: *mut u8, b0_len: usize, b1: *mut u8, b1_len: usize,
-        n0: u32, n1: u32, block_count: u32, seed: u32,
+        n0: u32, n1: u32, block_count: u32, seed: u32, rules: u32,
         entries: *const Entry, entries_len: usize, data: *const u8, data_len: usize,
     ) -> Committed;
     fn lanolin_compact(
         geometry: Geometry, b0: *mut u8, b0_len: usize, b1: *mut u8, b1_len: usize,
-        n0: u32, n1: u32, block_count: u32, seed: u32,
+        n0: u32, n1: u32, block_count: u32, seed: u32, rules: u32,
     ) -> Committed;
     fn lanolin_mktag(type_: u32, id: u32, size: u32) -> u32;
     fn lanolin_tag_type3(tag: u32) -> u32;
@@ -157,8 +157,9 @@ pub fn get_gstate(pair: &crate::Pair, record: Record, gdisk: Gstate, state: &mut
 
 pub fn commit(
     pair: &mut crate::PairMut,
-    block_count: u32,
+    count: u32,
     seed: u32,
+    rules: u32,
     entries: &[Entry],
     data: &[u8],
 ) -> Committed {
@@ -167,14 +168,14 @@ pub fn commit(
     let (e, el, d, dl) = (entries.as_ptr(), entries.len(), data.as_ptr(), data.len());
     // SAFETY: every slice is valid for its length; the images are lent
     // exclusively, so that none of the four overlaps another.
-    unsafe { lanolin_commit(g, p0, l0, p1, l1, n0, n1, block_count, seed, e, el, d, dl) }
+    unsafe { lanolin_commit(g, p0, l0, p1, l1, n0, n1, count, seed, rules, e, el, d, dl) }
 }
 
-pub fn compact(pair: &mut crate::PairMut, block_count: u32, seed: u32) -> Committed {
+pub fn compact(pair: &mut crate::PairMut, block_count: u32, seed: u32, rules: u32) -> Committed {
     let (g, [b0, b1], [n0, n1]) = (pair.geometry, &mut pair.images, pair.numbers);
     let (p0, l0, p1, l1) = (b0.as_mut_ptr(), b0.len(), b1.as_mut_ptr(), b1.len());
     // SAFETY: as for `commit`.
-    unsafe { lanolin_compact(g, p0, l0, p1, l1, n0, n1, block_count, seed) }
+    unsafe { lanolin_compact(g, p0, l0, p1, l1, n0, n1, block_count, seed, rules) }
 }
 
 pub fn mktag(type_: u32, id: u32, size: u32) -> u32 {
@@ -193,4 +194,52 @@ pub fn tag_id(tag: u32) -> u32 {
 
 pub fn tag_size(tag: u32) -> u32 {
     unsafe { lanolin_tag_size(tag) }
+}
+
+#[cfg(test)]
+mod tests {
+    use super::*;
+    use crate::names::*;
+    use crate::PairMut;
+
+    const LISTING: [u8; 256] = *include_bytes!("../../../samples/q212.pair");
+    const NOTHING: Record = Record {
+        pair: [0; 2],
+        rev: 0,
+        off: 0,
+        etag: 0,
+        count: 0,
+        erased: false,
+        split: false,
+        tail: [0; 2],
+    };
+
+    /// A number that is no rule, which [`Rules`](crate::Rules) can't give: -22,
+    /// also where fetch would answer -84, and no byte altered.
+    #[test]
+    fn a_number_that_is_no_rule_is_invalid() {
+        for image in [LISTING, [0xff; 256]] {
+            for rules in [2, 3, 1 << 31, u32::MAX] {
+                let mut bytes = image;
+                let (b0, b1) = bytes.split_at_mut(128);
+                let mut pair = PairMut {
+                    geometry: Geometry {
+                        block_size: 128,
+                        prog_size: 16,
+                    },
+                    images: [b0, b1],
+                    numbers: [0, 1],
+                };
+                let answers = [
+                    commit(&mut pair, 0, 7, rules, &[], &[]),
+                    compact(&mut pair, 0, 7, rules),
+                ];
+                for answer in answers {
+                    assert_eq!((answer.result, answer.index), (ERR_INVAL, 0));
+                    assert_eq!((answer.record, answer.seed), (NOTHING, 7));
+                }
+                assert_eq!(bytes, image);
+            }
+        }
+    }
 }

@@ -32,9 +32,12 @@ pub enum Refusal {
     TooMany(Fetched),
     /// -201: an entry is bad; the index from 0 of the first bad one. Commit only.
     BadEntry(u32),
-    /// -202: the committed log isn't regular. Commit and compaction.
+    /// -202: the committed log isn't regular by the [`Rules`](crate::Rules) given.
+    /// Commit and compaction.
     Irregular,
-    /// -28: the rounded end passes the block. Commit and compaction.
+    /// -28: the rounded end passes the block. Commit and compaction; of a
+    /// compaction also where the creates of a block that littlefs compacted have
+    /// no room.
     NoSpace,
     /// -211: the log's end is no multiple of the program size. Commit only.
     Misaligned,

@@ -16,6 +16,8 @@ const GEOMETRY: Geometry = Geometry {
     block_size: 128,
     prog_size: 16,
 };
+const BY_DOCUMENT: Rules = Rules::Document;
+const BY_LITTLEFS: Rules = Rules::Littlefs;
 const NO_TAIL: [u32; 2] = [0xffffffff; 2];
 const NO_MOVE: Gstate = Gstate {
     tag: 0,
@@ -200,7 +202,10 @@ fn a_short_buffer_hides_nothing() {
     let mut end = LISTED.off;
     for size in [0, 1, 2, 3, 4, 5, 300] {
         let entries = [Entry::user_attr(0x74, 0, 0, size)];
-        let record = pair.commit(0, 0, &entries, &[7; 300]).unwrap().record;
+        let record = pair
+            .commit(0, 0, BY_DOCUMENT, &entries, &[7; 300])
+            .unwrap()
+            .record;
         let (key, mut seconds) = (Tag::new(0x374, 0, 0), [0xa5; 4]);
         let reader = pair.as_pair();
         let answer = reader.get_slice(record, NO_MOVE, MASK_TYPE, key, 0, &mut seconds);
@@ -219,7 +224,7 @@ fn a_short_buffer_hides_nothing() {
 #[test]
 fn a_slot_that_moved_is_found_where_it_stands() {
     let mut bytes = *LISTING;
-    let answer = pair_mut(&mut bytes).commit(0, 0, &[Entry::create(0)], &[]);
+    let answer = pair_mut(&mut bytes).commit(0, 0, BY_DOCUMENT, &[Entry::create(0)], &[]);
     let (record, key) = (answer.unwrap().record, Tag::new(0x374, 1, 0));
     let answer = pair(&bytes).get_slice(record, NO_MOVE, MASK_TYPE, key, 0, &mut []);
     assert_eq!(answer, found(0x37400404, 8, 27));
@@ -280,8 +285,11 @@ fn a_long_name_is_shown_to_the_256th_byte() {
     let mut pair = roomy(&mut bytes);
     for len in [255, 256, 300] {
         let renamed = [Entry::file_name(0, 0, len)];
-        pair.compact(0, 0).unwrap();
-        let record = pair.commit(0, 0, &renamed, &[b'n'; 300]).unwrap().record;
+        pair.compact(0, 0, BY_DOCUMENT).unwrap();
+        let record = pair
+            .commit(0, 0, BY_DOCUMENT, &renamed, &[b'n'; 300])
+            .unwrap()
+            .record;
         let info = pair.as_pair().get_info(record, NO_MOVE, NAME_MAX, 0);
         assert_eq!(info.unwrap().name(), &[b'n'; 300][..len.min(256) as usize]);
     }
@@ -300,7 +308,7 @@ fn a_pending_move_hides_its_entry() {
 #[test]
 fn commit_lays_a_new_deadline() {
     let mut bytes = *LISTING;
-    let answer = pair_mut(&mut bytes).commit(0, 0, &[DEADLINE], &SECONDS);
+    let answer = pair_mut(&mut bytes).commit(0, 0, BY_DOCUMENT, &[DEADLINE], &SECONDS);
     let record = Record {
         off: 64,
         etag: 0x500ffc04,
@@ -323,7 +331,8 @@ fn commit_lays_a_new_deadline() {
 fn a_committed_move_state_is_xored() {
     let mut bytes = *LISTING;
     let words = *b"\x01\0\0\0\x02\0\0\0\x03\0\0\0";
-    let answer = pair_mut(&mut bytes).commit(0, 0, &[entry(0x7ff, 1023, 0, 12)], &words);
+    let answer =
+        pair_mut(&mut bytes).commit(0, 0, BY_DOCUMENT, &[entry(0x7ff, 1023, 0, 12)], &words);
     let mut state = Gstate {
         tag: 1 << 8,
         pair: [0, 3],
@@ -347,7 +356,7 @@ fn a_committed_move_state_is_xored() {
 fn compaction_writes_the_other_block() {
     let mut bytes = *LISTING;
     bytes[128..].fill(0x55);
-    let answer = pair_mut(&mut bytes).compact(0, 0).unwrap();
+    let answer = pair_mut(&mut bytes).compact(0, 0, BY_DOCUMENT).unwrap();
     let record = Record {
         pair: [1, 0],
         rev: 2,
@@ -390,7 +399,7 @@ fn entries_are_what_a_commit_takes() {
         assert_eq!(made, expected);
     }
     let entries = made.map(|(made, _)| made);
-    assert!(pair.commit(0, 0, &entries, &[7; 12]).is_ok());
+    assert!(pair.commit(0, 0, BY_DOCUMENT, &entries, &[7; 12]).is_ok());
 }
 
 /// A commit that is refused, and leaves both images as they were.
@@ -403,7 +412,7 @@ fn refused_by(prog_size: u32, bytes: &[u8; 256], entries: &[Entry], data: &[u8])
     let mut altered = *bytes;
     let mut pair = pair_mut(&mut altered);
     pair.geometry.prog_size = prog_size;
-    let answer = pair.commit(0, 7, entries, data);
+    let answer = pair.commit(0, 7, BY_DOCUMENT, entries, data);
     assert_eq!(&altered, bytes);
     answer.unwrap_err()
 }
@@ -458,8 +467,9 @@ fn why_there_is_no_room() {
         assert!(answer.needs_compaction());
         let mut pair = pair_mut(&mut bytes);
         pair.geometry.prog_size = prog_size;
-        pair.compact(0, 0).unwrap();
-        pair.commit(0, 0, &[DEADLINE], &SECONDS).unwrap();
+        pair.compact(0, 0, BY_DOCUMENT).unwrap();
+        pair.commit(0, 0, BY_DOCUMENT, &[DEADLINE], &SECONDS)
+            .unwrap();
     }
 }
 
@@ -481,8 +491,124 @@ fn too_many_slots_come_with_the_record() {
 #[test]
 fn a_refused_compaction_leaves_the_images() {
     let mut bytes = *IRREGULAR;
-    let answer = pair_mut(&mut bytes).compact(0, 0);
+    let answer = pair_mut(&mut bytes).compact(0, 0, BY_DOCUMENT);
     assert_eq!((answer, &bytes), (Err(Refusal::Irregular), IRREGULAR));
+}
+
+/// A pair of blocks of 512 bytes, as these two hold them.
+fn wide(bytes: &mut [u8; 1024]) -> PairMut<'_> {
+    let (b0, b1) = bytes.split_at_mut(512);
+    PairMut {
+        geometry: Geometry {
+            block_size: 512,
+            ..GEOMETRY
+        },
+        images: [b0, b1],
+        numbers: [0, 1],
+    }
+}
+
+/// A pair that a real littlefs compacted: names without creates.
+#[test]
+fn littlefs_s_own_pair_needs_its_rules() {
+    let real = include_bytes!("../../../samples/real/attrs-512-0-1.pair");
+    let mut bytes = *real;
+    let mut pair = wide(&mut bytes);
+    let deadline = [Entry::user_attr(0x74, 3, 0, 4)];
+    let refused = [
+        pair.commit(0, 0, BY_DOCUMENT, &deadline, &SECONDS),
+        pair.compact(0, 0, BY_DOCUMENT),
+    ];
+    assert_eq!(refused, [Err(Refusal::Irregular); 2]);
+    assert_eq!(&bytes, real);
+
+    // What shown.txt has of slot 3, and of its eight bytes of deadline the new.
+    let shown = |pair: &PairMut, record: Record| {
+        let info = pair.as_pair().get_info(record, NO_MOVE, NAME_MAX, 3);
+        let info = info.unwrap();
+        assert_eq!(
+            (info.type_, info.size, info.name()),
+            (0x001, 3, &b"q212"[..])
+        );
+        let (key, mut seconds) = (Tag::new(0x374, 3, 0), [0; 8]);
+        let reader = pair.as_pair();
+        let found = reader.get_slice(record, NO_MOVE, MASK_TYPE, key, 0, &mut seconds);
+        assert_eq!((found.unwrap().size(), &seconds[..4]), (4, &SECONDS[..]));
+    };
+    let mut pair = wide(&mut bytes);
+    let done = pair.commit(0, 0, BY_LITTLEFS, &deadline, &SECONDS);
+    shown(&pair, done.unwrap().record);
+    let done = pair.compact(0, 0, BY_LITTLEFS).unwrap();
+    assert_eq!((done.record.count, done.record.tail), (5, [2, 3]));
+    shown(&pair, done.record);
+    // What a compaction writes has its creates.
+    pair.commit(0, 0, BY_DOCUMENT, &deadline, &SECONDS).unwrap();
+    pair.compact(0, 0, BY_DOCUMENT).unwrap();
+}
+
+/// The checksum of a commit, bit by bit.
+fn crc(bytes: &[u8]) -> u32 {
+    bytes.iter().fold(u32::MAX, |sum, &byte| {
+        (0..8).fold(sum ^ u32::from(byte), |sum, _| {
+            (sum >> 1) ^ ((sum & 1) * 0xedb8_8320)
+        })
+    })
+}
+
+/// Names of one byte, and no create: the log ends at the block's end.
+fn full_of_names() -> [u8; 256] {
+    let mut bytes = [0xff; 256];
+    let mut previous = u32::MAX;
+    bytes[..4].copy_from_slice(&1u32.to_le_bytes());
+    for id in 0..23 {
+        let (tag, at) = (Tag::new(TYPE_REG, id, 1).0, 4 + 5 * id as usize);
+        bytes[at..at + 4].copy_from_slice(&(previous ^ tag).to_be_bytes());
+        bytes[at + 4] = b'a' + id as u8;
+        previous = tag;
+    }
+    let tag = Tag::new(TYPE_CCRC, NO_SLOT, 5).0;
+    bytes[119..123].copy_from_slice(&(previous ^ tag).to_be_bytes());
+    let sum = crc(&bytes[..123]);
+    bytes[123..127].copy_from_slice(&sum.to_le_bytes());
+    bytes
+}
+
+/// The creates that a compaction adds have no room there.
+#[test]
+fn a_full_block_without_creates_has_no_room_for_them() {
+    let full = full_of_names();
+    let mut bytes = full;
+    let mut pair = pair_mut(&mut bytes);
+    let record = pair.as_pair().fetch(0, 0).unwrap().record;
+    assert_eq!((record.count, record.off), (23, 128));
+    assert_eq!(pair.compact(0, 0, BY_DOCUMENT), Err(Refusal::Irregular));
+    assert_eq!(pair.compact(0, 0, BY_LITTLEFS), Err(Refusal::NoSpace));
+    assert_eq!(bytes, full);
+    // One name of id 1,022 makes 1,023 slots.
+    let mut bytes = *IRREGULAR;
+    let answer = pair_mut(&mut bytes).compact(0, 0, BY_LITTLEFS);
+    assert_eq!((answer, &bytes), (Err(Refusal::NoSpace), IRREGULAR));
+    let answer = pair_mut(&mut bytes).commit(0, 0, BY_LITTLEFS, &[DEADLINE], &SECONDS);
+    assert_eq!(answer.unwrap().record.count, 1023);
+}
+
+/// A pair that this library wrote gets the same answer and bytes by both rules.
+#[test]
+fn the_listing_is_written_alike_by_both_rules() {
+    let written = |rules| {
+        let mut bytes = *LISTING;
+        let mut pair = pair_mut(&mut bytes);
+        let answers = [
+            pair.commit(0, 0, rules, &[DEADLINE], &SECONDS),
+            pair.compact(0, 0, rules),
+        ];
+        assert!(answers.iter().all(Result::is_ok));
+        (answers, bytes)
+    };
+    assert_eq!(written(BY_DOCUMENT), written(BY_LITTLEFS));
+    assert_eq!(Rules::default(), BY_DOCUMENT);
+    let numbers = [BY_DOCUMENT.number(), BY_LITTLEFS.number()];
+    assert_eq!(numbers, [RULES_DOCUMENT, RULES_LITTLEFS]);
 }
 
 #[test]
@@ -537,7 +663,7 @@ fn the_names_are_the_header_s() {
         TYPE_NAME TYPE_REG TYPE_DIR TYPE_SUPERBLOCK TYPE_STRUCT TYPE_DIRSTRUCT TYPE_INLINESTRUCT
         TYPE_CTZSTRUCT TYPE_USERATTR TYPE_SPLICE TYPE_CREATE TYPE_DELETE TYPE_CCRC TYPE_FCRC
         TYPE_TAIL TYPE_SOFTTAIL TYPE_HARDTAIL TYPE_MOVESTATE
-        MASK_TYPE MASK_CLASS NO_SLOT REMOVAL BLOCK_NULL
+        MASK_TYPE MASK_CLASS RULES_DOCUMENT RULES_LITTLEFS NO_SLOT REMOVAL BLOCK_NULL
         ATTR_MAX SLOTS_MAX NAME_MAX BUFFER_MAX ENTRIES_MAX DATA_MAX
     ];
     let header = include_str!("../../../include/lanolin.h").lines();

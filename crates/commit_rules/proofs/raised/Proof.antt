@@ -13,10 +13,14 @@ add-result c =
     omega (arith, r .0)
 
 returns : tie.Need-returns
-returns c = rw (c .before .enum-told .given .1) (names-raise _ _ _ (c .if1 .taken) .1)
+returns c =
+    let a = c .before .before .before .args in
+    rw (c .before .enum-told .given .1) (names-raise (a .grows) (a .count) (a .id) (c .if1 .taken) .1)
 
 returns-2 : tie.Need-returns-2
-returns-2 c = rw (c .before .enum-told .given .1) (names-stay _ _ _ (c .if1 .left))
+returns-2 c =
+    let a = c .before .before .before .args in
+    rw (c .before .enum-told .given .1) (names-stay (a .grows) (a .count) (a .id) (c .if1 .left))
 
 returns-3 : tie.Need-returns-3
 returns-3 c = raises-none (c .before .args .rule) _ (c .before .args .count) (c .before .args .id) (c .match .keys2)

@@ -72,7 +72,8 @@ returns-3 c = begins-first (c .before .before .before .before .before .before .b
     .n1) (c .before .before .before .before .before .before .before .before .before .before .before .before .args
     .block-count) (c .before .before .before .before .before .before .before .before .before .before .before .before
     .args .seed)
-    (c .before .before .before .before .before .before .before .before .before .before .before .before .args .rules) (c .before .before .before .before .before .before .before .before .before .before .before .before
+    (c .before .before .before .before .before .before .before .before .before .before .before .before .args .rules) (c
+    .before .before .before .before .before .before .before .before .before .before .before .before
     .args .entries) (c .before .before .before .before .before .before .before .before .before .before .before .before
     .args .dat .now) _ (c .before .before .before .before .before .before .before .before .pair-fits .ensures)
     (c .before .before .before .before .before .before .before .if1 .left) _ _
@@ -88,7 +89,8 @@ returns-4 c = begins-second (c .before .before .before .before .before .before .
     .n1) (c .before .before .before .before .before .before .before .before .before .before .before .before .args
     .block-count) (c .before .before .before .before .before .before .before .before .before .before .before .before
     .args .seed)
-    (c .before .before .before .before .before .before .before .before .before .before .before .before .args .rules) (c .before .before .before .before .before .before .before .before .before .before .before .before
+    (c .before .before .before .before .before .before .before .before .before .before .before .before .args .rules) (c
+    .before .before .before .before .before .before .before .before .before .before .before .before
     .args .entries) (c .before .before .before .before .before .before .before .before .before .before .before .before
     .args .dat .now) _ (c .before .before .before .before .before .before .before .before .pair-fits .ensures)
     (c .before .before .before .before .before .before .before .if1 .left) _ _

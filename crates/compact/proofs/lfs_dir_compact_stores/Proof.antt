@@ -9,12 +9,18 @@ use Rattle.compact.proofs.lfs_dir_compact_stores.Statement.{statement}
 use Rattle.compact.proofs.lfs_dir_compact_stores.Tie as tie
 
 renew-requires : tie.Need-renew-requires
-renew-requires c κs = renews-first _ _ _ _ _ _ _ (c .before .before .before .before .before .before .before .before .before .before .before .before .before .before .args .rules) _ _ (c .before .before .before .before .before .before .before .before .before .before .before .if1 .left)
-    (sym (c .before .before .before .before .before .before .dir .given .1) ∙ c .before .before .before .before .before .before .before .before .lfs-dir-fetch .ensures) (c .before .before .if2 .taken)
+renew-requires c κs = renews-first _ _ _ _ _ _ _ (c .before .before .before .before .before .before .before .before
+    .before .before .before .before .before .before .args .rules) _ _ (c .before .before .before .before .before .before
+    .before .before .before .before .before .if1 .left)
+    (sym (c .before .before .before .before .before .before .dir .given .1) ∙ c .before .before .before .before .before
+    .before .before .before .lfs-dir-fetch .ensures) (c .before .before .if2 .taken)
 
 renew-requires-2 : tie.Need-renew-requires-2
-renew-requires-2 c κs = renews-second _ _ _ _ _ _ _ (c .before .before .before .before .before .before .before .before .before .before .before .before .before .before .args .rules) _ _ (c .before .before .before .before .before .before .before .before .before .before .before .if1 .left)
-    (sym (c .before .before .before .before .before .before .dir .given .1) ∙ c .before .before .before .before .before .before .before .before .lfs-dir-fetch .ensures) (c .before .before .if2 .left)
+renew-requires-2 c κs = renews-second _ _ _ _ _ _ _ (c .before .before .before .before .before .before .before .before
+    .before .before .before .before .before .before .args .rules) _ _ (c .before .before .before .before .before .before
+    .before .before .before .before .before .if1 .left)
+    (sym (c .before .before .before .before .before .before .dir .given .1) ∙ c .before .before .before .before .before
+    .before .before .before .lfs-dir-fetch .ensures) (c .before .before .if2 .left)
 
 returns : tie.Need-returns
 returns c =
@@ -24,25 +30,51 @@ returns c =
 
 returns-2 : tie.Need-returns-2
 returns-2 c =
-    kept _ _ _ _ _ _ _ _ _ _ _ _ (λ i. omega (arith, c .before .before .before .before .before .before .before .before .slice-known .given i))
+    kept _ _ _ _ _ _ _ _ _ _ _ _ (λ i. omega (
+      arith,
+      c .before .before .before .before .before .before .before .before
+          .slice-known .given i,
+    ))
     (λ i. omega (arith, c .before .before .before .before .before .before .before .slice-known2 .given i))
     (called-refused _ _ _ _ _ _ _ _ _ _ (c .before .before .before .before .before .before .if1 .left)
     (sym (c .before .r .given .1) ∙ c .before .before .before .lfs-dir-fetch .ensures))
 
 returns-3 : tie.Need-returns-3
 returns-3 c =
-    kept _ _ _ _ _ _ _ _ _ _ _ _ (λ i. omega (arith, c .before .before .before .before .before .before .before .before .before .before .before .before .before .before .before .before .slice-known .given i))
-    (λ i. omega (arith, c .before .before .before .before .before .before .before .before .before .before .before .before .before .before .before .slice-known2 .given i))
-    (called-first _ _ _ _ _ _ _ _ _ _ (c .before .before .before .before .before .before .before .before .before .before .before .before .before .before .if1 .left)
-    (sym (c .before .before .before .before .before .before .before .before .before .dir .given .1) ∙ c .before .before .before .before .before .before .before .before .before .before .before .lfs-dir-fetch .ensures) (c .before .before .before .before .before .if2 .taken) _ _ _
+    kept _ _ _ _ _ _ _ _ _ _ _ _ (λ i. omega (
+      arith,
+      c .before .before .before .before .before .before .before .before
+          .before .before .before .before .before .before .before .before .slice-known .given i,
+    ))
+    (λ i. omega (
+      arith,
+      c .before .before .before .before .before .before .before .before .before .before .before
+          .before .before .before .before .slice-known2 .given i,
+    ))
+    (called-first _ _ _ _ _ _ _ _ _ _ (c .before .before .before .before .before .before .before .before .before .before
+    .before .before .before .before .if1 .left)
+    (sym (c .before .before .before .before .before .before .before .before .before .dir .given .1) ∙ c .before .before
+    .before .before .before .before .before .before .before .before .before .lfs-dir-fetch .ensures) (c .before .before
+    .before .before .before .if2 .taken) _ _ _
     (c .before .before .renew .ensures .0) (c .before .before .renew .ensures .1))
 
 returns-4 : tie.Need-returns-4
 returns-4 c =
-    kept _ _ _ _ _ _ _ _ _ _ _ _ (λ i. omega (arith, c .before .before .before .before .before .before .before .before .before .before .before .before .before .before .before .before .slice-known .given i))
-    (λ i. omega (arith, c .before .before .before .before .before .before .before .before .before .before .before .before .before .before .before .slice-known2 .given i))
-    (called-second _ _ _ _ _ _ _ _ _ _ (c .before .before .before .before .before .before .before .before .before .before .before .before .before .before .if1 .left)
-    (sym (c .before .before .before .before .before .before .before .before .before .dir .given .1) ∙ c .before .before .before .before .before .before .before .before .before .before .before .lfs-dir-fetch .ensures) (c .before .before .before .before .before .if2 .left) _ _ _
+    kept _ _ _ _ _ _ _ _ _ _ _ _ (λ i. omega (
+      arith,
+      c .before .before .before .before .before .before .before .before
+          .before .before .before .before .before .before .before .before .slice-known .given i,
+    ))
+    (λ i. omega (
+      arith,
+      c .before .before .before .before .before .before .before .before .before .before .before
+          .before .before .before .before .slice-known2 .given i,
+    ))
+    (called-second _ _ _ _ _ _ _ _ _ _ (c .before .before .before .before .before .before .before .before .before
+    .before .before .before .before .before .if1 .left)
+    (sym (c .before .before .before .before .before .before .before .before .before .dir .given .1) ∙ c .before .before
+    .before .before .before .before .before .before .before .before .before .lfs-dir-fetch .ensures) (c .before .before
+    .before .before .before .if2 .left) _ _ _
     (c .before .before .renew2 .ensures .0) (c .before .before .renew2 .ensures .1))
 
 pub lfs-dir-compact-stores-spec : {M : Type 1} → statement M

@@ -12,19 +12,25 @@ use Rattle.compact_block.proofs.renew.Tie as tie
 returns : tie.Need-returns
 returns c =
     renew-irregular _ _ _ _ _ (c .before .before .before .before .before .pre)
-    (c .before .before .before .before .before .args .rules) _ (c .before .before .rules-of .ensures) _ (c .before .log-regular .ensures)
+    (c .before .before .before .before .before .args .rules) _ (c .before .before .rules-of .ensures) _ (c .before
+    .log-regular .ensures)
     (c .if1 .taken)
 
 entries-requires : tie.Need-entries-requires
 entries-requires c κs =
-    rw (c .begin .ensures) (reads-all _ _ _ _ (c .before .before .before .before .before .before .before .before .pre .recorded)
-    (widest (c .before .before .before .before .before .rules-of .result) _ (sym (c .before .before .before .before .log-regular .ensures) ∙ not-false _ (c .before .before .before .if1
+    rw (c .begin .ensures) (reads-all _ _ _ _ (c .before .before .before .before .before .before .before .before .pre
+    .recorded)
+    (widest (c .before .before .before .before .before .rules-of .result) _ (sym (c .before .before .before .before
+    .log-regular .ensures) ∙ not-false _ (c .before .before .before .if1
     .left))))
 
 rounded-end-requires : tie.Need-rounded-end-requires
 rounded-end-requires c κs =
-    renew-prog _ _ _ _ 0 (c .before .before .before .before .before .before .before .before .before .before .before .pre)
-    (c .before .before .before .before .before .before .before .before .before .before .before .args .rules) _ (c .before .before .before .before .before .before .before .before .rules-of .ensures) _ (c .before .before .before .before .before .before .before .log-regular .ensures)
+    renew-prog _ _ _ _ 0 (c .before .before .before .before .before .before .before .before .before .before .before
+    .pre)
+    (c .before .before .before .before .before .before .before .before .before .before .before .args .rules) _ (c
+    .before .before .before .before .before .before .before .before .rules-of .ensures) _ (c .before .before .before
+    .before .before .before .before .log-regular .ensures)
     (c .before .before .before .before .before .before .if1 .left) _
     (c .before .before .before .before .before .wrapping-add-u32 .ensures) _ _
     (c .before .before .before .begin .ensures) _ (c .before .before .entries .ensures)
@@ -33,7 +39,9 @@ returns-2 : tie.Need-returns-2
 returns-2 c =
     renew-full _ _ _ _ _
     (c .before .before .before .before .before .before .before .before .before .before .before .before .before .pre)
-    (c .before .before .before .before .before .before .before .before .before .before .before .before .before .args .rules) _ (c .before .before .before .before .before .before .before .before .before .before .rules-of .ensures) _ (c .before .before .before .before .before .before .before .before .before .log-regular .ensures)
+    (c .before .before .before .before .before .before .before .before .before .before .before .before .before .args
+    .rules) _ (c .before .before .before .before .before .before .before .before .before .before .rules-of .ensures) _
+    (c .before .before .before .before .before .before .before .before .before .log-regular .ensures)
     (c .before .before .before .before .before .before .before .before .if1 .left) _
     (c .before .before .before .before .before .before .before .wrapping-add-u32 .ensures) _ _
     (c .before .before .before .before .before .begin .ensures) _ (c .before .before .before .before .entries .ensures)
@@ -43,15 +51,21 @@ check-tag-requires : tie.Need-check-tag-requires
 check-tag-requires c κs =
     renew-prog _ _ _ _ 0
     (c .before .before .before .before .before .before .before .before .before .before .before .before .before .pre)
-    (c .before .before .before .before .before .before .before .before .before .before .before .before .before .args .rules) _ (c .before .before .before .before .before .before .before .before .before .before .rules-of .ensures) _ (c .before .before .before .before .before .before .before .before .before .log-regular .ensures)
+    (c .before .before .before .before .before .before .before .before .before .before .before .before .before .args
+    .rules) _ (c .before .before .before .before .before .before .before .before .before .before .rules-of .ensures) _
+    (c .before .before .before .before .before .before .before .before .before .log-regular .ensures)
     (c .before .before .before .before .before .before .before .before .if1 .left) _
     (c .before .before .before .before .before .before .before .wrapping-add-u32 .ensures) _ _
     (c .before .before .before .before .before .begin .ensures) _ (c .before .before .before .before .entries .ensures)
 
 returns-3 : tie.Need-returns-3
 returns-3 c =
-    renew-coincides _ _ _ _ _ (c .before .before .before .before .before .before .before .before .before .before .before .before .before .before .before .before .before .pre)
-    (c .before .before .before .before .before .before .before .before .before .before .before .before .before .before .before .before .before .args .rules) _ (c .before .before .before .before .before .before .before .before .before .before .before .before .before .before .rules-of .ensures) _ (c .before .before .before .before .before .before .before .before .before .before .before .before .before .log-regular .ensures)
+    renew-coincides _ _ _ _ _ (c .before .before .before .before .before .before .before .before .before .before .before
+    .before .before .before .before .before .before .pre)
+    (c .before .before .before .before .before .before .before .before .before .before .before .before .before .before
+    .before .before .before .args .rules) _ (c .before .before .before .before .before .before .before .before .before
+    .before .before .before .before .before .rules-of .ensures) _ (c .before .before .before .before .before .before
+    .before .before .before .before .before .before .before .log-regular .ensures)
     (c .before .before .before .before .before .before .before .before .before .before .before .before .if1 .left) _ (c
     .before .before .before .before .before .before .before .before .before .before .before .wrapping-add-u32 .ensures)
     _ _ (c .before .before .before .before .before .before .before .before .before .begin .ensures) _
@@ -61,8 +75,13 @@ returns-3 c =
 
 write-requires : tie.Need-write-requires
 write-requires c κs =
-    renew-writes _ _ _ _ 0 (c .before .before .before .before .before .before .before .before .before .before .before .before .before .before .before .before .before .before .pre)
-    (c .before .before .before .before .before .before .before .before .before .before .before .before .before .before .before .before .before .before .args .rules) _ (c .before .before .before .before .before .before .before .before .before .before .before .before .before .before .before .rules-of .ensures) _ (c .before .before .before .before .before .before .before .before .before .before .before .before .before .before .log-regular .ensures) (c .before .before .before .before
+    renew-writes _ _ _ _ 0 (c .before .before .before .before .before .before .before .before .before .before .before
+    .before .before .before .before .before .before .before .pre)
+    (c .before .before .before .before .before .before .before .before .before .before .before .before .before .before
+    .before .before .before .before .args .rules) _ (c .before .before .before .before .before .before .before .before
+    .before .before .before .before .before .before .before .rules-of .ensures) _ (c .before .before .before .before
+    .before .before .before .before .before .before .before .before .before .before .log-regular .ensures) (c .before
+    .before .before .before
     .before .before .before .before .before .before .before .before .before .if1 .left) _ (c .before .before .before
     .before .before .before .before .before .before .before .before .before .wrapping-add-u32 .ensures) _ _
     (c .before .before .before .before .before .before .before .before .before .before .begin .ensures) _
@@ -73,8 +92,14 @@ write-requires c κs =
 
 returns-4 : tie.Need-returns-4
 returns-4 c =
-    renew-made _ _ _ _ _ (c .before .before .before .before .before .before .before .before .before .before .before .before .before .before .before .before .before .before .before .before .before .pre)
-    (c .before .before .before .before .before .before .before .before .before .before .before .before .before .before .before .before .before .before .before .before .before .args .rules) _ (c .before .before .before .before .before .before .before .before .before .before .before .before .before .before .before .before .before .before .rules-of .ensures) _ (c .before .before .before .before .before .before .before .before .before .before .before .before .before .before .before .before .before .log-regular .ensures) (c .before .before .before .before .before .before .before .before .before .before .before .before .before
+    renew-made _ _ _ _ _ (c .before .before .before .before .before .before .before .before .before .before .before
+    .before .before .before .before .before .before .before .before .before .before .pre)
+    (c .before .before .before .before .before .before .before .before .before .before .before .before .before .before
+    .before .before .before .before .before .before .before .args .rules) _ (c .before .before .before .before .before
+    .before .before .before .before .before .before .before .before .before .before .before .before .before .rules-of
+    .ensures) _ (c .before .before .before .before .before .before .before .before .before .before .before .before
+    .before .before .before .before .before .log-regular .ensures) (c .before .before .before .before .before .before
+    .before .before .before .before .before .before .before
     .before .before .before .if1 .left) _ (c .before .before .before .before .before .before .before .before .before
     .before .before .before .before .before .before .wrapping-add-u32 .ensures) _ _ (c .before .before .before .before
     .before .before .before .before .before .before .before .before .before .begin .ensures) _ (c .before .before
@@ -88,6 +113,7 @@ returns-4 c =
 pub renew-spec : {M : Type 1} → statement M
 renew-spec =
     tie.close
-    (tie.spec (λ c κs. search needs) (λ c κs. search needs) returns (λ c κs. search needs) (λ c κs. search needs) entries-requires
+    (tie.spec (λ c κs. search needs) (λ c κs. search needs) returns (λ c κs. search needs) (λ c κs. search needs)
+    entries-requires
     rounded-end-requires (λ c. search needs) returns-2 check-tag-requires (λ c κs. search needs) (λ c. search needs)
     returns-3 write-requires (λ c. search needs) returns-4)

@@ -7,18 +7,28 @@ use Rattle.text_audit.proofs.block_audit.Tie as tie
 
 returns : tie.Need-returns
 returns c =
-    block-irregular _ _ _ (c .before .before .before .before .before .before .before .before .before .args .rules) _ (c .before .before .before .before .before .before .rules-of .ensures) _ (c .before .before .before .before .before .log-regular .ensures) _
+    block-irregular _ _ _ (c .before .before .before .before .before .before .before .before .before .args .rules) _ (c
+    .before .before .before .before .before .before .rules-of .ensures) _ (c .before .before .before .before .before
+    .log-regular .ensures) _
     (c .before .before .before .before .if1 .taken) (c .before .before .refused .ensures)
 
 slot-audits-requires : tie.Need-slot-audits-requires
-slot-audits-requires c κs = block-slots _ _ _ _ (c .before .before .before .before .before .before .before .before .pre) (c .before .before .before .before .log-regular .ensures) (c .before .before .before .if1 .left)
+slot-audits-requires c κs = block-slots _ _ _ _ (c .before .before .before .before .before .before .before .before .pre)
+    (c .before .before .before .before .log-regular .ensures) (c .before .before .before .if1 .left)
 
 returns-2 : tie.Need-returns-2
 returns-2 c =
-    block-audited _ _ _ (c .before .before .before .before .before .before .before .before .before .before .before .before .before .before .before .before .args .rules) _ (c .before .before .before .before .before .before .before .before .before .before .before .before .before .rules-of .ensures) _ (c .before .before .before .before .before .before .before .before .before .before .before .before .log-regular .ensures) _ _ _
+    block-audited _ _ _ (c .before .before .before .before .before .before .before .before .before .before .before
+    .before .before .before .before .before .args .rules) _ (c .before .before .before .before .before .before .before
+    .before .before .before .before .before .before .rules-of .ensures) _ (c .before .before .before .before .before
+    .before .before .before .before .before .before .before .log-regular .ensures) _ _ _
     (c .before .before .before .before .before .before .before .before .before .before .before .if1 .left)
-    (block-slots _ _ _ _ (c .before .before .before .before .before .before .before .before .before .before .before .before .before .before .before .before .pre) (c .before .before .before .before .before .before .before .before .before .before .before .before .log-regular .ensures) (c .before .before .before .before .before .before .before .before .before .before .before .if1 .left))
-    (c .before .before .before .before .before .before .before .slot-audits .ensures) (c .before .before .total-lines .ensures)
+    (block-slots _ _ _ _ (c .before .before .before .before .before .before .before .before .before .before .before
+    .before .before .before .before .before .pre) (c .before .before .before .before .before .before .before .before
+    .before .before .before .before .log-regular .ensures) (c .before .before .before .before .before .before .before
+    .before .before .before .before .if1 .left))
+    (c .before .before .before .before .before .before .before .slot-audits .ensures) (c .before .before .total-lines
+    .ensures)
 
 pub block-audit-spec : {M : Type 1} → statement M
 block-audit-spec =

@@ -7,16 +7,24 @@ use Rattle.text_listing.proofs.block_text.Tie as tie
 
 returns : tie.Need-returns
 returns c =
-    block-irregular _ _ _ _ _ (c .before .before .before .before .before .before .before .before .before .before .before .before .before .args .rules) _ (c .before .before .before .before .before .before .rules-of .ensures) _ (c .before .before .before .before .before .log-regular .ensures)
-    (c .before .before .before .before .before .before .before .before .before .record-lines .ensures) (c .before .before .before .before .if1 .taken) (c .before .before .refused .ensures)
+    block-irregular _ _ _ _ _ (c .before .before .before .before .before .before .before .before .before .before .before
+    .before .before .args .rules) _ (c .before .before .before .before .before .before .rules-of .ensures) _ (c .before
+    .before .before .before .before .log-regular .ensures)
+    (c .before .before .before .before .before .before .before .before .before .record-lines .ensures) (c .before
+    .before .before .before .if1 .taken) (c .before .before .refused .ensures)
 
 slot-lines-requires : tie.Need-slot-lines-requires
-slot-lines-requires c κs = block-slots _ _ _ _ (c .before .before .before .before .before .before .before .before .before .before .before .before .pre) (c .before .before .before .before .log-regular .ensures) (c .before .before .before .if1 .left)
+slot-lines-requires c κs = block-slots _ _ _ _ (c .before .before .before .before .before .before .before .before
+    .before .before .before .before .pre) (c .before .before .before .before .log-regular .ensures) (c .before .before
+    .before .if1 .left)
 
 returns-2 : tie.Need-returns-2
 returns-2 c =
-    block-regular _ _ _ _ _ (c .before .before .before .before .before .before .before .before .before .before .before .before .before .before .before .args .rules) _ (c .before .before .before .before .before .before .before .before .rules-of .ensures) _ (c .before .before .before .before .before .before .before .log-regular .ensures)
-    (c .before .before .before .before .before .before .before .before .before .before .before .record-lines .ensures) (c .before .before .before .before .before .before .if1 .left) (c .before .before .slot-lines .ensures)
+    block-regular _ _ _ _ _ (c .before .before .before .before .before .before .before .before .before .before .before
+    .before .before .before .before .args .rules) _ (c .before .before .before .before .before .before .before .before
+    .rules-of .ensures) _ (c .before .before .before .before .before .before .before .log-regular .ensures)
+    (c .before .before .before .before .before .before .before .before .before .before .before .record-lines .ensures)
+    (c .before .before .before .before .before .before .if1 .left) (c .before .before .slot-lines .ensures)
 
 pub block-text-spec : {M : Type 1} → statement M
 block-text-spec =

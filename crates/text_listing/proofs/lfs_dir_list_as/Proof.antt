@@ -6,7 +6,8 @@ use Rattle.format.specs.Listing.{blockText}
 use Rattle.format.specs.Regular.{rulesOf}
 use Rattle.text.proofs.Written.{puts-written}
 use Rattle.text_listing.proofs.Fits.{listing-short}
-use Rattle.text_input.proofs.Input.{rule-refused, rule-fits, shown-refused, first-listable, shown-first, second-listable, shown-second}
+use Rattle.text_input.proofs.Input.{rule-refused, rule-fits, shown-refused, first-listable, shown-first}
+use Rattle.text_input.proofs.Input.{second-listable, shown-second}
 use Rattle.text_listing.proofs.lfs_dir_list_as.Statement.{statement}
 use Rattle.text_listing.proofs.lfs_dir_list_as.Tie as tie
 
@@ -32,16 +33,19 @@ returns-2 : tie.Need-returns-2
 returns-2 c =
     let a = c .before .before .before .before .before .before .before .before .before .before .before .args in
     puts-written _ _ _ _ (listing-short (a .prog-size) (a .numbers) (a .rules) (a .input .now))
-    (rule-fits _ _ _ _ (c .before .before .before .before .before .before .before .before .if1 .left) (shown-refused _ _ _ (blockText (rulesOf (a .rules))) _ _ _
+    (rule-fits _ _ _ _ (c .before .before .before .before .before .before .before .before .if1 .left) (shown-refused _ _
+    _ (blockText (rulesOf (a .rules))) _ _ _
     (sym (c .before .before .before .before .before .r .given .1)
     ∙ c .before .before .before .before .before .before .before .fetch-input .ensures)
     (c .before .before .refused2 .ensures)))
 
 returns-3 : tie.Need-returns-3
 returns-3 c =
-    let a = c .before .before .before .before .before .before .before .before .before .before .before .before .before .before .before .before .args in
+    let a = c .before .before .before .before .before .before .before .before .before .before .before .before .before
+    .before .before .before .args in
     puts-written _ _ _ _ (listing-short (a .prog-size) (a .numbers) (a .rules) (a .input .now))
-    (rule-fits _ _ _ _ (c .before .before .before .before .before .before .before .before .before .before .before .before .before .if1 .left) (shown-first _ _ _ _ _
+    (rule-fits _ _ _ _ (c .before .before .before .before .before .before .before .before .before .before .before
+    .before .before .if1 .left) (shown-first _ _ _ _ _
     (sym (c .before .before .before .before .before .before .before .before .before .before .m .given .1)
     ∙ c .before .before .before .before .before .before .before .before .before .before .before .before .fetch-input
     .ensures) (c .before .before .before .before .before .if2 .taken) (blockText (rulesOf (a .rules))) _ _
@@ -49,9 +53,11 @@ returns-3 c =
 
 returns-4 : tie.Need-returns-4
 returns-4 c =
-    let a = c .before .before .before .before .before .before .before .before .before .before .before .before .before .before .before .before .args in
+    let a = c .before .before .before .before .before .before .before .before .before .before .before .before .before
+    .before .before .before .args in
     puts-written _ _ _ _ (listing-short (a .prog-size) (a .numbers) (a .rules) (a .input .now))
-    (rule-fits _ _ _ _ (c .before .before .before .before .before .before .before .before .before .before .before .before .before .if1 .left) (shown-second _ _ _ _ _
+    (rule-fits _ _ _ _ (c .before .before .before .before .before .before .before .before .before .before .before
+    .before .before .if1 .left) (shown-second _ _ _ _ _
     (sym (c .before .before .before .before .before .before .before .before .before .before .m .given .1)
     ∙ c .before .before .before .before .before .before .before .before .before .before .before .before .fetch-input
     .ensures) (c .before .before .before .before .before .if2 .left) (blockText (rulesOf (a .rules))) _ _

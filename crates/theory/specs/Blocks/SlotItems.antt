@@ -10,7 +10,8 @@ use lib.ListN.{length, take, drop, getD, set, replicate}
 use lib.Dec.{eqb}
 use borrow.Author.Tests.{eqb-true}
 use Rattle.format.specs.Walk.{Event}
-use Rattle.format.specs.Directory.{Slot, Load, classes, put, Act, mk, rm, skip, empty, upd, dir, reaching, apply, dirOf, acts}
+use Rattle.format.specs.Directory.{Slot, Load, classes, put, Act, mk, rm, skip, empty, upd, dir, reaching, apply, dirOf}
+use Rattle.format.specs.Directory.{acts}
 use Rattle.theory.specs.Directory.Rebuild.{AllHeld, puts, emit, rebuild}
 use Rattle.theory.specs.Blocks.ActItems.{LoadOk, TypeOf, AllOk}
 
@@ -120,7 +121,8 @@ ok-dir (mk j ∷ l) h = let r = ok-dir l (h .1) in ok-app (take j (dir l)) (empt
     (ok-empty, ok-drop j (dir l) r)
 ok-dir (rm j ∷ l) h = let r = ok-dir l (h .1) in ok-app (take j (dir l)) (drop (suc j) (dir l)) (ok-take j (dir l) r)
     (ok-drop (suc j) (dir l) r)
-ok-dir (put j c v ∷ l) h = let r = ok-dir l (h .1) in ok-set (reaching j (dir l)) j (upd (getD (dir l) j empty) c v) (ok-reaching (dir l) j r)
+ok-dir (put j c v ∷ l) h = let r = ok-dir l (h .1) in ok-set (reaching j (dir l)) j (upd (getD (dir l) j empty) c v)
+    (ok-reaching (dir l) j r)
     (ok-upd (getD (dir l) j empty) c j v (ok-get (dir l) j r) (h .0))
 ok-dir (skip ∷ l) h = ok-dir l (h .1)
 

@@ -207,24 +207,34 @@ pub record AppendsTo (r : Rules) (b0 b1 : List ℕ) (entries : List Entry) (dat 
   pub ruled : Regular r (log (blockAt second b0 b1)) ≡ true
   pub accepts : Accepts (blockAt second b0 b1) (log (blockAt second b0 b1)) (itemsOf dat entries) size
 
-module _ (g : Geometry) (b0 b1 : List ℕ) (n0 n1 count seed rules : ℕ) (entries : List Entry) (dat : List ℕ) (second : Bool)
+module _ (g : Geometry) (b0 b1 : List ℕ) (n0 n1 count seed rules : ℕ) (entries : List Entry) (dat : List ℕ) (second :
+    Bool)
     (is : List Item) (size : ℕ) where
   pub accepted-commit : verdictOf g b0 b1 n0 n1 count seed rules entries dat ≡ accepted second is size
       → AppendsTo (rulesOf rules) b0 b1 entries dat second is size
   unfolding verdictOf appended
   accepted-commit h =
-      let p = past (not (commitFits g (length b0) (length b1) n0 n1 rules (length entries) (length dat))) Invalid _ second is
+      let p = past (not (commitFits g (length b0) (length b1) n0 n1 rules (length entries) (length dat))) Invalid _
+      second is
       size h in
       let prog = fits-prog g (fits-geometry g (length b0) (length b1) n0 n1 rules (length entries) (length dat)
       (not-false _ (p .0))) in
       let f = found-then (fetchOf g b0 b1 n0 n1 count seed) _ second is size (p .1) in
       let a = found-answers g b0 b1 n0 n1 count seed (f .m) (f .s) (f .found) in
-      let t : appended (rulesOf rules) (g .«prog_size») (a .w) (blockAt (a .w) b0 b1) (log (blockAt (a .w) b0 b1)) entries dat
+      let t : appended (rulesOf rules) (g .«prog_size») (a .w) (blockAt (a .w) b0 b1) (log (blockAt (a .w) b0 b1))
+      entries dat
       ≡ accepted second is size = rw (a .place) at (f .then) in
       let q = past (not (Regular (rulesOf rules) (log (blockAt (a .w) b0 b1)))) Irregular _ second is size t in
       let j = good-then (judge dat 0 (countOf 0 (log (blockAt (a .w) b0 b1))) entries) _ second is size (q .1) in
       let some : log (blockAt (a .w) b0 b1) ≢ [] = view-log (a .w) (blockAt (a .w) b0 b1) (blockAt (not (a .w)) b0 b1)
       (a .rev) (log (blockAt (a .w) b0 b1)) (a .answers) .1 in
       let k = placed-accepts (g .«prog_size») (prog .0) (prog .1) (blockAt (a .w) b0 b1) (log (blockAt (a .w) b0 b1))
-      refl some (widest (rulesOf rules) _ (not-false _ (q .0))) dat entries (j .c) (j .all) (a .w) second is size (j .then) in
-      rw (k .0) (record { rev = a .rev; items = k .1; answers = a .answers; ruled = not-false _ (q .0); accepts = k .2 })
+      refl some (widest (rulesOf rules) _ (not-false _ (q .0))) dat entries (j .c) (j .all) (a .w) second is size (j
+      .then) in
+      rw (k .0) (record {
+        rev = a .rev;
+        items = k .1;
+        answers = a .answers;
+        ruled = not-false _ (q .0);
+        accepts = k .2;
+      })

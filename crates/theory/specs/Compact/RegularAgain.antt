@@ -1,5 +1,5 @@
--- The compacted log is regular by document 01's rule, whichever the old one was regular by, so that the next call is not
--- refused for it. Assumes nothing.
+-- The compacted log is regular by document 01's rule, whichever the old one was regular by, so that the next call is
+-- not refused for it. Assumes nothing.
 use mathlib.Core.Path.{_≡_, refl, sym, ap, _∙_}
 use mathlib.Core.Logic.{inl}
 use mathlib.Core.Bool.{Bool, true, false}
@@ -88,7 +88,8 @@ acts-pass (a ∷ l) n more ok al few k =
     let p = act-passes a n (ok .0) (al .0) (few .0) in
     let R : Rule = ruleOf true (tagType3 (toItem a .tag)) in
     let al′ : AllowedFrom false (slotsAfter n a) l = rw (behind-never a) at (al .1) in
-    rw (raised-never R n (tagId (toItem a .tag)), grows-never R, p .0, p .1) (acts-pass l (slotsAfter n a) more (ok .1) al′ (few .1) k)
+    rw (raised-never R n (tagId (toItem a .tag)), grows-never R, p .0, p .1) (acts-pass l (slotsAfter n a) more (ok .1)
+    al′ (few .1) k)
 
 -- ---- what holds newest first holds oldest first
 newest-from : (g : Bool) (l r : List Act) → AllAllowed g (reverseAux l r) → FewBack (reverseAux l r)
@@ -99,7 +100,8 @@ unfolding dir
 newest-from g [] r al few n = ((al, few, n), tt, tt)
 newest-from g (a ∷ l) r al few n =
     let ih = newest-from g l (a ∷ r) al few n in
-    let e : length (apply (dir r) a) ≡ slotsAfter (length (dir r)) a = length-apply (stillGrows g r) (dir r) a (ih .0 .0 .0) in
+    let e : length (apply (dir r) a) ≡ slotsAfter (length (dir r)) a = length-apply (stillGrows g r) (dir r) a (ih .0 .0
+    .0) in
     ((ih .0 .0 .1, ih .0 .1 .1, ih .0 .1 .0), (ih .0 .0 .0, rw e at (ih .1)), (rw e at (ih .0 .2), rw e at (ih .2)))
 
 pub written-app : (is js : List Item) (more : List Event) → written (is ++ js) more ≡ written is (written js more)
@@ -122,7 +124,8 @@ puts-allowed (suc n) i s l h few r k = go (s n) (puts-allowed n i s l h few r k)
     go none q = q
     go (some v) q = ((inl (omega (arith, length-puts n i s l h)), q .0), (omega (arith, length-puts n i s l h), q .1))
 
-rebuild-allowed : (D : List Slot) (i : ℕ) (l : List Act) → length (dir l) ≡ i → i + length D ≤ mostSlots → AllAllowed false l
+rebuild-allowed : (D : List Slot) (i : ℕ) (l : List Act) → length (dir l) ≡ i → i + length D ≤ mostSlots → AllAllowed
+    false l
     → FewBack l → AllAllowed false (rebuild i D l) × FewBack (rebuild i D l)
 unfolding rebuild
 rebuild-allowed [] i l h few r k = (r, k)

@@ -251,7 +251,10 @@ module _ (b : List ℕ) (mask T c s asked : ℕ) (q : Query mask T c) (hs : s < 
                 up key d T i s hg hd (q .0) i-low hs e,
                 miss (rm j) ea (i + 1) (omega (arith, i-low)),
               )
-              (ih (plus32 d (2 ^ 32 - 2 ^ 10)) (i + 1) (omega arith) (omega (arith, low, lo .0)) (inl (omega (arith, low)))
+              (ih (plus32 d (2 ^ 32 - 2 ^ 10)) (i + 1) (omega arith) (omega (arith, low, lo .0)) (inl (omega (
+                arith,
+                low,
+              )))
               (up key d T i s hg hd (q .0) i-low hs e))
           sub false el =
               rw (e, t1, t2, of-id T i s (omega (arith, i-low)) hs, el, e, miss (rm j) ea i (omega (arith, i-low)))

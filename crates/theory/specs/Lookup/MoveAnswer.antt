@@ -54,8 +54,11 @@ places-moves [] g c off st h = tt
 places-moves (ent t d ∷ es) g c off st h =
     let R : Rule = ruleOf true (tagType3 t) in
     let n : ℕ = countRaised g R c (tagId t) in
-    let r = both-true (ruleHolds R n (tagId t) (tagSize t)) (regularFrom (growsAfter g R) (countAfter R n) es) h in
-    (move-tag n t (st .0 .0) (r .0), places-moves es (growsAfter g R) (countAfter R n) (off + tagLength t) (st .1) (r .1))
+    let r = both-true (ruleHolds R n (tagId t) (tagSize t)) (regularFrom (growsAfter g R) (countAfter R n) es) h in (
+      move-tag n t (st .0 .0) (r .0),
+      places-moves es (growsAfter g R) (countAfter R n) (off + tagLength t) (st .1) (r
+          .1),
+    )
 places-moves (chk t x ∷ es) g c off st h =
     let r = both-true (between 4 1_022 (tagSize t)) (regularFrom g c es) h in (
       (λ e. let z : _≡_ {A = Bool} true false = sym e ∙ check-move t (st .0 .1) in cc),
@@ -102,7 +105,8 @@ wlook-moved low (m ∷ ms) h k =
     go false e gone f ih = ih
 
 -- on the bytes of a block with a regular log
-pub move-answer : (b : List ℕ) (low : ℕ) → log b ≢ [] → Regular Littlefs (log b) ≡ true → AllContained (log b) → low < 2 ^ 20
+pub move-answer : (b : List ℕ) (low : ℕ) → log b ≢ [] → Regular Littlefs (log b) ≡ true → AllContained (log b) → low < 2
+    ^ 20
     → Answers noSlot (wlook false maskMove (maskMove + low) 0 (back b (logEnd (log b)) (logEndTag (log b))))
 unfolding log walk Regular
 move-answer b low some h reg l =

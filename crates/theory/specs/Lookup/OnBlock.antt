@@ -92,7 +92,8 @@ abbrev pub FewFrom : ℕ → List Act → Type 0
 FewFrom n [] = Unit {0}
 FewFrom n (a ∷ l) = (slotsAfter n a ≤ mostSlots) × FewFrom (slotsAfter n a) l
 
-few-rev : (g : Bool) (l r : List Act) → AllowedFrom (stillGrows g r) (length (dir r)) l → FewFrom (length (dir r)) l → length (dir r) ≤ mostSlots
+few-rev : (g : Bool) (l r : List Act) → AllowedFrom (stillGrows g r) (length (dir r)) l → FewFrom (length (dir r)) l →
+    length (dir r) ≤ mostSlots
     → FewBack r → FewBack (reverseAux l r) × (length (dir (reverseAux l r)) ≤ mostSlots)
 unfolding dir
 few-rev g [] r f h n k = (k, n)

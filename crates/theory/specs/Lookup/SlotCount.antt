@@ -8,7 +8,8 @@ use lib.ListN.{length}
 use Rattle.format.specs.Walk.{Event}
 use Rattle.format.specs.Directory.{Act, mk, rm, put, skip, apply, Slot, empty, dir, dirOf, acts, applyAll}
 use Rattle.theory.specs.Walk.Locality.{AllContained}
-use Rattle.theory.specs.Directory.Machine.{Allowed, growsBehind, stillGrows, length-ins, length-del, length-put, AllAllowed}
+use Rattle.theory.specs.Directory.Machine.{Allowed, growsBehind, stillGrows, length-ins, length-del, length-put}
+use Rattle.theory.specs.Directory.Machine.{AllAllowed}
 use Rattle.theory.specs.Directory.Acts.{dir-rev}
 use Rattle.theory.specs.Back.BackActs.{Eights}
 

@@ -1,5 +1,6 @@
--- A pair with a log that is regular, by either rule, shows the machine of that log: fetch's record counts its slots, and the directory lookups,
--- by `lfs_dir_getslice`'s own definition on the bytes, answer what the machine has. Assumes nothing.
+-- A pair with a log that is regular, by either rule, shows the machine of that log: fetch's record counts its slots,
+-- and the directory lookups, by `lfs_dir_getslice`'s own definition on the bytes, answer what the machine has. Assumes
+-- nothing.
 use mathlib.Core.Path.{_≡_, refl, sym, _∙_}
 use mathlib.Core.Logic.{_≢_}
 use mathlib.Core.Bool.{Bool, true, false, not, cond, _&&_, _||_}

@@ -13,7 +13,9 @@ returns : tie.Need-returns
 returns c = stays-bad _ _ (not-true _ (c .if1 .taken))
 
 returns-2 : tie.Need-returns-2
-returns-2 c = goes-bad _ _ _ (c .before .before .before .before .before .rule-of .ensures ∙ ap (ruleOf true) (c .before .before .before .before .before .before .lfs-tag-type3 .ensures)) (not-false _ (c .before .before .before .before .before .before .before .before .if1 .left))
+returns-2 c = goes-bad _ _ _ (c .before .before .before .before .before .rule-of .ensures ∙ ap (ruleOf true) (c .before
+    .before .before .before .before .before .lfs-tag-type3 .ensures)) (not-false _ (c .before .before .before .before
+    .before .before .before .before .if1 .left))
     (rw (
       ← c .before .before .before .before .before .before .before .lfs-tag-id .ensures,
       ← c .before .before .before .lfs-tag-size .ensures,
@@ -22,7 +24,9 @@ returns-2 c = goes-bad _ _ _ (c .before .before .before .before .before .rule-of
     ) (c .enum-told .given .1))
 
 returns-3 : tie.Need-returns-3
-returns-3 c = goes-on _ _ _ (c .before .before .before .before .before .before .before .rule-of .ensures ∙ ap (ruleOf true) (c .before .before .before .before .before .before .before .before .lfs-tag-type3 .ensures)) (not-false _ (c .before .before .before .before .before .before .before .before .before .before .if1 .left)) _ _
+returns-3 c = goes-on _ _ _ (c .before .before .before .before .before .before .before .rule-of .ensures ∙ ap (ruleOf
+    true) (c .before .before .before .before .before .before .before .before .lfs-tag-type3 .ensures)) (not-false _ (c
+    .before .before .before .before .before .before .before .before .before .before .if1 .left)) _ _
     (rw (
       ← c .before .before .before .before .before .before .before .before .before .lfs-tag-id .ensures,
       ← c .before .before .before .before .before .lfs-tag-size .ensures,
