@@ -199,128 +199,128 @@ module _ (dat : List ℕ) (entries : List Entry) (w : Bool) (b0 b1 : List ℕ) (
         (roomOf prog B (logEnd (log B)) (logEndTag (log B))) (coincides allOnes (logEndTag (log B)) I ct) refl)
 
 -- ---- all of it
-module _ (g : Geometry) (b0 b1 : List ℕ) (n0 n1 count seed rules : ℕ) (entries : List Entry) (dat : List ℕ) (n : ℕ)
-  where
-    abbrev decidedT : Trio → Trio
-    decidedT t = sealT (passOf entries dat (decideT g n t))
+module _ (g : Geometry) (b0 b1 : List ℕ) (n0 n1 count seed rules : ℕ) (entries : List Entry) (dat : List ℕ)
+    (n : ℕ) where
+  abbrev decidedT : Trio → Trio
+  decidedT t = sealT (passOf entries dat (decideT g n t))
 
-    abbrev T : State → Trio
-    T s = decidedT (passOf entries dat (trio s b0 b1))
+  abbrev T : State → Trio
+  T s = decidedT (passOf entries dat (trio s b0 b1))
 
-    module _ (fits : commitFits g (length b0) (length b1) n0 n1 rules (length entries) (length dat) ≡ true) where
-      few : length entries ≤ 8_192
-      unfolding commitFits
-      few =
-          let r = both-true (pairFits g (length b0) (length b1) n0 n1 && leb (length dat) mostData
-          && leb (length entries) mostEntries) (rulesFit rules) fits in
-          leb-true (length entries) mostEntries
-          (both-true (pairFits g (length b0) (length b1) n0 n1 && leb (length dat) mostData)
-          (leb (length entries) mostEntries) (r .0) .1)
+  module _ (fits : commitFits g (length b0) (length b1) n0 n1 rules (length entries) (length dat) ≡ true) where
+    few : length entries ≤ 8_192
+    unfolding commitFits
+    few =
+        let r = both-true (pairFits g (length b0) (length b1) n0 n1 && leb (length dat) mostData
+        && leb (length entries) mostEntries) (rulesFit rules) fits in
+        leb-true (length entries) mostEntries
+        (both-true (pairFits g (length b0) (length b1) n0 n1 && leb (length dat) mostData)
+        (leb (length entries) mostEntries) (r .0) .1)
 
-      images : imagesFit g (length b0) (length b1) ≡ true
-      images = fits-images g (length b0) (length b1) n0 n1 rules (length entries) (length dat) fits
+    images : imagesFit g (length b0) (length b1) ≡ true
+    images = fits-images g (length b0) (length b1) n0 n1 rules (length entries) (length dat) fits
 
-      geometry : geometryFits g ≡ true
-      geometry = fits-geometry g (length b0) (length b1) n0 n1 rules (length entries) (length dat) fits
+    geometry : geometryFits g ≡ true
+    geometry = fits-geometry g (length b0) (length b1) n0 n1 rules (length entries) (length dat) fits
 
-      -- the block at place w answers, its log is regular, by littlefs's rule, the wider one
-      module _ (w : Bool) (regular : Regular Littlefs (log (blockAt w b0 b1)) ≡ true) where
-        low : countOf 0 (log (blockAt w b0 b1)) ≤ mostSlots
-        low = subst (λ (k : ℕ). k ≤ mostSlots) (sym (regular-slots (log (blockAt w b0 b1)) regular))
-            (regular-count (blockAt w b0 b1) (log (blockAt w b0 b1)) refl regular)
+    -- the block at place w answers, its log is regular, by littlefs's rule, the wider one
+    module _ (w : Bool) (regular : Regular Littlefs (log (blockAt w b0 b1)) ≡ true) where
+      low : countOf 0 (log (blockAt w b0 b1)) ≤ mostSlots
+      low = subst (λ (k : ℕ). k ≤ mostSlots) (sym (regular-slots (log (blockAt w b0 b1)) regular))
+          (regular-count (blockAt w b0 b1) (log (blockAt w b0 b1)) refl regular)
 
-        abbrev start : Judging
-        start = J0 dat entries w b0 b1 n (g .«prog_size»)
+      abbrev start : Judging
+      start = J0 dat entries w b0 b1 n (g .«prog_size»)
 
-        decided-good : (c : ℕ) → decideT g n
-            (trio (state w (Judge (after start (itemsOf dat entries) (length entries) c))) b0 b1)
-            ≡ trio (state w (placedOf (after start (itemsOf dat entries) (length entries) c) (g .«prog_size»)
-            (blockAt w b0 b1) n)) b0 b1
-        unfolding decidedOf
-        decided-good c = rw images
+      decided-good : (c : ℕ) → decideT g n
+          (trio (state w (Judge (after start (itemsOf dat entries) (length entries) c))) b0 b1)
+          ≡ trio (state w (placedOf (after start (itemsOf dat entries) (length entries) c) (g .«prog_size»)
+          (blockAt w b0 b1) n)) b0 b1
+      unfolding decidedOf
+      decided-good c = rw images
 
-        ran-judged : (j : Judged) → judge dat 0 (countOf 0 (log (blockAt w b0 b1))) entries ≡ j
-            → Ran b0 b1 n (judgedBy j (placed (g .«prog_size») w (blockAt w b0 b1) (log (blockAt w b0 b1))
-            (itemsOf dat entries)))
-            (decidedT (trio (state w (phaseOf j start (itemsOf dat entries) (length entries))) b0 b1))
-        ran-judged (bad k) e = ran-refused b0 b1 n w (BadEntry k) _ (decided-refused w (BadEntry k) b0 b1 g n entries dat)
-        ran-judged (good c) e =
-            let good-all = judged-good dat entries 0 (countOf 0 (log (blockAt w b0 b1))) c low e in
-            subst (λ (t : Trio). Ran b0 b1 n (placed (g .«prog_size») w (blockAt w b0 b1) (log (blockAt w b0 b1))
-            (itemsOf dat entries)) (sealT (passOf entries dat t))) (sym (decided-good c))
-            (ran-placed dat entries w b0 b1 n (g .«prog_size») (fits-prog g geometry .0)
-            (judged-tagged dat entries 0 (countOf 0 (log (blockAt w b0 b1))) c low e) (good-all .made) (length entries) c)
+      ran-judged : (j : Judged) → judge dat 0 (countOf 0 (log (blockAt w b0 b1))) entries ≡ j
+          → Ran b0 b1 n (judgedBy j (placed (g .«prog_size») w (blockAt w b0 b1) (log (blockAt w b0 b1))
+          (itemsOf dat entries)))
+          (decidedT (trio (state w (phaseOf j start (itemsOf dat entries) (length entries))) b0 b1))
+      ran-judged (bad k) e = ran-refused b0 b1 n w (BadEntry k) _ (decided-refused w (BadEntry k) b0 b1 g n entries dat)
+      ran-judged (good c) e =
+          let good-all = judged-good dat entries 0 (countOf 0 (log (blockAt w b0 b1))) c low e in
+          subst (λ (t : Trio). Ran b0 b1 n (placed (g .«prog_size») w (blockAt w b0 b1) (log (blockAt w b0 b1))
+          (itemsOf dat entries)) (sealT (passOf entries dat t))) (sym (decided-good c))
+          (ran-placed dat entries w b0 b1 n (g .«prog_size») (fits-prog g geometry .0)
+          (judged-tagged dat entries 0 (countOf 0 (log (blockAt w b0 b1))) c low e) (good-all .made) (length entries) c)
 
-        ran-regular : Ran b0 b1 n (judgedBy (judge dat 0 (countOf 0 (log (blockAt w b0 b1))) entries)
-            (placed (g .«prog_size») w (blockAt w b0 b1) (log (blockAt w b0 b1)) (itemsOf dat entries)))
-            (T (state w (Judge start)))
-        ran-regular =
-            let p : passOf entries dat (trio (state w (Judge start)) b0 b1)
-            ≡ trio (state w (phaseOf (judge dat 0 (countOf 0 (log (blockAt w b0 b1))) entries) start
-            (itemsOf dat entries) (length entries))) b0 b1 =
-            pass-fold entries dat (trio (state w (Judge start)) b0 b1)
-            ∙ judge-pass dat w b0 b1 entries start low (omega (arith, few)) (omega (arith, few)) in
-            subst (λ (t : Trio). Ran b0 b1 n (judgedBy (judge dat 0 (countOf 0 (log (blockAt w b0 b1))) entries)
-            (placed (g .«prog_size») w (blockAt w b0 b1) (log (blockAt w b0 b1)) (itemsOf dat entries))) (decidedT t))
-            (sym p)
-            (ran-judged (judge dat 0 (countOf 0 (log (blockAt w b0 b1))) entries) refl)
+      ran-regular : Ran b0 b1 n (judgedBy (judge dat 0 (countOf 0 (log (blockAt w b0 b1))) entries)
+          (placed (g .«prog_size») w (blockAt w b0 b1) (log (blockAt w b0 b1)) (itemsOf dat entries)))
+          (T (state w (Judge start)))
+      ran-regular =
+          let p : passOf entries dat (trio (state w (Judge start)) b0 b1)
+          ≡ trio (state w (phaseOf (judge dat 0 (countOf 0 (log (blockAt w b0 b1))) entries) start
+          (itemsOf dat entries) (length entries))) b0 b1 =
+          pass-fold entries dat (trio (state w (Judge start)) b0 b1)
+          ∙ judge-pass dat w b0 b1 entries start low (omega (arith, few)) (omega (arith, few)) in
+          subst (λ (t : Trio). Ran b0 b1 n (judgedBy (judge dat 0 (countOf 0 (log (blockAt w b0 b1))) entries)
+          (placed (g .«prog_size») w (blockAt w b0 b1) (log (blockAt w b0 b1)) (itemsOf dat entries))) (decidedT t))
+          (sym p)
+          (ran-judged (judge dat 0 (countOf 0 (log (blockAt w b0 b1))) entries) refl)
 
-      ran-started : (w : Bool) (m : LfsMdir) → m .off ≡ logEnd (log (blockAt w b0 b1))
-          → m .etag ≡ logEndTag (log (blockAt w b0 b1)) → m .count ≡ countOf 0 (log (blockAt w b0 b1))
-          → Ran b0 b1 n (appended (rulesOf rules) (g .«prog_size») w (blockAt w b0 b1) (log (blockAt w b0 b1)) entries
-          dat)
-          (T (startedOf (rulesOf rules) w (blockAt w b0 b1) m))
-      unfolding appended startedOf
-      ran-started w m eo et ec = go (Regular (rulesOf rules) (log (blockAt w b0 b1))) refl
-        where
-          later : Verdict
-          later = judgedBy (judge dat 0 (countOf 0 (log (blockAt w b0 b1))) entries)
-              (placed (g .«prog_size») w (blockAt w b0 b1) (log (blockAt w b0 b1)) (itemsOf dat entries))
-
-          from-record : judgingFrom m ≡ J0 dat entries w b0 b1 n (g .«prog_size»)
-          from-record = λ k. record {
-            off = eo k;
-            etag = et k;
-            index = 0;
-            count = ec k;
-            size = 0;
-            prev = et k;
-            sum = allOnes;
-          }
-
-          go : (x : Bool) → Regular (rulesOf rules) (log (blockAt w b0 b1)) ≡ x
-              → Ran b0 b1 n (cond (not x) (refused Irregular) later)
-              (T (cond (not x) (refusedState Irregular) (state w (Judge (judgingFrom m)))))
-          go false e = ran-refused b0 b1 n false Irregular _ (all-refused false Irregular b0 b1 g n entries dat)
-          go true e = subst (λ (j : Judging). Ran b0 b1 n later (T (state w (Judge j)))) (sym from-record)
-              (ran-regular w (widest (rulesOf rules) _ e))
-
-      abbrev on : LfsMdir → Verdict
-      on m = appended (rulesOf rules) (g .«prog_size») (isSecond n0 m) (blockAt (isSecond n0 m) b0 b1)
-          (log (blockAt (isSecond n0 m) b0 b1)) entries dat
-
-      ran-fetched : (f : Fetched) → fetchOf g b0 b1 n0 n1 count seed ≡ f
-          → Ran b0 b1 n (fetchedThen f on) (T (fetchedBy (rulesOf rules) f n0 b0 b1))
-      ran-fetched (fetched.Refused r) e = ran-refused b0 b1 n false r _ (all-refused false r b0 b1 g n entries dat)
-      ran-fetched (fetched.Found m s) e =
-          let a = found-answers g b0 b1 n0 n1 count seed m s e in
-          subst (λ (v : Bool). Ran b0 b1 n (appended (rulesOf rules) (g .«prog_size») v (blockAt v b0 b1) (log (blockAt v
-          b0 b1)) entries
-          dat) (T (startedOf (rulesOf rules) v (blockAt v b0 b1) m))) (sym (a .place))
-          (ran-started (a .w) m (a .end) (a .endTag) (a .count))
-
-    pub ran : Ran b0 b1 n (verdictOf g b0 b1 n0 n1 count seed rules entries dat) (ranOf g b0 b1 n0 n1 count seed rules
-        entries dat n)
-    unfolding verdictOf ranOf begunOf
-    ran = go (commitFits g (length b0) (length b1) n0 n1 rules (length entries) (length dat)) refl
+    ran-started : (w : Bool) (m : LfsMdir) → m .off ≡ logEnd (log (blockAt w b0 b1))
+        → m .etag ≡ logEndTag (log (blockAt w b0 b1)) → m .count ≡ countOf 0 (log (blockAt w b0 b1))
+        → Ran b0 b1 n (appended (rulesOf rules) (g .«prog_size») w (blockAt w b0 b1) (log (blockAt w b0 b1)) entries
+        dat)
+        (T (startedOf (rulesOf rules) w (blockAt w b0 b1) m))
+    unfolding appended startedOf
+    ran-started w m eo et ec = go (Regular (rulesOf rules) (log (blockAt w b0 b1))) refl
       where
-        F : Fetched
-        F = fetchOf g b0 b1 n0 n1 count seed
+        later : Verdict
+        later = judgedBy (judge dat 0 (countOf 0 (log (blockAt w b0 b1))) entries)
+            (placed (g .«prog_size») w (blockAt w b0 b1) (log (blockAt w b0 b1)) (itemsOf dat entries))
 
-        go : (x : Bool) → commitFits g (length b0) (length b1) n0 n1 rules (length entries) (length dat) ≡ x
-            → Ran b0 b1 n (cond (not x) (refused Invalid)
-            (fetchedThen F (λ m. appended (rulesOf rules) (g .«prog_size») (isSecond n0 m) (blockAt (isSecond n0 m) b0 b1)
-            (log (blockAt (isSecond n0 m) b0 b1)) entries dat)))
-            (T (cond (not x) (refusedState Invalid) (fetchedBy (rulesOf rules) F n0 b0 b1)))
-        go false e = ran-refused b0 b1 n false Invalid _ (all-refused false Invalid b0 b1 g n entries dat)
-        go true e = ran-fetched e F refl
+        from-record : judgingFrom m ≡ J0 dat entries w b0 b1 n (g .«prog_size»)
+        from-record = λ k. record {
+          off = eo k;
+          etag = et k;
+          index = 0;
+          count = ec k;
+          size = 0;
+          prev = et k;
+          sum = allOnes;
+        }
+
+        go : (x : Bool) → Regular (rulesOf rules) (log (blockAt w b0 b1)) ≡ x
+            → Ran b0 b1 n (cond (not x) (refused Irregular) later)
+            (T (cond (not x) (refusedState Irregular) (state w (Judge (judgingFrom m)))))
+        go false e = ran-refused b0 b1 n false Irregular _ (all-refused false Irregular b0 b1 g n entries dat)
+        go true e = subst (λ (j : Judging). Ran b0 b1 n later (T (state w (Judge j)))) (sym from-record)
+            (ran-regular w (widest (rulesOf rules) _ e))
+
+    abbrev on : LfsMdir → Verdict
+    on m = appended (rulesOf rules) (g .«prog_size») (isSecond n0 m) (blockAt (isSecond n0 m) b0 b1)
+        (log (blockAt (isSecond n0 m) b0 b1)) entries dat
+
+    ran-fetched : (f : Fetched) → fetchOf g b0 b1 n0 n1 count seed ≡ f
+        → Ran b0 b1 n (fetchedThen f on) (T (fetchedBy (rulesOf rules) f n0 b0 b1))
+    ran-fetched (fetched.Refused r) e = ran-refused b0 b1 n false r _ (all-refused false r b0 b1 g n entries dat)
+    ran-fetched (fetched.Found m s) e =
+        let a = found-answers g b0 b1 n0 n1 count seed m s e in
+        subst (λ (v : Bool). Ran b0 b1 n (appended (rulesOf rules) (g .«prog_size») v (blockAt v b0 b1) (log (blockAt v
+        b0 b1)) entries
+        dat) (T (startedOf (rulesOf rules) v (blockAt v b0 b1) m))) (sym (a .place))
+        (ran-started (a .w) m (a .end) (a .endTag) (a .count))
+
+  pub ran : Ran b0 b1 n (verdictOf g b0 b1 n0 n1 count seed rules entries dat) (ranOf g b0 b1 n0 n1 count seed rules
+      entries dat n)
+  unfolding verdictOf ranOf begunOf
+  ran = go (commitFits g (length b0) (length b1) n0 n1 rules (length entries) (length dat)) refl
+    where
+      F : Fetched
+      F = fetchOf g b0 b1 n0 n1 count seed
+
+      go : (x : Bool) → commitFits g (length b0) (length b1) n0 n1 rules (length entries) (length dat) ≡ x
+          → Ran b0 b1 n (cond (not x) (refused Invalid)
+          (fetchedThen F (λ m. appended (rulesOf rules) (g .«prog_size») (isSecond n0 m) (blockAt (isSecond n0 m) b0 b1)
+          (log (blockAt (isSecond n0 m) b0 b1)) entries dat)))
+          (T (cond (not x) (refusedState Invalid) (fetchedBy (rulesOf rules) F n0 b0 b1)))
+      go false e = ran-refused b0 b1 n false Invalid _ (all-refused false Invalid b0 b1 g n entries dat)
+      go true e = ran-fetched e F refl

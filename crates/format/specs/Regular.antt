@@ -97,14 +97,19 @@ countRaised g forward c id = c
 countRaised g bad c id = c
 
 -- ---- a log
+-- the rule of an entry of a log, and the count that it runs against, where the count is c before it
+abbrev pub loggedRule : ℕ → Rule
+loggedRule t = ruleOf true (tagType3 t)
+
+abbrev pub countAt : Bool → ℕ → ℕ → ℕ
+countAt g c t = countRaised g (loggedRule t) c (tagId t)
+
 -- The events of a log pass the rules from a count on, and "every check tag's size is 4 to 1,022". `g`: names may make
 -- slots.
 unfoldable pub regularFrom : Bool → ℕ → List Event → Bool
 regularFrom g c [] = true
-regularFrom g c (ent t d ∷ es) =
-    ruleHolds (ruleOf true (tagType3 t)) (countRaised g (ruleOf true (tagType3 t)) c (tagId t)) (tagId t) (tagSize t)
-    && regularFrom (growsAfter g (ruleOf true (tagType3 t)))
-    (countAfter (ruleOf true (tagType3 t)) (countRaised g (ruleOf true (tagType3 t)) c (tagId t))) es
+regularFrom g c (ent t d ∷ es) = ruleHolds (loggedRule t) (countAt g c t) (tagId t) (tagSize t)
+    && regularFrom (growsAfter g (loggedRule t)) (countAfter (loggedRule t) (countAt g c t)) es
 regularFrom g c (chk t x ∷ es) = between 4 1_022 (tagSize t) && regularFrom g c es
 regularFrom g c (inv ∷ es) = regularFrom g c es
 

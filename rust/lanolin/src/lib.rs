@@ -231,9 +231,9 @@ impl Pair<'_> {
     /// [`BUFFER_MAX`] bytes of buffer.
     ///
     /// Proved: answer and buffer equal `getsliceOf`; a refusal leaves the buffer
-    /// alone (`getslice-refused`). In a regular log, for ids below the count, no
-    /// pending move and offset 0, name and struct ([`MASK_CLASS`]) and user
-    /// attributes ([`MASK_TYPE`]) are those of the directory machine
+    /// alone (`getslice-refused`). In a log that is regular by either rule, for ids
+    /// below the count, no pending move and offset 0, name and struct
+    /// ([`MASK_CLASS`]) and user attributes ([`MASK_TYPE`]) are those of the directory machine
     /// (`directory-lookups`). Of ids at or above the count nothing is promised
     /// beyond the definition: such a lookup may find an entry of a deleted slot.
     ///
