@@ -3,7 +3,7 @@
 -- directory machine is as it was, and both calls that write answer and leave the same by either rule. (That all of it
 -- holds by either rule is said where it is said: Directory, Accepted, Stopped. What a compaction leaves is regular by
 -- document 01's whichever was asked for: `CompactStopped`.) Assumes nothing.
-use mathlib.Core.Path.{_≡_, refl, sym, ap, _∙_}
+use mathlib.Core.Path.{_≡_, refl, ap, _∙_}
 use mathlib.Core.Bool.{Bool, true, false, not, cond, _&&_}
 use mathlib.Core.List.{List, [], _∷_, _++_}
 use Prim.Native.Nat.{ℕ, suc}
@@ -18,10 +18,9 @@ use Rattle.format.specs.Directory.{dirOf}
 use Rattle.format.specs.Word.{le32, plus32}
 use Rattle.format.specs.Record.{countOf}
 use Rattle.format.specs.Fetch.{fetchOf}
-use Rattle.format.specs.Writer.{Verdict, refused, blockAt, isSecond, commitFits, placed, judgedBy, appended}
-use Rattle.format.specs.Writer.{fetchedThen}
-use Rattle.format.specs.Writer.{verdictOf}
-use Rattle.format.specs.Compaction.{compactionItems, CompactVerdict, compactRefused, placedAnew, compactable}
+use Rattle.format.specs.Writer.{refused, blockAt, isSecond, commitFits, placed, judgedBy, appended}
+use Rattle.format.specs.Writer.{fetchedThen, verdictOf}
+use Rattle.format.specs.Compaction.{compactionItems, compactRefused, placedAnew, compactable}
 use Rattle.format.specs.Compaction.{compactFetched, compactVerdict}
 use Rattle.format.specs.Entries.{itemsOf, judge}
 use Rattle.format.specs.declared.Geometry.{Geometry}
@@ -33,7 +32,7 @@ use Rattle.format.specs.declared.Fetched.{Fetched}
 use Rattle.format.specs.declared.Fetched.the-variants as fetched
 use Rattle.format.proofs.Growing.{raised-never, grows-never, widest}
 use Rattle.format.proofs.Slots.{reaching-there}
-use Rattle.theory.specs.Directory.Machine.{Allowed, behind-never, inside-there}
+use Rattle.theory.specs.Directory.Machine.{inside-there}
 use Rattle.theory.specs.Directory.Acts.{dir-rev}
 use Rattle.theory.specs.Lookup.SlotCount.{slotsAfter, AllowedFrom, length-apply}
 use Rattle.theory.specs.Back.EventBytes.{log-stands}
@@ -94,35 +93,14 @@ machine-stays b h =
     dir-rev (acts (log b)) [] ∙ simply-same (acts (log b)) [] (r .allowed)
 
 -- ---- where document 01's rule does not refuse, littlefs's answers the same
--- of the block that answers, and the entries
-appended-same : (prog : ℕ) (w : Bool) (b : List ℕ) (entries : List Entry) (dat : List ℕ)
-    → (appended Document prog w b (log b) entries dat ≡ refused Irregular → ⊥)
-    → appended Littlefs prog w b (log b) entries dat ≡ appended Document prog w b (log b) entries dat
-unfolding appended
-appended-same prog w b entries dat = go (Regular Document (log b)) refl
+-- a test of regularity before all else that a verdict v depends on
+either-rule : {A : Type 0} (es : List Event) (bad v : A) → (cond (not (Regular Document es)) bad v ≡ bad → ⊥)
+    → cond (not (Regular Littlefs es)) bad v ≡ cond (not (Regular Document es)) bad v
+either-rule es bad v = go (Regular Document es) refl
   where
-    v : Verdict
-    v = judgedBy (judge dat 0 (countOf 0 (log b)) entries) (placed prog w b (log b) (itemsOf dat entries))
-
-    go : (x : Bool) → Regular Document (log b) ≡ x → (cond (not x) (refused Irregular) v ≡ refused Irregular → ⊥)
-        → cond (not (Regular Littlefs (log b))) (refused Irregular) v ≡ cond (not x) (refused Irregular) v
-    go true e h = rw (littlefs-wider (log b) e)
-    go false e h = absurd (h refl)
-
-compactable-same : (prog : ℕ) (w : Bool) (b : List ℕ)
-    → (compactable Document prog w b (log b) ≡ compactRefused Irregular → ⊥)
-    → compactable Littlefs prog w b (log b) ≡ compactable Document prog w b (log b)
-unfolding compactable
-compactable-same prog w b = go (Regular Document (log b)) refl
-  where
-    v : CompactVerdict
-    v = placedAnew prog (length b) w (plus32 (le32 b) 1) (compactionItems (log b))
-
-    go : (x : Bool) → Regular Document (log b) ≡ x
-        → (cond (not x) (compactRefused Irregular) v ≡ compactRefused Irregular → ⊥)
-        → cond (not (Regular Littlefs (log b))) (compactRefused Irregular) v
-        ≡ cond (not x) (compactRefused Irregular) v
-    go true e h = rw (littlefs-wider (log b) e)
+    go : (x : Bool) → Regular Document es ≡ x → (cond (not x) bad v ≡ bad → ⊥)
+        → cond (not (Regular Littlefs es)) bad v ≡ cond (not x) bad v
+    go true e h = rw (littlefs-wider es e)
     go false e h = absurd (h refl)
 
 module _ (g : Geometry) (b0 b1 : List ℕ) (n0 n1 count seed : ℕ) where
@@ -132,7 +110,7 @@ module _ (g : Geometry) (b0 b1 : List ℕ) (n0 n1 count seed : ℕ) where
   pub commit-same : (entries : List Entry) (dat : List ℕ)
       → (verdictOf g b0 b1 n0 n1 count seed 0 entries dat ≡ refused Irregular → ⊥)
       → verdictOf g b0 b1 n0 n1 count seed 1 entries dat ≡ verdictOf g b0 b1 n0 n1 count seed 0 entries dat
-  unfolding verdictOf commitFits
+  unfolding verdictOf commitFits appended
   commit-same entries dat = go (commitFits g (length b0) (length b1) n0 n1 0 (length entries) (length dat))
       (fetchOf g b0 b1 n0 n1 count seed)
     where
@@ -145,14 +123,18 @@ module _ (g : Geometry) (b0 b1 : List ℕ) (n0 n1 count seed : ℕ) where
           (block m) (log (block m)) entries dat))
       go false f h = refl
       go true (fetched.Refused r) h = refl
-      go true (fetched.Found m s) h = appended-same (g .«prog_size») (isSecond n0 m) (block m) entries dat h
+      go true (fetched.Found m s) h = either-rule (log (block m)) (refused Irregular)
+          (judgedBy (judge dat 0 (countOf 0 (log (block m))) entries)
+          (placed (g .«prog_size») (isSecond n0 m) (block m) (log (block m)) (itemsOf dat entries))) h
 
   pub compact-same : (compactVerdict g b0 b1 n0 n1 count seed 0 ≡ compactRefused Irregular → ⊥)
       → compactVerdict g b0 b1 n0 n1 count seed 1 ≡ compactVerdict g b0 b1 n0 n1 count seed 0
-  unfolding compactVerdict
+  unfolding compactVerdict compactable
   compact-same = go (fetchOf g b0 b1 n0 n1 count seed)
     where
       go : (f : Fetched) → (compactFetched Document (g .«prog_size») b0 b1 n0 f ≡ compactRefused Irregular → ⊥)
           → compactFetched Littlefs (g .«prog_size») b0 b1 n0 f ≡ compactFetched Document (g .«prog_size») b0 b1 n0 f
       go (fetched.Refused r) h = refl
-      go (fetched.Found m s) h = compactable-same (g .«prog_size») (isSecond n0 m) (block m) h
+      go (fetched.Found m s) h = either-rule (log (block m)) (compactRefused Irregular)
+          (placedAnew (g .«prog_size») (length (block m)) (isSecond n0 m) (plus32 (le32 (block m)) 1)
+          (compactionItems (log (block m)))) h

@@ -1,6 +1,5 @@
 -- `commit_rules::counted` meets its contract: by the type's rule. Assumes nothing.
-use mathlib.Core.Path.{ap, _∙_}
-use Rattle.commit_rules.specs.Rules.{passedBy, countedBy}
+use Rattle.commit_rules.specs.Rules.{countedBy}
 use borrow.Author.Needs.{needs}
 use Rattle.commit_rules.proofs.counted.Statement.{statement}
 use Rattle.commit_rules.proofs.counted.Tie as tie

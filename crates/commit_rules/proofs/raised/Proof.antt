@@ -1,5 +1,4 @@
 -- `commit_rules::raised` meets its contract: a name's one test, and any other rule leaves the count. Assumes nothing.
-use Rattle.format.specs.Regular.{countRaised}
 use Rattle.commit_rules.proofs.Passed.{names-raise, names-stay, raises-none}
 use native.Mathlib.Omega.{arith}
 use borrow.Author.Needs.{needs}

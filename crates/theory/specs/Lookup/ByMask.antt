@@ -7,7 +7,7 @@ use mathlib.Core.Option.{Option, none, some}
 use mathlib.Core.List.{List, [], _∷_, map}
 use Prim.Native.Nat.{ℕ, suc, _+_, _-_, _*_, _^_, _≤_, _<_}
 use native.Mathlib.Omega.{arith}
-use lib.ListN.{take, drop, length, length-set, getD}
+use lib.ListN.{take, drop, length}
 use lib.Bits.{bitAnd}
 use lib.Dec.{eqb, leb}
 use borrow.Author.Tests.{eqb-true, eq-eqb, eqb-false, ne-eqb, leb-true, leb-false}
@@ -16,7 +16,7 @@ use Rattle.format.specs.Tag.{tagType1, tagType3, tagSplice, tagId, tagSize, rem
 use Rattle.format.specs.Kind.{typeSplice, typeCreate, typeDelete, isSplice}
 use Rattle.format.specs.Back.{Met}
 use Rattle.format.specs.Look.{dataSize, bytesOf, asIds, splicedAt, wlook}
-use Rattle.format.specs.Directory.{Load, Act, mk, rm, put, skip, dir, apply, empty, upd, loadOf, act}
+use Rattle.format.specs.Directory.{Load, Act, mk, rm, put, skip, dir, apply, empty, loadOf, act}
 use Rattle.format.specs.declared.Found.{Found}
 use Rattle.format.specs.declared.Hit.{Hit}
 use Rattle.format.specs.declared.Hit.the-variants as hit
