@@ -500,6 +500,26 @@ static void test_names_alone(void) {
     EXPECT(commit_by(DOCUMENT, &p).result == LANOLIN_OK && compact_by(DOCUMENT, &copy).result == LANOLIN_OK);
 }
 
+/* The log without creates of docs/DIFFERENCES.md: read as any other, and written to by littlefs's rules alone. */
+static void test_without_creates(void) {
+    static const uint8_t NAMED[17] = {0,    0,    0,    0,    0xff, 0xef, 0xff, 0xfe, 'a',
+                                      0x50, 0x1f, 0xfc, 0x06, 0x34, 0x0e, 0xd5, 0x77};
+    const lanolin_geometry g = {128, 4};
+    uint8_t x[128], y[128], name;
+    memset(x, 0xff, sizeof x);
+    memset(y, 0xff, sizeof y);
+    memcpy(x, NAMED, sizeof NAMED);
+    lanolin_fetched f = lanolin_fetch(g, x, 128, y, 128, 0, 1, 0, 0);
+    EXPECT(f.result == LANOLIN_OK && f.dir.count == 1 && f.dir.off == 20);
+    lanolin_got got = lanolin_getslice(g, x, 128, y, 128, 0, 1, f.dir, STILL, LANOLIN_MASK_CLASS, 0, 0, &name, 1);
+    EXPECT(got.tag == lanolin_mktag(LANOLIN_TYPE_REG, 0, 1) && name == 'a');
+    static const int32_t RESULTS[2] = {LANOLIN_ERR_IRREGULAR, LANOLIN_OK};
+    for (uint32_t rules = DOCUMENT; rules <= LITTLEFS; rules++) {
+        EXPECT(lanolin_commit(g, x, 128, y, 128, 0, 1, 0, 0, rules, NULL, 0, NULL, 0).result == RESULTS[rules]);
+        EXPECT(lanolin_compact(g, x, 128, y, 128, 0, 1, 0, 0, rules).result == RESULTS[rules]);
+    }
+}
+
 /* What makes no slot, under both rules: a struct, an attribute, and a name behind a create or a delete. */
 static void test_what_makes_no_slot(void) {
     static const uint32_t LOGS[6][3] = {
@@ -726,6 +746,7 @@ int main(void) {
     test_no_rules();
     test_same_under_both();
     test_names_alone();
+    test_without_creates();
     test_what_makes_no_slot();
     test_no_room_for_creates();
     test_names_of_refusals();
