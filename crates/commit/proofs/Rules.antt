@@ -34,8 +34,8 @@ stopped : (g : Geometry) (b0 b1 : List ℕ) (n0 n1 count seed rules : ℕ) (es :
     → x0 ≡ commitImages g b0 b1 n0 n1 count seed rules es dat n .b0 → y0 ≡ commitImages g b0 b1 n0 n1 count seed rules
     es dat n .b1
     → CommitStopped g b0 b1 n0 n1 count seed rules es dat x0 y0
-stopped g b0 b1 n0 n1 count seed rules es dat n x0 y0 ex ey = rw (ex, ey) (stopped-commit g b0 b1 n0 n1 count seed rules
-    es dat n)
+stopped g b0 b1 n0 n1 count seed rules es dat n x0 y0 ex ey = rw (ex, ey)
+    (stopped-commit g b0 b1 n0 n1 count seed rules es dat n)
 
 -- ---- the steps, one after the other
 module _ (b0 b1 : List ℕ) (es : List Entry) (dat : List ℕ) (g : Geometry) (n0 n1 count seed rules : ℕ) where

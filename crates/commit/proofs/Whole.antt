@@ -267,9 +267,8 @@ module _ (g : Geometry) (b0 b1 : List ℕ) (n0 n1 count seed rules : ℕ) (entri
 
     ran-started : (w : Bool) (m : LfsMdir) → m .off ≡ logEnd (log (blockAt w b0 b1))
         → m .etag ≡ logEndTag (log (blockAt w b0 b1)) → m .count ≡ countOf 0 (log (blockAt w b0 b1))
-        → Ran b0 b1 n (appended (rulesOf rules) (g .«prog_size») w (blockAt w b0 b1) (log (blockAt w b0 b1)) entries
-        dat)
-        (T (startedOf (rulesOf rules) w (blockAt w b0 b1) m))
+        → Ran b0 b1 n (appended (rulesOf rules) (g .«prog_size») w (blockAt w b0 b1) (log (blockAt w b0 b1))
+        entries dat) (T (startedOf (rulesOf rules) w (blockAt w b0 b1) m))
     unfolding appended startedOf
     ran-started w m eo et ec = go (Regular (rulesOf rules) (log (blockAt w b0 b1))) refl
       where
@@ -305,12 +304,11 @@ module _ (g : Geometry) (b0 b1 : List ℕ) (n0 n1 count seed rules : ℕ) (entri
     ran-fetched (fetched.Found m s) e =
         let a = found-answers g b0 b1 n0 n1 count seed m s e in
         subst (λ (v : Bool). Ran b0 b1 n (appended (rulesOf rules) (g .«prog_size») v (blockAt v b0 b1) (log (blockAt v
-        b0 b1)) entries
-        dat) (T (startedOf (rulesOf rules) v (blockAt v b0 b1) m))) (sym (a .place))
+        b0 b1)) entries dat) (T (startedOf (rulesOf rules) v (blockAt v b0 b1) m))) (sym (a .place))
         (ran-started (a .w) m (a .end) (a .endTag) (a .count))
 
-  pub ran : Ran b0 b1 n (verdictOf g b0 b1 n0 n1 count seed rules entries dat) (ranOf g b0 b1 n0 n1 count seed rules
-      entries dat n)
+  pub ran : Ran b0 b1 n (verdictOf g b0 b1 n0 n1 count seed rules entries dat)
+      (ranOf g b0 b1 n0 n1 count seed rules entries dat n)
   unfolding verdictOf ranOf begunOf
   ran = go (commitFits g (length b0) (length b1) n0 n1 rules (length entries) (length dat)) refl
     where

@@ -71,8 +71,8 @@ after-entry p t d (e ∷ es) =
 after-check : (p : Passing) (t x : ℕ) (es : List Event) → after (checking (tagSize t) p) es ≡ after p (chk t x ∷ es)
 unfolding after checking regularFrom
 after-check p t x [] = ap (λ (b : Bool). p .good && b) (and-true (between 4 1_022 (tagSize t)))
-after-check p t x (e ∷ es) = and-assoc (p .good) (between 4 1_022 (tagSize t)) (regularFrom (p .grows) (p .count) (e ∷
-    es))
+after-check p t x (e ∷ es) = and-assoc (p .good) (between 4 1_022 (tagSize t))
+    (regularFrom (p .grows) (p .count) (e ∷ es))
 
 after-invalid : (p : Passing) (es : List Event) → after p es ≡ after p (keptBefore inv es)
 unfolding after regularFrom

@@ -84,8 +84,8 @@ module _ (g : Geometry) (b0 b1 : List ℕ) (n0 n1 count seed rules : ℕ) where
   abbrev pub Called : ℕ → Stored → List ℕ → List ℕ → Type 0
   Called n r c0 c1 =
       (r ≡ compactStoresOf g b0 b1 n0 n1 count seed rules n)
-      × ((c0 ≡ compactImages g b0 b1 n0 n1 count seed rules n .b0) × (c1 ≡ compactImages g b0 b1 n0 n1 count seed rules
-      n .b1))
+      × ((c0 ≡ compactImages g b0 b1 n0 n1 count seed rules n .b0)
+      × (c1 ≡ compactImages g b0 b1 n0 n1 count seed rules n .b1))
 
   -- with demand 3, which a call keeps whatever it leaves
   pub kept : (n : ℕ) (r : Stored) (c0 c1 : List ℕ) → Bytes b0 → Bytes b1 → Called n r c0 c1
@@ -94,8 +94,8 @@ module _ (g : Geometry) (b0 b1 : List ℕ) (n0 n1 count seed rules : ℕ) where
   kept n r c0 c1 y0 y1 h =
       (h .0, (h .1 .0, h .1 .1, rw (h .1 .0, h .1 .1) (stopped-compaction g b0 b1 n0 n1 count seed rules n y0 y1)))
 
-  leaves : (n : ℕ) (v : CompactVerdict) → compactVerdict g b0 b1 n0 n1 count seed rules ≡ v → (r : Stored) (c0 c1 : List
-      ℕ)
+  leaves : (n : ℕ) (v : CompactVerdict) → compactVerdict g b0 b1 n0 n1 count seed rules ≡ v → (r : Stored)
+      (c0 c1 : List ℕ)
       → Leaves n b0 b1 v r c0 c1 → Called n r c0 c1
   unfolding compactStoresOf compactImages
   leaves n v e r c0 c1 h = rw e h
@@ -108,10 +108,8 @@ module _ (g : Geometry) (b0 b1 : List ℕ) (n0 n1 count seed rules : ℕ) where
   pub called-refused : (n : ℕ) (r : Refusal) → rules ≤ 1 → fetched.Refused r ≡ fetchOf g b0 b1 n0 n1 count seed
       → Called n (stored.Refused r) b0 b1
   unfolding compactVerdict
-  called-refused n r k f = leaves n (compactRefused r) (rw (le-leb rules 1 k, ← f)) (stored.Refused r) b0 b1 (
-    refl,
-    (refl, refl),
-  )
+  called-refused n r k f = leaves n (compactRefused r) (rw (le-leb rules 1 k, ← f)) (stored.Refused r) b0 b1
+      (refl, (refl, refl))
 
   module _ (m : LfsMdir) (s : ℕ) (k : rules ≤ 1) (f : fetched.Found m s ≡ fetchOf g b0 b1 n0 n1 count seed) where
     verdict-of : (w : Bool) → isSecond n0 m ≡ w → compactVerdict g b0 b1 n0 n1 count seed rules
@@ -197,13 +195,12 @@ module _ (g : Geometry) (b0 b1 : List ℕ) (n0 n1 count seed rules : ℕ) where
       where
         go : (v : CompactVerdict) → stored.Refused r ≡ compactMade unlimited v
             → committed.Refused r ≡ compactAnswer (fetchOf g (compactImages g b0 b1 n0 n1 count seed rules unlimited
-            .b0)
-            (compactImages g b0 b1 n0 n1 count seed rules unlimited .b1) n0 n1 count seed) v
+            .b0) (compactImages g b0 b1 n0 n1 count seed rules unlimited .b1) n0 n1 count seed) v
         go (compactRefused x) k = let q : r ≡ x = cc in ap committed.Refused q
         go (compactAccepted w rev is size) k = cc
 
-    pub answered-made : (k : ℕ) → stored.Made k ≡ compactStoresOf g b0 b1 n0 n1 count seed rules unlimited → (f :
-        Fetched)
+    pub answered-made : (k : ℕ) → stored.Made k ≡ compactStoresOf g b0 b1 n0 n1 count seed rules unlimited
+        → (f : Fetched)
         → f ≡ fetchOf g c0 c1 n0 n1 count seed
         → Answered (committedAs f) c0 c1
     unfolding compactOf compactStoresOf

@@ -164,8 +164,8 @@ module _ (prog : ℕ) (old new : List ℕ) (dir : LfsMdir) (n : ℕ) (w : Renewa
         tag-is : ct ≡ checkTag (checkSize prog (at (rulesOf rules) prog false old))
         tag-is = ect ∙ ap (λ (k : ℕ). checkTag (checkSize prog k)) end-is
 
-        coincides-is : coincides (crc allOnes (toLe32 (next (rulesOf rules) prog false old))) allOnes (compactionItems
-            (log old))
+        coincides-is : coincides (crc allOnes (toLe32 (next (rulesOf rules) prog false old))) allOnes
+            (compactionItems (log old))
             (checkTag (checkSize prog (at (rulesOf rules) prog false old))) ≡ y
         coincides-is =
             sym (ey ∙ measured-meets rev (compactionItems (log old)) s e es b new ee ct ∙ rw (next-is, tag-is))

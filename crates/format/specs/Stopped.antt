@@ -135,8 +135,8 @@ module _ (g : Geometry) (b0 b1 : List ℕ) (n0 n1 count seed rules : ℕ) where
   -- `lfs_dir_compact_stores` with the limit n
   abbrev pub CompactStoresLeaves : ℕ → List ℕ → List ℕ → Type 0
   CompactStoresLeaves n i0 i1 =
-      (i0 ≡ compactImages g b0 b1 n0 n1 count seed rules n .b0) × (i1 ≡ compactImages g b0 b1 n0 n1 count seed rules n
-      .b1)
+      (i0 ≡ compactImages g b0 b1 n0 n1 count seed rules n .b0)
+      × (i1 ≡ compactImages g b0 b1 n0 n1 count seed rules n .b1)
       × CompactStopped g b0 b1 n0 n1 count seed rules i0 i1
 
   -- `lfs_dir_compact`

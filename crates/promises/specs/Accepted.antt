@@ -66,8 +66,8 @@ alike : (g : Geometry) (b0 b1 : List ℕ) (n0 n1 count seed rules : ℕ) (entrie
     → CommitConditions g b0 b1 n0 n1 count seed rules entries dat v (blockAt v b0 b1) js l
 alike g b0 b1 n0 n1 count seed rules entries dat w v is js k l e f h c = rw (← e, ← f, ← h) c
 
-module _ (g : Geometry) (b0 b1 : List ℕ) (n0 n1 count seed rules : ℕ) (entries : List Entry) (dat : List ℕ) (second :
-    Bool)
+module _ (g : Geometry) (b0 b1 : List ℕ) (n0 n1 count seed rules : ℕ) (entries : List Entry) (dat : List ℕ)
+    (second : Bool)
     (is : List Item) (size : ℕ) where
   abbrev prog : ℕ
   prog = g .«prog_size»
@@ -77,11 +77,10 @@ module _ (g : Geometry) (b0 b1 : List ℕ) (n0 n1 count seed rules : ℕ) (entri
   unfolding verdictOf appended placed
   conditions h =
       let p = past (not (commitFits g (length b0) (length b1) n0 n1 rules (length entries) (length dat))) Invalid _
-      second is
-      size h in
+      second is size h in
       let f = found-then (fetchOf g b0 b1 n0 n1 count seed)
-      (λ m. appended (rulesOf rules) prog (isSecond n0 m) (blockAt (isSecond n0 m) b0 b1) (log (blockAt (isSecond n0 m)
-      b0 b1)) entries
+      (λ m. appended (rulesOf rules) prog (isSecond n0 m) (blockAt (isSecond n0 m) b0 b1)
+      (log (blockAt (isSecond n0 m) b0 b1)) entries
       dat) second is size (p .1) in
       let w : Bool = isSecond n0 (f .m) in
       let b : List ℕ = blockAt (isSecond n0 (f .m)) b0 b1 in
@@ -96,8 +95,7 @@ module _ (g : Geometry) (b0 b1 : List ℕ) (n0 n1 count seed rules : ℕ) (entri
       let items : I ≡ is = cc in
       let check : checkSize prog (checkAt (log b) I) ≡ size = cc in
       alike g b0 b1 n0 n1 count seed rules entries dat w second I is (checkSize prog (checkAt (log b) I)) size place
-      items
-      check
+      items check
       (record {
         fits = not-false _ (p .0);
         dir = f .m;
@@ -158,8 +156,8 @@ module _ (g : Geometry) (b0 b1 : List ℕ) (n0 n1 count seed rules : ℕ) where
     pub items : is ≡ compactionItems (log b)
     pub check : size ≡ checkSize (g .«prog_size») (compactCheckAt is)
 
-alike-anew : (g : Geometry) (b0 b1 : List ℕ) (n0 n1 count seed rules : ℕ) (w v : Bool) (r s : ℕ) (is js : List Item) (k
-    l : ℕ)
+alike-anew : (g : Geometry) (b0 b1 : List ℕ) (n0 n1 count seed rules : ℕ) (w v : Bool) (r s : ℕ) (is js : List Item)
+    (k l : ℕ)
     → w ≡ v → r ≡ s → is ≡ js → k ≡ l
     → CompactConditions g b0 b1 n0 n1 count seed rules w (blockAt w b0 b1) r is k
     → CompactConditions g b0 b1 n0 n1 count seed rules v (blockAt v b0 b1) s js l
@@ -188,8 +186,7 @@ module _ (g : Geometry) (b0 b1 : List ℕ) (n0 n1 count seed rules : ℕ) (secon
       let items : I ≡ is = cc in
       let check : checkSize p (compactCheckAt I) ≡ size = cc in
       alike-anew g b0 b1 n0 n1 count seed rules (isSecond n0 (f .0)) second R rev I is (checkSize p (compactCheckAt I))
-      size
-      place next items check
+      size place next items check
       (record {
         ruled = not-false _ (k .0);
         dir = f .0;

@@ -144,8 +144,7 @@ takes-commit = refl
 pub takes-compaction : compactVerdict geometry first second 0 1 0 0 0 ≡ compactAccepted false 2
     (compactionItems (log first)) 13
 unfolding compactVerdict compactable placedAnew compactionItems dirItems slotItems dirOf dir acts act apply reaching upd
-    empty
-    moveOf verdictOf commitFits pairFits geometryFits fetchOf tooHigh view rank log committed walk walkFrom walkIn
+    empty moveOf verdictOf commitFits pairFits geometryFits fetchOf tooHigh view rank log committed walk walkFrom walkIn
     classOf readBehind bodyLength tagLength tagFlipped be32 le32 toBe32 toLe32 xor crc crcByte crcBits crcBit mdirOf
     erasedOf stoppedStraight span eventLength tagAfter countOf counted splitOf tailOf forwardOf seedOf appended Regular
     regularFrom ruleOf ruleHolds countAfter growsAfter countRaised judge entryBody placed roundedEnd checkSize roomOf
@@ -156,8 +155,8 @@ takes-compaction = refl
 
 -- so of the commit: whatever n, the finished images or the old reading; and what the finished pair holds
 pub commit-example : (n : ℕ)
-    → Stopped geometry 0 1 Document Document first second (commitImages geometry first second 0 1 0 0 0 (deadline ∷ [])
-    hour n .b0)
+    → Stopped geometry 0 1 Document Document first second
+    (commitImages geometry first second 0 1 0 0 0 (deadline ∷ []) hour n .b0)
     (commitImages geometry first second 0 1 0 0 0 (deadline ∷ []) hour n .b1)
     (commitImages geometry first second 0 1 0 0 0 (deadline ∷ []) hour unlimited)
     (machineOf (log first)) (ran (machineOf (log first)) (written (itemsOf hour (deadline ∷ [])) []))
@@ -170,8 +169,7 @@ pub holds-the-hour : (asked (ran (machineOf (log first)) (written (itemsOf hour 
     × (asked (ran (machineOf (log first)) (written (itemsOf hour (deadline ∷ [])) [])) (name 0)
     ≡ some (record { type = 0x001; bytes = 0x71 ∷ 0x32 ∷ 0x31 ∷ 0x32 ∷ [] }))
 unfolding written dirOf dir acts act apply reaching applyAll upd empty log committed walk walkFrom walkIn classOf
-    readBehind
-    bodyLength tagLength tagFlipped be32 le32 xor crc crcByte crcBits crcBit entryBody tagOf
+    readBehind bodyLength tagLength tagFlipped be32 le32 xor crc crcByte crcBits crcBit entryBody tagOf
 holds-the-hour = (refl, refl)
 
 -- and of the compaction: the images are bytes, and the finished pair holds what the old one did

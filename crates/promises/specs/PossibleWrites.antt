@@ -131,8 +131,8 @@ compact-made n (compactAccepted second rev is size) h = tt
 
 -- ---- the four calls that write: without a limit of stores, and with one
 module _ (g : Geometry) (b0 b1 : List ℕ) (n0 n1 count seed rules : ℕ) where
-  verdict-possible : (entries : List Entry) (dat : List ℕ) → Commits (verdictOf g b0 b1 n0 n1 count seed rules entries
-      dat)
+  verdict-possible : (entries : List Entry) (dat : List ℕ) → Commits
+      (verdictOf g b0 b1 n0 n1 count seed rules entries dat)
   unfolding verdictOf
   verdict-possible entries dat =
       through Commits (not (commitFits g (length b0) (length b1) n0 n1 rules (length entries) (length dat))) commit22
@@ -166,8 +166,8 @@ module _ (g : Geometry) (b0 b1 : List ℕ) (n0 n1 count seed rules : ℕ) where
   unfolding compactOf
   compact-possible =
       let after : Images = compactImages g b0 b1 n0 n1 count seed rules unlimited in
-      compact-answer (fetchOf g (after .b0) (after .b1) n0 n1 count seed) (compactVerdict g b0 b1 n0 n1 count seed
-      rules)
+      compact-answer (fetchOf g (after .b0) (after .b1) n0 n1 count seed)
+      (compactVerdict g b0 b1 n0 n1 count seed rules)
       (fetch-possible g (after .b0) (after .b1) n0 n1 count seed) compact-verdict-possible
 
   pub compact-stores-possible : (n : ℕ) → StoredOr CompactRefuses (compactStoresOf g b0 b1 n0 n1 count seed rules n)

@@ -77,12 +77,12 @@ simply D (skip ∷ l) = simply D l
 simply-same : (l : List Act) (D : List Slot) → AllowedFrom false (length D) l → applyAll D l ≡ simply D l
 unfolding applyAll apply simply slotsAfter
 simply-same [] D f = refl
-simply-same (mk j ∷ l) D f = simply-same l (take j D ++ empty ∷ drop j D) (rw (length-apply false D (mk j) (f .0)) (f
-    .1))
+simply-same (mk j ∷ l) D f = simply-same l (take j D ++ empty ∷ drop j D)
+    (rw (length-apply false D (mk j) (f .0)) (f .1))
 simply-same (rm j ∷ l) D f = simply-same l (take j D ++ drop (suc j) D) (rw (length-apply false D (rm j) (f .0)) (f .1))
 simply-same (put j c v ∷ l) D f =
-    simply-same l (set (reaching j D) j (upd (getD D j empty) c v)) (rw (length-apply false D (put j c v) (f .0)) (f
-    .1))
+    simply-same l (set (reaching j D) j (upd (getD D j empty) c v))
+    (rw (length-apply false D (put j c v) (f .0)) (f .1))
     ∙ ap (λ (E : List Slot). simply (set E j (upd (getD D j empty) c v)) l) (reaching-there j D (inside-there (f .0)))
 simply-same (skip ∷ l) D f = simply-same l D (f .1)
 
@@ -136,5 +136,5 @@ module _ (g : Geometry) (b0 b1 : List ℕ) (n0 n1 count seed : ℕ) where
           → compactFetched Littlefs (g .«prog_size») b0 b1 n0 f ≡ compactFetched Document (g .«prog_size») b0 b1 n0 f
       go (fetched.Refused r) h = refl
       go (fetched.Found m s) h = either-rule (log (block m)) (compactRefused Irregular)
-          (placedAnew (g .«prog_size») (length (block m)) (isSecond n0 m) (plus32 (le32 (block m)) 1)
-          (compactionItems (log (block m)))) h
+          (placedAnew (g .«prog_size») (length (block m)) (isSecond n0 m)
+          (plus32 (le32 (block m)) 1) (compactionItems (log (block m)))) h

@@ -37,8 +37,8 @@ begins sum prev [] ct h k m = first-byte ct prev k h
 begins sum prev (i ∷ is) ct h k m = first-byte (i .tag) prev (m .0 .0) h
 
 -- ---- the call: the images after n stores, by the end and the end tag that were there before
-module _ (g : Geometry) (b0 b1 : List ℕ) (n0 n1 count seed rules : ℕ) (entries : List Entry) (dat : List ℕ) (second :
-    Bool)
+module _ (g : Geometry) (b0 b1 : List ℕ) (n0 n1 count seed rules : ℕ) (entries : List Entry) (dat : List ℕ)
+    (second : Bool)
     (is : List Item) (size : ℕ) (h : verdictOf g b0 b1 n0 n1 count seed rules entries dat ≡ accepted second is size)
     (n : ℕ) (some : 1 ≤ n) where
   abbrev old : List ℕ

@@ -177,5 +177,5 @@ pub listing-short : (prog : ℕ) (p : LfsPair) (rules : ℕ) (input : List ℕ) 
     32
 listing-short prog p rules input =
     ruled-short rules (fetchedText (blockText (rulesOf rules)) p input (fetchInput prog p input))
-    (fetched-short (blockText (rulesOf rules)) (λ m b. omega (arith, block-short (rulesOf rules) m b)) p input
-    (fetchInput prog p input))
+    (fetched-short (blockText (rulesOf rules)) (λ m b. omega (arith, block-short (rulesOf rules) m b)) p
+    input (fetchInput prog p input))

@@ -67,15 +67,15 @@ record-done s t1 t2 t3 t4 t5 r m e1 e2 e3 e4 e5 er =
 -- ---- a block and its record; q is the rule that was asked for, x what the test of regularity answers
 module _ (b : List ℕ) (m : LfsMdir) (s t r : Text) (rules : ℕ) (q : Rules) (asked : q ≡ rulesOf rules) (x : Bool)
     (ex : x ≡ Regular q (log b)) (et : t ≡ putsOf s (recordLines m)) where
-  pub block-irregular : not x ≡ true → r ≡ putsOf t (refusedLine Irregular) → r ≡ putsOf s (blockText (rulesOf rules) m
-      b)
+  pub block-irregular : not x ≡ true → r ≡ putsOf t (refusedLine Irregular) → r ≡ putsOf s
+      (blockText (rulesOf rules) m b)
   unfolding blockText dirLines
   block-irregular h er = join s t r (recordLines m) (refusedLine Irregular) et er
       ∙ ap (λ (z : Bool). putsOf s (recordLines m ++ cond z (slotLines 0 (dirOf (log b))) (refusedLine Irregular)))
       (sym (not-true x h) ∙ ex ∙ ap (λ (k : Rules). Regular k (log b)) asked)
 
-  pub block-regular : not x ≡ false → r ≡ putsOf t (slotLines 0 (dirOf (log b))) → r ≡ putsOf s (blockText (rulesOf
-      rules) m b)
+  pub block-regular : not x ≡ false → r ≡ putsOf t (slotLines 0 (dirOf (log b))) → r ≡ putsOf s
+      (blockText (rulesOf rules) m b)
   unfolding blockText dirLines
   block-regular h er = join s t r (recordLines m) (slotLines 0 (dirOf (log b))) et er
       ∙ ap (λ (z : Bool). putsOf s (recordLines m ++ cond z (slotLines 0 (dirOf (log b))) (refusedLine Irregular)))

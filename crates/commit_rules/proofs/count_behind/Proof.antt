@@ -12,8 +12,8 @@ count-after-requires c κs = count-fits (ruleAs (c .before .before .args .rule))
     (omega arith) (sym (c .before .rule-holds .ensures) ∙ c .if1 .taken)
 
 returns : tie.Need-returns
-returns c = passes _ _ _ _ _ (c .before .before .rule-holds .ensures) _ (c .before .if1 .taken) (c .count-after
-    .ensures)
+returns c = passes _ _ _ _ _ (c .before .before .rule-holds .ensures) _ (c .before .if1 .taken)
+    (c .count-after .ensures)
 
 returns-2 : tie.Need-returns-2
 returns-2 c = fails _ _ _ _ _ (c .before .rule-holds .ensures) (c .if1 .left)

@@ -19,5 +19,5 @@ returns-2 c =
 pub start-spec : {M : Type 1} → statement M
 start-spec =
     tie.close
-    (tie.spec (λ c κs. search needs) (λ c κs. search needs) (λ c κs. search needs) returns (λ c. search needs)
-    returns-2)
+    (tie.spec (λ c κs. search needs) (λ c κs. search needs) (λ c κs. search needs) returns
+    (λ c. search needs) returns-2)

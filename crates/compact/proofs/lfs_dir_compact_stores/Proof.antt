@@ -45,8 +45,7 @@ returns-3 c =
       arith,
       c .before .before .before .before .before .before .before .before
           .before .before .before .before .before .before .before .before .slice-known .given i,
-    ))
-    (λ i. omega (
+    )) (λ i. omega (
       arith,
       c .before .before .before .before .before .before .before .before .before .before .before
           .before .before .before .before .slice-known2 .given i,

@@ -12,8 +12,8 @@ use Rattle.compact_block.proofs.renew.Tie as tie
 returns : tie.Need-returns
 returns c =
     renew-irregular _ _ _ _ _ (c .before .before .before .before .before .pre)
-    (c .before .before .before .before .before .args .rules) _ (c .before .before .rules-of .ensures) _ (c .before
-    .log-regular .ensures)
+    (c .before .before .before .before .before .args .rules) _ (c .before .before .rules-of .ensures) _
+    (c .before .log-regular .ensures)
     (c .if1 .taken)
 
 entries-requires : tie.Need-entries-requires
@@ -26,8 +26,8 @@ entries-requires c κs =
 
 rounded-end-requires : tie.Need-rounded-end-requires
 rounded-end-requires c κs =
-    renew-prog _ _ _ _ 0 (c .before .before .before .before .before .before .before .before .before .before .before
-    .pre)
+    renew-prog _ _ _ _ 0 (c .before .before .before .before .before .before .before .before .before .before
+    .before .pre)
     (c .before .before .before .before .before .before .before .before .before .before .before .args .rules) _ (c
     .before .before .before .before .before .before .before .before .rules-of .ensures) _ (c .before .before .before
     .before .before .before .before .log-regular .ensures)
@@ -113,7 +113,7 @@ returns-4 c =
 pub renew-spec : {M : Type 1} → statement M
 renew-spec =
     tie.close
-    (tie.spec (λ c κs. search needs) (λ c κs. search needs) returns (λ c κs. search needs) (λ c κs. search needs)
-    entries-requires
+    (tie.spec (λ c κs. search needs) (λ c κs. search needs) returns (λ c κs. search needs)
+    (λ c κs. search needs) entries-requires
     rounded-end-requires (λ c. search needs) returns-2 check-tag-requires (λ c κs. search needs) (λ c. search needs)
     returns-3 write-requires (λ c. search needs) returns-4)

@@ -9,8 +9,7 @@ returns : tie.Need-returns
 returns c =
     block-irregular _ _ _ (c .before .before .before .before .before .before .before .before .before .args .rules) _ (c
     .before .before .before .before .before .before .rules-of .ensures) _ (c .before .before .before .before .before
-    .log-regular .ensures) _
-    (c .before .before .before .before .if1 .taken) (c .before .before .refused .ensures)
+    .log-regular .ensures) _ (c .before .before .before .before .if1 .taken) (c .before .before .refused .ensures)
 
 slot-audits-requires : tie.Need-slot-audits-requires
 slot-audits-requires c κs = block-slots _ _ _ _ (c .before .before .before .before .before .before .before .before .pre)
@@ -27,8 +26,8 @@ returns-2 c =
     .before .before .before .before .before .pre) (c .before .before .before .before .before .before .before .before
     .before .before .before .before .log-regular .ensures) (c .before .before .before .before .before .before .before
     .before .before .before .before .if1 .left))
-    (c .before .before .before .before .before .before .before .slot-audits .ensures) (c .before .before .total-lines
-    .ensures)
+    (c .before .before .before .before .before .before .before .slot-audits .ensures)
+    (c .before .before .total-lines .ensures)
 
 pub block-audit-spec : {M : Type 1} → statement M
 block-audit-spec =

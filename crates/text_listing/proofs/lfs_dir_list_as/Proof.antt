@@ -33,8 +33,8 @@ returns-2 : tie.Need-returns-2
 returns-2 c =
     let a = c .before .before .before .before .before .before .before .before .before .before .before .args in
     puts-written _ _ _ _ (listing-short (a .prog-size) (a .numbers) (a .rules) (a .input .now))
-    (rule-fits _ _ _ _ (c .before .before .before .before .before .before .before .before .if1 .left) (shown-refused _ _
-    _ (blockText (rulesOf (a .rules))) _ _ _
+    (rule-fits _ _ _ _ (c .before .before .before .before .before .before .before .before .if1 .left)
+    (shown-refused _ _ _ (blockText (rulesOf (a .rules))) _ _ _
     (sym (c .before .before .before .before .before .r .given .1)
     ∙ c .before .before .before .before .before .before .before .fetch-input .ensures)
     (c .before .before .refused2 .ensures)))

@@ -207,16 +207,15 @@ pub record AppendsTo (r : Rules) (b0 b1 : List ℕ) (entries : List Entry) (dat 
   pub ruled : Regular r (log (blockAt second b0 b1)) ≡ true
   pub accepts : Accepts (blockAt second b0 b1) (log (blockAt second b0 b1)) (itemsOf dat entries) size
 
-module _ (g : Geometry) (b0 b1 : List ℕ) (n0 n1 count seed rules : ℕ) (entries : List Entry) (dat : List ℕ) (second :
-    Bool)
+module _ (g : Geometry) (b0 b1 : List ℕ) (n0 n1 count seed rules : ℕ) (entries : List Entry) (dat : List ℕ)
+    (second : Bool)
     (is : List Item) (size : ℕ) where
   pub accepted-commit : verdictOf g b0 b1 n0 n1 count seed rules entries dat ≡ accepted second is size
       → AppendsTo (rulesOf rules) b0 b1 entries dat second is size
   unfolding verdictOf appended
   accepted-commit h =
       let p = past (not (commitFits g (length b0) (length b1) n0 n1 rules (length entries) (length dat))) Invalid _
-      second is
-      size h in
+      second is size h in
       let prog = fits-prog g (fits-geometry g (length b0) (length b1) n0 n1 rules (length entries) (length dat)
       (not-false _ (p .0))) in
       let f = found-then (fetchOf g b0 b1 n0 n1 count seed) _ second is size (p .1) in
@@ -229,8 +228,8 @@ module _ (g : Geometry) (b0 b1 : List ℕ) (n0 n1 count seed rules : ℕ) (entri
       let some : log (blockAt (a .w) b0 b1) ≢ [] = view-log (a .w) (blockAt (a .w) b0 b1) (blockAt (not (a .w)) b0 b1)
       (a .rev) (log (blockAt (a .w) b0 b1)) (a .answers) .1 in
       let k = placed-accepts (g .«prog_size») (prog .0) (prog .1) (blockAt (a .w) b0 b1) (log (blockAt (a .w) b0 b1))
-      refl some (widest (rulesOf rules) _ (not-false _ (q .0))) dat entries (j .c) (j .all) (a .w) second is size (j
-      .then) in
+      refl some (widest (rulesOf rules) _ (not-false _ (q .0))) dat entries (j .c) (j .all) (a .w) second is size
+      (j .then) in
       rw (k .0) (record {
         rev = a .rev;
         items = k .1;

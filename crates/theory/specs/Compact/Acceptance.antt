@@ -82,8 +82,7 @@ module _ (x : List ℕ) (v : ℕ) (es : List Event) (ts : List Item) (size m : �
 
   -- the new log is regular by document 01's rule: "for each id create"
   pub compacted-regular : Regular Document (commitEvents (crc allOnes (toLe32 (plus32 v 1))) allOnes (compactItems
-      (dirOf es) ts)
-      (checkTag size)) ≡ true
+      (dirOf es) ts) (checkTag size)) ≡ true
   compacted-regular =
       compact-regular (dirOf es) ts (crc allOnes (toLe32 (plus32 v 1))) allOnes (checkTag size) slots few (a .hold)
       (rw (of-size typeCheck noSlot size (omega (arith, check-size .1))) (a .check))

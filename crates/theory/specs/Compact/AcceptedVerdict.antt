@@ -192,8 +192,8 @@ module _ (g : Geometry) (b0 b1 : List ℕ) (n0 n1 count seed rules : ℕ) (w : B
       ≡ compactAccepted w rev is size =
       rw (f .2, a .place) at k in
       let same = lengths (a .w) z in
-      let p = placed (rulesOf rules) (g .«prog_size») (z .prog .0) (z .prog .1) (blockAt (a .w) b0 b1) (blockAt (not (a
-      .w)) b0 b1) same
+      let p = placed (rulesOf rules) (g .«prog_size») (z .prog .0) (z .prog .1) (blockAt (a .w) b0 b1)
+      (blockAt (not (a .w)) b0 b1) same
       (a .w) w rev is size t in
       rw (← p .place)
       (record {
@@ -228,11 +228,11 @@ module _ (g : Geometry) (b0 b1 : List ℕ) (n0 n1 count seed rules : ℕ) (w : B
 
   -- the images after n stores: only the block that did not answer is altered
   pub compaction-written : (n : ℕ)
-      → (blockAt (not w) (compactImages g b0 b1 n0 n1 count seed rules n .b0) (compactImages g b0 b1 n0 n1 count seed
-      rules n .b1)
+      → (blockAt (not w) (compactImages g b0 b1 n0 n1 count seed rules n .b0)
+      (compactImages g b0 b1 n0 n1 count seed rules n .b1)
       ≡ compactedTo o rev is size n)
-      × (blockAt w (compactImages g b0 b1 n0 n1 count seed rules n .b0) (compactImages g b0 b1 n0 n1 count seed rules n
-      .b1) ≡ x)
+      × (blockAt w (compactImages g b0 b1 n0 n1 count seed rules n .b0)
+      (compactImages g b0 b1 n0 n1 count seed rules n .b1) ≡ x)
   unfolding compactImages
   compaction-written n = rw h (go w)
     where

@@ -49,8 +49,8 @@ moves-ok (ent t d ∷ es) g c v st h ok =
     let R : Rule = ruleOf true (tagType3 t) in
     let n : ℕ = countRaised g R c (tagId t) in
     let r = both-true (ruleHolds R n (tagId t) (tagSize t)) (regularFrom (growsAfter g R) (countAfter R n) es) h in
-    moves-ok es (growsAfter g R) (countAfter R n) (cond (isMove t) (loadOf t d) v) (st .1) (r .1) (go (isMove t) refl
-    (st .0 .1) (r .0))
+    moves-ok es (growsAfter g R) (countAfter R n) (cond (isMove t) (loadOf t d) v) (st .1) (r .1)
+    (go (isMove t) refl (st .0 .1) (r .0))
   where
     go : (b : Bool) → isMove t ≡ b → length d ≡ bodyLength t
         → ruleHolds (ruleOf true (tagType3 t)) (countRaised g (ruleOf true (tagType3 t)) c (tagId t)) (tagId t)

@@ -73,8 +73,8 @@ act-passes (put j c (some v)) n h al few =
       of-id (v .type) j (length (v .bytes)) (h .0) (omega arith),
       of-size (v .type) j (length (v .bytes)) (omega arith),
     )
-    (let p = slot-rule (ruleOf true (v .type)) (v .type) (length (v .bytes)) n j (rule-says (v .type) true) low
-    (inside-there al) (h .1 .2) in
+    (let p = slot-rule (ruleOf true (v .type)) (v .type) (length (v .bytes)) n j (rule-says (v .type) true)
+    low (inside-there al) (h .1 .2) in
     (p .0, p .1 ∙ omega (arith, inside-there al)))
 act-passes (put j c none) n h al few = absurd h
 act-passes skip n h al few = absurd h
@@ -88,8 +88,8 @@ acts-pass (a ∷ l) n more ok al few k =
     let p = act-passes a n (ok .0) (al .0) (few .0) in
     let R : Rule = ruleOf true (tagType3 (toItem a .tag)) in
     let al′ : AllowedFrom false (slotsAfter n a) l = rw (behind-never a) at (al .1) in
-    rw (raised-never R n (tagId (toItem a .tag)), grows-never R, p .0, p .1) (acts-pass l (slotsAfter n a) more (ok .1)
-    al′ (few .1) k)
+    rw (raised-never R n (tagId (toItem a .tag)), grows-never R, p .0, p .1)
+    (acts-pass l (slotsAfter n a) more (ok .1) al′ (few .1) k)
 
 -- ---- what holds newest first holds oldest first
 newest-from : (g : Bool) (l r : List Act) → AllAllowed g (reverseAux l r) → FewBack (reverseAux l r)
@@ -100,8 +100,8 @@ unfolding dir
 newest-from g [] r al few n = ((al, few, n), tt, tt)
 newest-from g (a ∷ l) r al few n =
     let ih = newest-from g l (a ∷ r) al few n in
-    let e : length (apply (dir r) a) ≡ slotsAfter (length (dir r)) a = length-apply (stillGrows g r) (dir r) a (ih .0 .0
-    .0) in
+    let e : length (apply (dir r) a) ≡ slotsAfter (length (dir r)) a = length-apply (stillGrows g r) (dir r) a
+    (ih .0 .0 .0) in
     ((ih .0 .0 .1, ih .0 .1 .1, ih .0 .1 .0), (ih .0 .0 .0, rw e at (ih .1)), (rw e at (ih .0 .2), rw e at (ih .2)))
 
 pub written-app : (is js : List Item) (more : List Event) → written (is ++ js) more ≡ written is (written js more)

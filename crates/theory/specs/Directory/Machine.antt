@@ -187,6 +187,6 @@ find-dir g (put j k v ∷ l) c i r h =
         fin false = rw (eqb-true j i e) ih
     go false e ih =
         let n : i ≢ j = λ q. eqb-false j i e (sym q) in
-        ih ∙ sym (ap (λ s. s c) (getD-set-other (reaching j D) j i (upd (getD D j empty) k v) empty n
-        ∙ getD-reaching j D i))
+        ih ∙ sym (ap (λ s. s c) (getD-set-other (reaching j D) j i (upd (getD D j empty) k v) empty
+        n ∙ getD-reaching j D i))
 find-dir g (skip ∷ l) c i r h = find-dir g l c i (r .1) h

@@ -215,8 +215,8 @@ module _ (b : List ℕ) (mask T c s asked : ℕ) (q : Query mask T c) (hs : s < 
                 down key d T i s hg hd pos e,
                 miss (mk j) ea (i - 1) (omega (arith, i-low)),
               )
-              (ih (plus32 d (2 ^ 10)) (i - 1) (omega arith) (omega (arith, i-low)) (inl (omega (arith, low)))
-              (down key d T i s hg hd pos e))
+              (ih (plus32 d (2 ^ 10)) (i - 1) (omega arith) (omega (arith, i-low))
+              (inl (omega (arith, low))) (down key d T i s hg hd pos e))
           sub false el be ee =
               rw (e, t1, t2, of-id T i s (omega (arith, i-low)) hs, el, e, miss (mk j) ea i (omega (arith, i-low)))
               (ih d i hd i-low (inl (omega (arith, leb-false j i el))) e)
@@ -251,7 +251,8 @@ module _ (b : List ℕ) (mask T c s asked : ℕ) (q : Query mask T c) (hs : s < 
                 up key d T i s hg hd (q .0) i-low hs e,
                 miss (rm j) ea (i + 1) (omega (arith, i-low)),
               )
-              (ih (plus32 d (2 ^ 32 - 2 ^ 10)) (i + 1) (omega arith) (omega (arith, low, lo .0)) (inl (omega (
+              (ih (plus32 d (2 ^ 32 - 2 ^ 10)) (i + 1) (omega arith) (omega (arith, low, lo .0))
+              (inl (omega (
                 arith,
                 low,
               )))

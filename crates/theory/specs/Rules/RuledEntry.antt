@@ -135,8 +135,8 @@ module _ (g : Bool) (c t k : ℕ) (d : List ℕ) (R : Rule) (is : act t d ≡ pu
   ruled-set = ruled-put g c c t k d R is low (inl there) (omega arith) (λ h. h) same still class any
 
 -- tails, move states, forward checks: no slot is touched
-module _ (g : Bool) (c t : ℕ) (d : List ℕ) (R : Rule) (high : typeCheck + 2 ^ 7 ≤ tagType3 t) (same : countAfter R c ≡
-    c)
+module _ (g : Bool) (c t : ℕ) (d : List ℕ) (R : Rule) (high : typeCheck + 2 ^ 7 ≤ tagType3 t)
+    (same : countAfter R c ≡ c)
     (still : growsAfter g R ≡ g) (wide : isWide t ≡ true → tagLength t ≡ 12) where
   ruled-skip : Ruled g c c R t d
   unfolding slotsAfter

@@ -192,8 +192,8 @@ module _ (g : Geometry) (b0 b1 : List ℕ) (n0 n1 count seed rules : ℕ) (entri
 -- DEMAND 3, COMMIT
 pub stopped-commit : (g : Geometry) (b0 b1 : List ℕ) (n0 n1 count seed rules : ℕ) (entries : List Entry) (dat : List ℕ)
     (n : ℕ)
-    → CommitStopped g b0 b1 n0 n1 count seed rules entries dat (commitImages g b0 b1 n0 n1 count seed rules entries dat
-    n .b0)
+    → CommitStopped g b0 b1 n0 n1 count seed rules entries dat
+    (commitImages g b0 b1 n0 n1 count seed rules entries dat n .b0)
     (commitImages g b0 b1 n0 n1 count seed rules entries dat n .b1)
 stopped-commit g b0 b1 n0 n1 count seed rules entries dat n w is size h =
     record {
