@@ -112,18 +112,22 @@ fn find_port(root: &Path) {
     println!("cargo::rerun-if-changed={}", archive.display());
     println!("cargo::rustc-link-search=native={}", given.display());
     println!("cargo::rustc-link-lib=static=lanolin");
-    find_writing(&archive);
+    find_calls(&archive);
 }
 
-/// Sets a cfg for each of the two calls that write, if the archive has it with
-/// and without a limit. An archive keeps the names of its calls as text.
-fn find_writing(archive: &Path) {
+/// Sets a cfg for each call that an older archive lacks, if it is there: the two
+/// that write with and without a limit, and the find. An archive keeps the names of
+/// its calls as text, each with a zero behind it.
+fn find_calls(archive: &Path) {
     let bytes = fs::read(archive).expect("the archive is read");
-    for call in ["lanolin_commit", "lanolin_compact"] {
+    let there = |name: &[u8]| bytes.windows(name.len()).any(|part| part == name);
+    for (call, needs) in [
+        ("lanolin_commit", "lanolin_commit_stores\0"),
+        ("lanolin_compact", "lanolin_compact_stores\0"),
+        ("lanolin_find", "lanolin_find\0"),
+    ] {
         println!("cargo::rustc-check-cfg=cfg({call})");
-        let limited = format!("{call}_stores");
-        let there = |name: &[u8]| bytes.windows(name.len()).any(|part| part == name);
-        if there(limited.as_bytes()) {
+        if there(needs.as_bytes()) {
             println!("cargo::rustc-cfg={call}");
         }
     }

@@ -17,7 +17,7 @@ use std::hint::black_box;
 pub const ATTRIBUTE: u32 = 0x374;
 const NO_ATTRIBUTE: u32 = 0x3aa;
 const PROG_SIZE: u32 = 16;
-const BUFFER: usize = 16;
+pub const BUFFER: usize = 16;
 
 pub struct Directory {
     pub images: [Vec<u8>; 2],
@@ -74,7 +74,7 @@ impl Directory {
         }
     }
 
-    fn fetch(&self, seed: u32) -> Fetch<'_> {
+    pub fn fetch(&self, seed: u32) -> Fetch<'_> {
         self.fetch_of(&self.images, seed)
     }
 
@@ -87,7 +87,7 @@ impl Directory {
         }
     }
 
-    fn lookup(&self) -> Lookup<'_> {
+    pub fn lookup(&self) -> Lookup<'_> {
         Lookup {
             blocks: self.blocks(&self.images),
             dir: self.dir,
@@ -101,7 +101,7 @@ impl Directory {
         let ids: Vec<u32> = (0..self.slots).step_by(step as usize).collect();
         let mut found = Vec::new();
         for &id in &ids {
-            found.push(query(0x700, NAME, id));
+            found.push(name_of(id));
             found.push(query(0x700, STRUCT, id));
             found.push(query(0x7ff, ATTRIBUTE, id));
         }
@@ -172,7 +172,7 @@ impl Directory {
 }
 
 fn create(log: &mut Log, id: u32, i: u32) {
-    let name = format!("f{i:04}");
+    let name = format!("q{i:04}");
     let entries = [
         (tag_of(CREATE, id, 0), &[][..]),
         (tag_of(FILE, id, 5), name.as_bytes()),
@@ -187,6 +187,11 @@ fn create(log: &mut Log, id: u32, i: u32) {
 fn commit(log: &mut Log) {
     let size = log.check_size(0, PROG_SIZE as usize);
     assert!(log.check(tag_of(CHECK, NO_SLOT, size)), "the slots fit");
+}
+
+/// The name of a slot.
+pub fn name_of(id: u32) -> Query {
+    query(0x700, NAME, id)
 }
 
 fn query(types: u32, type_: u32, id: u32) -> Query {

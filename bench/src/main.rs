@@ -11,6 +11,8 @@ mod counts;
 #[cfg(lfs_rust)]
 mod directory;
 #[cfg(lfs_rust)]
+mod finding;
+#[cfg(lfs_rust)]
 mod measure;
 #[cfg(lfs_rust)]
 mod writing;
@@ -20,10 +22,11 @@ use std::hint::black_box;
 use std::process::ExitCode;
 
 const USAGE: &str = "usage: bench [--goal | --unjudged]
-Measures the port beside the unchanged Rust, and writing beside one fetch of the
-same pair. It exits 1 if a compaction of 1,000 slots takes more than 300 fetches;
-with --goal also if lfs_crc of 4,096 bytes takes more than 1.10 times the Rust's
-time. With --unjudged, for an emulator, no time makes it fail.";
+Measures the port beside the unchanged Rust, and finding and writing beside one
+fetch of the same pair. It exits 1 if a compaction of 1,000 slots takes more than 300
+fetches; with --goal also if lfs_crc of 4,096 bytes takes more than 1.10 times the
+Rust's time, or finding a name more than 1.5 fetches. With --unjudged, for an
+emulator, no time makes it fail.";
 
 /// Which figures make the program fail.
 #[derive(Clone, Copy, PartialEq)]
@@ -64,16 +67,21 @@ const GOAL: (f64, usize) = (1.10, 4096);
 
 #[cfg(lfs_rust)]
 fn measure(judged: Judged) -> ExitCode {
-    let missed = read_lines();
+    let goals = [
+        (read_lines(), format!("{:.2} at {} bytes", GOAL.0, GOAL.1)),
+        (find_lines(), format!("{} fetches", finding::MOST_FETCHES)),
+    ];
     let long = write_lines(judged);
     if judged == Judged::WritingAndGoal {
-        let end = if missed { "missed" } else { "met" };
-        println!("goal {end}: at most {:.2} at {} bytes", GOAL.0, GOAL.1);
+        for (missed, goal) in &goals {
+            let end = if *missed { "missed" } else { "met" };
+            println!("goal {end}: at most {goal}");
+        }
     }
     let failed = match judged {
         Judged::Nothing => false,
         Judged::Writing => long,
-        Judged::WritingAndGoal => long || missed,
+        Judged::WritingAndGoal => long || goals.iter().any(|(missed, _)| *missed),
     };
     ExitCode::from(u8::from(failed))
 }
@@ -99,9 +107,9 @@ fn read_lines() -> bool {
         print_line(name, 4, None, &times);
     }
     for (block_size, slots, in_a_commit, looked_up) in DIRECTORIES {
-        let directory = directory::Directory::new(block_size, slots, in_a_commit);
-        println!("a block of {block_size} bytes, {slots} slots:");
-        for line in directory.lines(looked_up) {
+        let directory = made(block_size, slots, in_a_commit);
+        let found = finding::asked(&directory).map(|asked| asked.beside_rust());
+        for line in directory.lines(looked_up).into_iter().chain(found) {
             print_line(
                 line.name,
                 directory.dir.off as usize,
@@ -113,28 +121,34 @@ fn read_lines() -> bool {
     missed
 }
 
+/// The lines of finding a name beside a fetch. True if the longest misses the goal.
+#[cfg(lfs_rust)]
+fn find_lines() -> bool {
+    print_head_beside("finding a name");
+    let mut most: f64 = 0.0;
+    for (block_size, slots, in_a_commit, _) in DIRECTORIES {
+        let directory = made(block_size, slots, in_a_commit);
+        for asked in finding::asked(&directory) {
+            let line = asked.beside_fetch();
+            print_line_beside(&line, &directory);
+            most = most.max(line.beside.fetches());
+        }
+    }
+    let goal = finding::MOST_FETCHES;
+    println!("finding a name takes up to {most:.2} fetches; the goal: at most {goal}");
+    most > goal
+}
+
 /// The lines of writing. True if the last compaction takes too long.
 #[cfg(lfs_rust)]
 fn write_lines(judged: Judged) -> bool {
-    use directory::Directory;
-
-    println!(
-        "\n{:<26}{:>7}{:>12}{:>12}{:>12}",
-        "writing", "bytes", "port ns", "fetch ns", "port/fetch"
-    );
+    print_head_beside("writing");
     let mut fetches = 0.0;
     for (block_size, slots, in_a_commit) in WRITTEN {
-        let directory = Directory::new(block_size, slots, in_a_commit);
-        println!("a block of {block_size} bytes, {slots} slots:");
+        let directory = made(block_size, slots, in_a_commit);
         let lines = [writing::commit(&directory), writing::compact(&directory)];
-        for writing::Line { name, beside } in &lines {
-            println!(
-                "{name:<26}{:>7}{:>12.1}{:>12.1}{:>12.2}",
-                directory.dir.off,
-                beside.write,
-                beside.fetch,
-                beside.fetches()
-            );
+        for line in &lines {
+            print_line_beside(line, &directory);
         }
         fetches = lines[1].beside.fetches();
     }
@@ -146,6 +160,33 @@ fn write_lines(judged: Judged) -> bool {
     };
     println!("a compaction of 1,000 slots takes {fetches:.1} fetches; at most {most}: {holds}");
     long
+}
+
+/// A directory, and the line above those that are measured on it.
+#[cfg(lfs_rust)]
+fn made(block_size: u32, slots: u32, in_a_commit: u32) -> directory::Directory {
+    println!("a block of {block_size} bytes, {slots} slots:");
+    directory::Directory::new(block_size, slots, in_a_commit)
+}
+
+#[cfg(lfs_rust)]
+fn print_head_beside(what: &str) {
+    println!(
+        "\n{what:<26}{:>7}{:>12}{:>12}{:>12}",
+        "bytes", "port ns", "fetch ns", "port/fetch"
+    );
+}
+
+#[cfg(lfs_rust)]
+fn print_line_beside(line: &writing::Line, directory: &directory::Directory) {
+    let writing::Line { name, beside } = line;
+    println!(
+        "{name:<26}{:>7}{:>12.1}{:>12.1}{:>12.2}",
+        directory.dir.off,
+        beside.call,
+        beside.fetch,
+        beside.fetches()
+    );
 }
 
 /// Block size, slots, slots in each commit: a block that is half full, and the
@@ -176,8 +217,10 @@ fn print_line(name: &str, len: usize, read: Option<usize>, times: &measure::Time
         Some(read) => format!("{:.1}", read as f64 * 1000.0 / time),
         None => String::from("-"),
     };
+    // A find is so small a part of the lookups that two digits would not show it.
+    let digits = if times.ratio() < 0.1 { 4 } else { 2 };
     println!(
-        "{name:<26}{len:>7}{:>12.1}{:>12}{:>12.1}{:>12}{:>12.2}",
+        "{name:<26}{len:>7}{:>12.1}{:>12}{:>12.1}{:>12}{:>12.digits$}",
         times.port,
         speed(times.port),
         times.rust,

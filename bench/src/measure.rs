@@ -4,8 +4,8 @@
 //! the machine or a change of its clock then falls on both sides, or on a slice
 //! that the least one leaves out.
 //!
-//! Assumes that both sides answer the same, and checks it: each slice is the
-//! same chain of calls on either side, so its last answers must be equal.
+//! Assumes that the port and the Rust answer the same, and checks it: each slice is
+//! the same chain of calls on either side, so its last answers must be equal.
 
 use std::hint::black_box;
 use std::time::{Duration, Instant};
@@ -15,6 +15,8 @@ use std::time::{Duration, Instant};
 const ROUNDS: u128 = 400;
 const LONGEST: Duration = Duration::from_millis(1500);
 const FEWEST: u128 = 10;
+/// Of slices fewer: a call that is so long is far longer than the other side's.
+const FEWEST_SLICES: u128 = 4;
 /// The most rounds of calls that are timed alone.
 const ALONE: u128 = 2_000;
 const SLICE: Duration = Duration::from_micros(200);
@@ -39,16 +41,15 @@ impl Times {
     }
 }
 
-/// The least time of a call that writes, and of a fetch of the same pair, in
-/// nanoseconds.
+/// The least time of a call, and of a fetch of the same pair, in nanoseconds.
 pub struct Beside {
-    pub write: f64,
+    pub call: f64,
     pub fetch: f64,
 }
 
 impl Beside {
     pub fn fetches(&self) -> f64 {
-        self.write / self.fetch
+        self.call / self.fetch
     }
 }
 
@@ -79,34 +80,55 @@ where
         assert_eq!(seed, fetch(&lent), "fetch gives the seed that was answered");
         least = [least[0].min(fetched), least[1].min(written)];
     }
-    let [fetch, write] = least.map(|time| time.as_nanos() as f64);
-    Beside { write, fetch }
+    let [fetch, call] = least.map(|time| time.as_nanos() as f64);
+    Beside { call, fetch }
 }
 
-/// Measures two functions from a register to a register.
-pub fn side_by_side<P, R>(mut port: P, mut rust: R) -> Times
+/// Measures the port's function and the Rust's, from a register to a register.
+pub fn side_by_side<P, R>(port: P, rust: R) -> Times
 where
     P: FnMut(u32) -> u32,
     R: FnMut(u32) -> u32,
 {
-    let calls = calls_in_a_slice(&mut rust);
-    let both = slice(calls, &mut port).0 + slice(calls, &mut rust).0;
-    let rounds = LONGEST.as_nanos() / both.as_nanos().max(1);
-    let mut least = [Duration::MAX; 2];
-    for _ in 0..rounds.clamp(FEWEST, ROUNDS) {
-        let (port_time, port_end) = slice(calls, &mut port);
-        let (rust_time, rust_end) = slice(calls, &mut rust);
-        assert_eq!(port_end, rust_end, "the port and the Rust answer the same");
-        least = [least[0].min(port_time), least[1].min(rust_time)];
-    }
-    let [port, rust] = least.map(|time| time.as_nanos() as f64 / f64::from(calls));
+    let same = |port, rust| assert_eq!(port, rust, "the port and the Rust answer the same");
+    let [port, rust] = in_slices(port, rust, same);
     Times { port, rust }
 }
 
-/// How many calls of the Rust fill a slice. The port gets as many.
-fn calls_in_a_slice(rust: &mut impl FnMut(u32) -> u32) -> u32 {
+/// Measures a call that alters nothing, and a fetch.
+pub fn beside_fetch<C, F>(call: C, fetch: F) -> Beside
+where
+    C: FnMut(u32) -> u32,
+    F: FnMut(u32) -> u32,
+{
+    let [call, fetch] = in_slices(call, fetch, |_, _| {});
+    Beside { call, fetch }
+}
+
+/// The least times of two functions. Each round hands on what the two slices end
+/// with.
+fn in_slices<A, B>(mut one: A, mut other: B, mut ends: impl FnMut(u32, u32)) -> [f64; 2]
+where
+    A: FnMut(u32) -> u32,
+    B: FnMut(u32) -> u32,
+{
+    let calls = calls_in_a_slice(&mut other);
+    let both = slice(calls, &mut one).0 + slice(calls, &mut other).0;
+    let rounds = LONGEST.as_nanos() / both.as_nanos().max(1);
+    let mut least = [Duration::MAX; 2];
+    for _ in 0..rounds.clamp(FEWEST_SLICES, ROUNDS) {
+        let (one_time, one_end) = slice(calls, &mut one);
+        let (other_time, other_end) = slice(calls, &mut other);
+        ends(one_end, other_end);
+        least = [least[0].min(one_time), least[1].min(other_time)];
+    }
+    least.map(|time| time.as_nanos() as f64 / f64::from(calls))
+}
+
+/// How many calls of the second function fill a slice. The first gets as many.
+fn calls_in_a_slice(other: &mut impl FnMut(u32) -> u32) -> u32 {
     let mut calls = 1;
-    while slice(calls, rust).0 < SLICE {
+    while slice(calls, other).0 < SLICE {
         calls *= 2;
     }
     calls

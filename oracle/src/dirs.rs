@@ -22,15 +22,15 @@ const CASES: u64 = 1_000_000;
 
 /// One call: with the Rust, with what is Ours, and, where nothing is, with the
 /// second implementation as a third voice.
-struct Comparison {
+pub struct Comparison {
     subject: &'static str,
-    rust: Check,
-    ours: Check,
+    pub rust: Check,
+    pub ours: Check,
     model: Check,
 }
 
 impl Comparison {
-    fn new(subject: &'static str, call: &'static str) -> Comparison {
+    pub fn new(subject: &'static str, call: &'static str) -> Comparison {
         Comparison {
             subject,
             rust: Check::rust(call),
@@ -39,8 +39,15 @@ impl Comparison {
         }
     }
 
-    fn judge<T: Truth>(&mut self, truth: &T, answer: &T::Answer, case: &Case, question: &Question) {
-        let (weight, text) = (|| text::weight(question), || text::text(question));
+    /// One answer. `kind` is how its case was made.
+    pub fn judge<T: Truth>(
+        &mut self,
+        truth: &T,
+        answer: &T::Answer,
+        kind: &'static str,
+        weight: impl Fn() -> usize + Copy,
+        text: impl Fn() -> String + Copy,
+    ) {
         if let Some(rust) = truth.rust() {
             let (rust, port) = (truth.compared(rust), truth.compared(answer));
             self.rust.same_by_weight(&rust, &port, weight, text);
@@ -49,7 +56,7 @@ impl Comparison {
             Some(reason) => {
                 self.ours.outcome(reason);
                 if reason == REFUSED {
-                    self.ours.outcome_of(REFUSED, case.kind);
+                    self.ours.outcome_of(REFUSED, kind);
                 }
                 &mut self.ours
             }
@@ -58,7 +65,7 @@ impl Comparison {
         check.same_by_weight(truth.model(), answer, weight, text);
     }
 
-    fn subject(self) -> Subject {
+    pub fn subject(self) -> Subject {
         let mut subject = Subject::new(self.subject);
         for check in [self.rust, self.ours, self.model] {
             subject.add(check);
@@ -100,11 +107,13 @@ pub fn compare(parts: u64) -> Vec<Subject> {
 
 impl Comparisons {
     fn answer(&mut self, case: &Case, question: &Question) {
-        let rust = &mut self.rust;
+        let (rust, kind) = (&mut self.rust, case.kind);
+        let (weight, text) = (|| text::weight(question), || text::text(question));
         match *question {
             Question::Fetch(ref input) => {
                 let truth = FetchTruth::of(rust, input);
-                self.fetch.judge(&truth, &Port.fetch(input), case, question);
+                let answer = Port.fetch(input);
+                self.fetch.judge(&truth, &answer, kind, weight, text);
                 counts::fetch(&mut self.fetch.rust, case, &truth);
             }
             Question::Slice {
@@ -116,7 +125,7 @@ impl Comparisons {
             } => {
                 let truth = SliceTruth::of(rust, slicer, input, query, length);
                 let answer = slicer.ask(&Port, input, query, length);
-                self.slice.judge(&truth, &answer, case, question);
+                self.slice.judge(&truth, &answer, kind, weight, text);
                 counts::slice(&mut self.slice.rust, &truth, input, query, made_up);
             }
             Question::Info {
@@ -126,13 +135,13 @@ impl Comparisons {
             } => {
                 let truth = InfoTruth::of(rust, input, name_max, id);
                 let answer = Port.getinfo(input, name_max, id);
-                self.info.judge(&truth, &answer, case, question);
+                self.info.judge(&truth, &answer, kind, weight, text);
                 counts::info(&mut self.info.rust, &truth, name_max, id);
             }
             Question::Gstate { ref input, state } => {
                 let truth = GstateTruth::of(rust, input, state);
                 let answer = stated(&Port, input, state);
-                self.gstate.judge(&truth, &answer, case, question);
+                self.gstate.judge(&truth, &answer, kind, weight, text);
                 counts::gstate(&mut self.gstate.rust, &truth, state);
             }
         }

@@ -67,7 +67,7 @@ pub enum Sizes {
 
 /// The case of this number, and the generator for what is asked of it.
 pub fn case(number: u64, sizes: Sizes) -> (Case, Random) {
-    let mut random = Random::new(number.wrapping_mul(0x2545_f491_4f6c_dd1d) ^ 0x1a0);
+    let mut random = Random::numbered(number, 0x1a0);
     let case = pairs::case(&mut random, sizes);
     (case, random)
 }

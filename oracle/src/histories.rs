@@ -9,13 +9,13 @@
 pub mod ask;
 mod cuts;
 pub mod history;
-mod lists;
+pub mod lists;
 mod long;
 pub mod reads;
 pub mod real;
 mod solve;
 mod solved;
-mod start;
+pub mod start;
 mod wide;
 
 use crate::calls::write::*;

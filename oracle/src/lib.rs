@@ -38,6 +38,8 @@ pub mod calls;
 pub mod device;
 #[cfg(lfs_rust)]
 pub mod dirs;
+#[cfg(lfs_rust)]
+pub mod find;
 pub mod generate;
 #[cfg(lfs_rust)]
 pub mod histories;

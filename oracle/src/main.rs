@@ -6,17 +6,20 @@
 //!
 //! Assumes nothing beyond what `build.rs` found.
 
+#[cfg(lfs_rust)]
+use std::iter::once_with;
 use std::process::ExitCode;
 
-const USAGE: &str = "usage: oracle [--one-in N] | oracle histories [stand-in] [--one-in N]
-       oracle stopped [stand-in] [--one-in N] | oracle teeth | oracle record FILE N
-Compares the port with the unchanged Rust. `histories` compares writing alone, and
-`stopped` stops accepted calls after every number of stores: of the port or, with
-`stand-in`, of the second implementation. `teeth` instead runs every fault of the
-second implementation through the comparisons, and `record` writes N inputs with
-the Rust's answers to a file. With --one-in N only the first of N equal parts of the
-random pairs and histories is taken. What is compared is fixed when the program is
-built, by LFS_RUST_SRC and LANOLIN_LIB.";
+const USAGE: &str = "usage: oracle [--one-in N] | oracle find [stand-in] [--one-in N]
+       oracle histories [stand-in] [--one-in N] | oracle stopped [stand-in] [--one-in N]
+       oracle teeth | oracle record FILE N
+Compares the port with the unchanged Rust. `find` compares finding a name alone,
+`histories` writing alone, and `stopped` stops accepted calls after every number of
+stores: of the port or, with `stand-in`, of the second implementation. `teeth`
+instead runs every fault of the second implementation through the comparisons, and
+`record` writes N inputs with the Rust's answers to a file. With --one-in N only the
+first of N equal parts of the random pairs and histories is taken. What is compared
+is fixed when the program is built, by LFS_RUST_SRC and LANOLIN_LIB.";
 
 fn main() -> ExitCode {
     let arguments: Vec<String> = std::env::args_os()
@@ -34,6 +37,8 @@ fn main() -> ExitCode {
     };
     match (asked, parts) {
         ([], _) => compare(parts),
+        (["find"], _) => find(false, parts),
+        (["find", "stand-in"], _) => find(true, parts),
         (["histories"], _) => histories(false, parts),
         (["histories", "stand-in"], _) => histories(true, parts),
         (["stopped"], _) => stopped(false, parts),
@@ -55,6 +60,11 @@ fn wrong(why: &str) -> ExitCode {
 
 #[cfg(not(lfs_rust))]
 fn compare(_parts: u64) -> ExitCode {
+    skip()
+}
+
+#[cfg(not(lfs_rust))]
+fn find(_stand_in: bool, _parts: u64) -> ExitCode {
     skip()
 }
 
@@ -90,19 +100,23 @@ fn skip() -> ExitCode {
 
 #[cfg(lfs_rust)]
 fn compare(parts: u64) -> ExitCode {
-    use oracle::tally::Totals;
-
     println!("The port against the unchanged Rust.");
     say_parts(parts);
+    let leaves = oracle::leaves::SUBJECTS
+        .iter()
+        .map(|subject| vec![subject()]);
+    let dirs = once_with(|| oracle::dirs::compare(parts));
+    let find = once_with(|| finding(parts));
+    let histories = once_with(|| writing(parts));
+    print_all(leaves.chain(dirs).chain(find).chain(histories))
+}
+
+/// The subjects as they come, and the last lines.
+#[cfg(lfs_rust)]
+fn print_all(subjects: impl Iterator<Item = Vec<oracle::tally::Subject>>) -> ExitCode {
     let start = std::time::Instant::now();
-    let mut totals = Totals::default();
-    let leaves = oracle::leaves::SUBJECTS.iter().map(|subject| subject());
-    let dirs = std::iter::once_with(|| oracle::dirs::compare(parts)).flatten();
-    for subject in leaves.chain(dirs) {
-        subject.print();
-        totals.add(subject.totals());
-    }
-    for subject in writing(parts) {
+    let mut totals = oracle::tally::Totals::default();
+    for subject in subjects.flatten() {
         subject.print();
         totals.add(subject.totals());
     }
@@ -110,29 +124,38 @@ fn compare(parts: u64) -> ExitCode {
     conclude(totals)
 }
 
+/// Finding a name alone; with `stand-in`, that of the second implementation, to try
+/// it against the Rust's slots.
+#[cfg(lfs_rust)]
+fn find(stand_in: bool, parts: u64) -> ExitCode {
+    use oracle::find::{compare, Voices};
+    use oracle::model::{FAULTLESS, FAULTLESS_FINDER};
+
+    println!("Finding a name, and what the unchanged Rust shows slot by slot.");
+    say_parts(parts);
+    print_all(once_with(|| match stand_in {
+        true => {
+            say_stand_in();
+            let (finder, reader) = (&FAULTLESS_FINDER, &FAULTLESS);
+            compare(&Voices { finder, reader }, parts)
+        }
+        false => finding(parts),
+    }))
+}
+
 /// Writing alone; with `stand-in`, that of the second implementation, to try it
 /// against what the Rust reads.
 #[cfg(lfs_rust)]
 fn histories(stand_in: bool, parts: u64) -> ExitCode {
-    use oracle::tally::Totals;
-
     println!("Writing, and what the unchanged Rust reads of it.");
     say_parts(parts);
-    let start = std::time::Instant::now();
-    let mut totals = Totals::default();
-    let subjects = match stand_in {
+    print_all(once_with(|| match stand_in {
         true => {
-            println!("NOT THE PORT: the second implementation stands in for it.");
+            say_stand_in();
             oracle::histories::compare(&oracle::model::FAULTLESS_WRITER, parts)
         }
         false => writing(parts),
-    };
-    for subject in subjects {
-        subject.print();
-        totals.add(subject.totals());
-    }
-    println!("time: {:.2} s", start.elapsed().as_secs_f64());
-    conclude(totals)
+    }))
 }
 
 /// Every stop of accepted calls.
@@ -147,11 +170,11 @@ fn stopped(stand_in: bool, parts: u64) -> ExitCode {
     let start = std::time::Instant::now();
     let (subject, line) = match stand_in {
         true => {
-            println!("NOT THE PORT: the second implementation stands in for it.");
+            say_stand_in();
             let (writer, reader) = (&FAULTLESS_WRITER, &FAULTLESS);
             compare(&Asked { writer, reader }, parts)
         }
-        false if some_there() => {
+        false if some_write() => {
             let (writer, reader) = (&Port, &Port);
             compare(&Asked { writer, reader }, parts)
         }
@@ -174,23 +197,45 @@ fn say_parts(parts: u64) {
     }
 }
 
+#[cfg(lfs_rust)]
+fn say_stand_in() {
+    println!("NOT THE PORT: the second implementation stands in for it.");
+}
+
+/// The finds, if the archive has the call.
+#[cfg(lfs_rust)]
+fn finding(parts: u64) -> Vec<oracle::tally::Subject> {
+    use oracle::find::{compare, Voices};
+    use oracle::port::Port;
+
+    let (finder, reader) = (&Port, &Port);
+    match some_there(&[("lanolin_find", oracle::port::CAN_FIND)]) {
+        true => compare(&Voices { finder, reader }, parts),
+        false => Vec::new(),
+    }
+}
+
 /// The histories, of the calls that the archive has.
 #[cfg(lfs_rust)]
 fn writing(parts: u64) -> Vec<oracle::tally::Subject> {
-    match some_there() {
+    match some_write() {
         true => oracle::histories::compare(&oracle::port::Port, parts),
         false => Vec::new(),
     }
 }
 
-/// Whether the archive has calls that write. What it lacks is said, and nothing
-/// counts for it.
 #[cfg(lfs_rust)]
-fn some_there() -> bool {
-    let calls = [
+fn some_write() -> bool {
+    some_there(&[
         ("lanolin_commit", cfg!(lanolin_commit)),
         ("lanolin_compact", cfg!(lanolin_compact)),
-    ];
+    ])
+}
+
+/// Whether the archive has one of the calls. What it lacks is said, and nothing
+/// counts for it.
+#[cfg(lfs_rust)]
+fn some_there(calls: &[(&str, bool)]) -> bool {
     for (call, _) in calls.iter().filter(|(_, there)| !there) {
         println!("SKIPPED: the archive has no {call}, and nothing was compared with it.");
     }

@@ -1,10 +1,10 @@
-//! A second implementation of fetch, lookups and the added writer, written from
-//! document 01 and not from the Rust: a third voice beside the port and the Rust,
-//! and the one that decides where document 01 leaves the Rust (what it marks
+//! A second implementation of fetch, lookups, the find and the added writer, written
+//! from document 01 and not from the Rust: a third voice beside the port and the
+//! Rust, and the one that decides where document 01 leaves the Rust (what it marks
 //! Ours) and where there is no Rust (the writer).
 //!
-//! It can be given a `Fault` or a `WriteFault`, a change in one place. `oracle
-//! teeth` runs each one through the comparison, to show that it is seen.
+//! It can be given a `Fault`, a `FindFault` or a `WriteFault`, a change in one place.
+//! `oracle teeth` runs each one through the comparison, to show that it is seen.
 //!
 //! Assumes nothing, and never panics, also with a fault: a slice is read by
 //! `get`, never by an index.
@@ -16,6 +16,8 @@ mod directory;
 mod erased;
 mod fault;
 mod fetch;
+mod find;
+mod find_fault;
 mod info;
 mod lay;
 mod lookup;
@@ -28,9 +30,11 @@ mod write_fault;
 mod writer;
 
 pub use bytes::{be32, crc, le32, ONES};
-pub use committed::{log_of, regular};
+pub use committed::{fetched_log, regular, Logged};
 pub use directory::{Directory, Slot, Typed};
 pub use fault::{Fault, Seen, FAULTS};
+pub use find::{Finder, FAULTLESS_FINDER};
+pub use find_fault::{FindFault, FIND_FAULTS};
 pub use lay::Laid;
 pub use tag::*;
 pub use write_fault::{WriteFault, WRITE_FAULTS};

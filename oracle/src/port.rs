@@ -1,5 +1,5 @@
 //! The port: every call of `liblanolin.a`, each with a safe wrapper. The leaves
-//! are here, the calls that read a pair of blocks in `dir`, those that
+//! are here, the calls that read a pair of blocks in `dir` and `find`, those that
 //! write one in `write`.
 //!
 //! The shapes are those of `include/lanolin.h`. A wrapper adds nothing: it
@@ -10,10 +10,12 @@
 //! Assumes that the archive keeps to those shapes: the linker sees names only.
 
 mod dir;
+mod find;
 mod write;
 
 pub use crate::calls::Gstate;
 pub use dir::Port;
+pub use find::CAN_FIND;
 
 /// A word, or the refusal and 0.
 #[repr(C)]

@@ -12,6 +12,11 @@ impl Random {
         Random { state: seed }
     }
 
+    /// The generator of one of many inputs, by its number, of one kind of inputs.
+    pub fn numbered(number: u64, kind: u64) -> Random {
+        Random::new(number.wrapping_mul(0x2545_f491_4f6c_dd1d) ^ kind)
+    }
+
     fn next(&mut self) -> u64 {
         self.state = self.state.wrapping_add(0x9e37_79b9_7f4a_7c15);
         let mut z = self.state;

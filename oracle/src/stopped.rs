@@ -16,9 +16,9 @@ mod next;
 
 use crate::calls::write::{Answer, Committed, Stored, Task, Work, Writes, DOCUMENT};
 use crate::calls::{Fetched, Mdir, Voice};
-use crate::histories::ask::{fetched, text, Outcome, Step};
+use crate::histories::ask::{text, Outcome, Step};
 use crate::histories::{history, real};
-use crate::model::{log_of, regular, WriteFault};
+use crate::model::{fetched_log, regular, WriteFault};
 use crate::tally::{grouped, Check, Subject};
 use call::{Call, State};
 
@@ -258,10 +258,7 @@ impl Stopped {
 
 /// Whether the log is regular by littlefs's rule alone.
 fn wider(step: &Step) -> bool {
-    let record = fetched(step.case, &step.case.images).dir;
-    let which = usize::from(record.pair[0] == step.task.numbers[1]);
-    let log = log_of(&step.case.images[which], record.off as usize);
-    !regular(WriteFault::None, DOCUMENT, &log)
+    !regular(WriteFault::None, DOCUMENT, &fetched_log(&step.case.fetch()))
 }
 
 /// "only the old record's erased mark may differ"

@@ -2,12 +2,13 @@
 //! through it, on the same inputs in the same order, until it is seen.
 //!
 //! A fault that the Rust decides must be seen against the Rust; one that is
-//! Ours, against the second implementation without a fault. The writer's faults
-//! are in `writing`; those that break demand 3 go through its stops too, in
-//! `stopped`.
+//! Ours, against the second implementation without a fault. The find's faults are in
+//! `finding`, the writer's in `writing`; those of them that break demand 3 go through
+//! its stops too, in `stopped`.
 //!
 //! Assumes nothing.
 
+mod finding;
 mod stopped;
 mod writing;
 
@@ -23,8 +24,8 @@ use crate::tally::grouped;
 const CASES: u64 = 200_000;
 
 /// One fault on its way through the inputs.
-struct Tried {
-    fault: Fault,
+struct Tried<F> {
+    fault: F,
     must: Seen,
     text: &'static str,
     /// After how many questions it was seen, and by which call.
@@ -33,39 +34,55 @@ struct Tried {
 
 /// Tries every fault; says each one. True if all were seen.
 pub fn bite() -> bool {
-    let mut tried: Vec<Tried> = FAULTS
-        .iter()
-        .map(|&(fault, must, text)| Tried {
-            fault,
-            must,
-            text,
-            caught: None,
-        })
-        .collect();
-    let mut rust = Rust::default();
-    let mut asked = 0;
-    for case in 0..CASES {
-        if tried.iter().all(|tried| tried.caught.is_some()) {
-            break;
-        }
-        inputs::ask(case, Sizes::Any, &mut |_, question| {
-            asked += 1;
-            ask_all(&mut rust, &question, asked, &mut tried);
-        });
-    }
-    for tried in &tried {
-        println!("  {:<58}{}", tried.text, said(tried));
-    }
-    let caught = tried.iter().filter(|tried| tried.caught.is_some()).count();
-    let (caught_writing, writing) = writing::bite();
-    let (caught, all) = (caught + caught_writing, tried.len() + writing);
+    let parts = [reading(), finding::bite(), writing::bite()];
+    let caught: usize = parts.iter().map(|part| part.0).sum();
+    let all: usize = parts.iter().map(|part| part.1).sum();
     println!("of these, at the stops of accepted calls, by demand 3 alone:");
     let (caught_stopped, stopped) = stopped::bite();
     println!("teeth: {caught} of {all} faults caught; at the stops {caught_stopped} of {stopped}");
     caught == all && caught_stopped == stopped
 }
 
-fn said(tried: &Tried) -> String {
+/// Tries every fault of fetch and lookups; says each one. How many were seen, and of
+/// how many.
+fn reading() -> (usize, usize) {
+    let mut rust = Rust::default();
+    let mut asked = 0;
+    run(FAULTS, CASES, |case, tried| {
+        inputs::ask(case, Sizes::Any, &mut |_, question| {
+            asked += 1;
+            ask_all(&mut rust, &question, asked, tried);
+        });
+    })
+}
+
+/// Every fault through so many cases, until all are seen; says each one.
+fn run<F: Copy>(
+    faults: &[(F, Seen, &'static str)],
+    cases: u64,
+    mut ask: impl FnMut(u64, &mut [Tried<F>]),
+) -> (usize, usize) {
+    let new = |&(fault, must, text)| Tried {
+        fault,
+        must,
+        text,
+        caught: None,
+    };
+    let mut tried: Vec<Tried<F>> = faults.iter().map(new).collect();
+    for case in 0..cases {
+        if tried.iter().all(|tried| tried.caught.is_some()) {
+            break;
+        }
+        ask(case, &mut tried);
+    }
+    for tried in &tried {
+        println!("  {:<58}{}", tried.text, said(tried));
+    }
+    let caught = tried.iter().filter(|tried| tried.caught.is_some());
+    (caught.count(), tried.len())
+}
+
+fn said<F>(tried: &Tried<F>) -> String {
     let whose = match tried.must {
         Seen::Rust => "",
         Seen::Ours => " (ours)",
@@ -79,11 +96,14 @@ fn said(tried: &Tried) -> String {
 }
 
 /// One question to every fault that is not caught yet.
-fn ask_all(rust: &mut Rust, question: &Question, asked: u64, tried: &mut [Tried]) {
+fn ask_all(rust: &mut Rust, question: &Question, asked: u64, tried: &mut [Tried<Fault>]) {
+    let model = |fault| Model { fault };
     match *question {
         Question::Fetch(ref input) => {
             let truth = FetchTruth::of(rust, input);
-            hold(&truth, "fetch", asked, tried, |model| model.fetch(input));
+            hold(&truth, "fetch", asked, tried, |fault| {
+                model(fault).fetch(input)
+            });
         }
         Question::Slice {
             slicer,
@@ -93,8 +113,8 @@ fn ask_all(rust: &mut Rust, question: &Question, asked: u64, tried: &mut [Tried]
             ..
         } => {
             let truth = SliceTruth::of(rust, slicer, input, query, length);
-            hold(&truth, "getslice or get", asked, tried, |model| {
-                slicer.ask(model, input, query, length)
+            hold(&truth, "getslice or get", asked, tried, |fault| {
+                slicer.ask(&model(fault), input, query, length)
             });
         }
         Question::Info {
@@ -103,30 +123,29 @@ fn ask_all(rust: &mut Rust, question: &Question, asked: u64, tried: &mut [Tried]
             id,
         } => {
             let truth = InfoTruth::of(rust, input, name_max, id);
-            hold(&truth, "getinfo", asked, tried, |model| {
-                model.getinfo(input, name_max, id)
+            hold(&truth, "getinfo", asked, tried, |fault| {
+                model(fault).getinfo(input, name_max, id)
             });
         }
         Question::Gstate { ref input, state } => {
             let truth = GstateTruth::of(rust, input, state);
-            hold(&truth, "getgstate", asked, tried, |model| {
-                stated(model, input, state)
+            hold(&truth, "getgstate", asked, tried, |fault| {
+                stated(&model(fault), input, state)
             });
         }
     }
 }
 
 /// The answers of all faults against one truth.
-fn hold<T: Truth>(
+fn hold<F: Copy, T: Truth>(
     truth: &T,
     call: &'static str,
     asked: u64,
-    tried: &mut [Tried],
-    answer: impl Fn(&Model) -> T::Answer,
+    tried: &mut [Tried<F>],
+    answer: impl Fn(F) -> T::Answer,
 ) {
     for tried in tried.iter_mut().filter(|tried| tried.caught.is_none()) {
-        let model = Model { fault: tried.fault };
-        if truth.wrong(&answer(&model)) == Some(tried.must) {
+        if truth.wrong(&answer(tried.fault)) == Some(tried.must) {
             tried.caught = Some((asked, call));
         }
     }

@@ -36,7 +36,7 @@ pub struct Passing {
 
 impl Passing {
     // An empty log is regular.
-    fn start(rules: Rules) -> Self
+    pub fn start(rules: Rules) -> Self
         ensures { λ r. ⌜ r ≡ starts rules ⌝ }
     {
         let grows = match rules {
@@ -52,7 +52,7 @@ impl Passing {
     }
 
     // An entry, in a log.
-    fn entry(self, tag: u32) -> Self
+    pub fn entry(self, tag: u32) -> Self
         ensures { λ r. ⌜ r ≡ entering tag self ⌝ }
     {
         if !self.good {
@@ -78,7 +78,7 @@ impl Passing {
     }
 
     // "every check tag's size is 4 to 1,022": what stands before this check is committed.
-    fn check(self, size: u32) -> Self
+    pub fn check(self, size: u32) -> Self
         ensures { λ r. ⌜ r ≡ checking size self ⌝ }
     {
         let good = self.good & ((4 <= size) & (size <= LFS_ATTR_MAX));

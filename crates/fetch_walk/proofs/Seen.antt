@@ -147,6 +147,7 @@ from-next b c = walk-step (c .sum) (c .prev) (drop (c .at) b) ∙ go (classOf (t
 
 -- ---- and back: what was seen
 pub record EntrySeen (b : List ℕ) (c : Cursor) (t : ℕ) (d : Cursor) : Type 0 where
+  pub tag : t ≡ tagAt b c
   pub whole : Whole t (length (drop (c .at) b))
   pub plain : isCheck t ≡ false
   pub end : d .at ≡ c .at + tagLength t
@@ -190,6 +191,7 @@ module _ (b : List ℕ) (c : Cursor) where
           let ed : afterEntry rest (c .at) u (c .sum) ≡ d = cc in
           let w = entry-says u (length rest) k in
           record {
+            tag = sym eu;
             whole = rw eu at (w .0);
             plain = rw eu at (w .1);
             end = sym (ap (λ (y : Cursor). y .at) ed) ∙ ap (λ (y : ℕ). c .at + tagLength y) eu;

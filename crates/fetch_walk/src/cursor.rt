@@ -146,7 +146,7 @@ fn read_behind(tag: u32) -> usize
 }
 
 // "chunk's low bit flips bit 31 of the previous tag"
-fn flipped(tag: u32) -> u32
+pub fn flipped(tag: u32) -> u32
     requires { ⌜ tag < 2 ^ 31 ⌝ }
     ensures { λ r. ⌜ r ≡ tagFlipped tag ⌝ }
 {

@@ -19,6 +19,8 @@ use Rattle.format.specs.declared.Committed.{Committed}
 use Rattle.format.specs.declared.Committed.the-variants as committed
 use Rattle.format.specs.declared.Stored.{Stored}
 use Rattle.format.specs.declared.Stored.the-variants as stored
+use Rattle.format.specs.declared.Named.{Named}
+use Rattle.format.specs.declared.Named.the-variants as named
 
 -- ---- the table "-22 | a size or number above is broken"; "-84 | fetch: block number not below a non-zero block count,
 -- or neither block has a valid commit; lookup: the matched bytes pass the block"; "-2 | fetch: count above 1,023;
@@ -167,3 +169,19 @@ storedMade (stored.Refused r) = 0
 abbrev pub storedIndex : Stored → ℕ
 storedIndex (stored.Made n) = 0
 storedIndex (stored.Refused r) = refusalIndex r
+
+-- a slot was found, and its id; none: 0, false, 0
+abbrev pub namedResult : Named → ℤ
+namedResult (named.At id) = pos 0
+namedResult named.Nothing = pos 0
+namedResult (named.Refused r) = refusalNumber r
+
+abbrev pub namedFound : Named → Bool
+namedFound (named.At id) = true
+namedFound named.Nothing = false
+namedFound (named.Refused r) = false
+
+abbrev pub namedId : Named → ℕ
+namedId (named.At id) = id
+namedId named.Nothing = 0
+namedId (named.Refused r) = 0

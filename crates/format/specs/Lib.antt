@@ -35,7 +35,10 @@ pub mod Compaction
 -- Demand 3: what a pair holds, as a machine, and what both calls leave when they are stopped.
 pub mod Machine
 pub mod Stopped
--- The texts: the listing, the audit, the raw log.
+-- Document 02, L4: a slot by its name.
+pub mod Find
+-- The texts: the listing, the audit, the raw log, what is found.
 pub mod Listing
 pub mod Audit
 pub mod RawLog
+pub mod FindText

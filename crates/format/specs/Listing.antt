@@ -123,7 +123,11 @@ unfoldable pub attrLines : ℕ → ℕ → ℕ → Slot → List ℕ
 attrLines zero c id s = []
 attrLines (suc n) c id s = attrLine id (s c) ++ attrLines n (suc c) id s
 
--- the slots from id on, each with its user attributes: the classes 2 and up
+-- a slot's line and those of its user attributes: the classes 2 and up
+abbrev pub slotText : ℕ → Slot → List ℕ
+slotText id s = slotLine id s ++ attrLines (2 ^ 8) 2 id s
+
+-- the slots from id on, each with its user attributes
 unfoldable pub slotLines : ℕ → List Slot → List ℕ
 slotLines id [] = []
 slotLines id (s ∷ D) = slotLine id s ++ (attrLines (2 ^ 8) 2 id s ++ slotLines (suc id) D)

@@ -153,3 +153,10 @@ pub enum Stored {
     Made(u32),
     Refused(Refusal),
 }
+
+// Find: the lowest id whose slot has the name that was asked for, or that there is none.
+pub enum Named {
+    At(u32),
+    Nothing,
+    Refused(Refusal),
+}

@@ -7,11 +7,11 @@ use Prim.Native.Nat.{ℕ, zero, suc, _+_, _-_, _^_, _≤_, _<_}
 use native.Mathlib.Numerals.{add-one}
 use native.Mathlib.Omega.{arith}
 use Rattle.format.specs.Directory.{classes, Load, Slot}
-use Rattle.format.specs.Listing.{ascii, decimal, nameFields, structFields, slotLine, attrLine, attrLines, slotLines}
+use Rattle.format.specs.Listing.{ascii, decimal, nameFields, structFields, slotLine, attrLine, attrLines, slotText}
+use Rattle.format.specs.Listing.{slotLines}
 use Rattle.text.specs.Put.{Text, putsOf}
 use Rattle.text.proofs.Joined.{puts-app, puts-none, join}
 use Rattle.text_input.proofs.Slots.{Shown}
-use Rattle.text_listing.specs.Listed.{slotText}
 
 -- ---- one class more: a is where all classes end, r stands behind class c
 class-next : (c id : ℕ) (s : Slot) → c < classes → attrLines (classes - c) c id s ≡ attrLine id (s c)

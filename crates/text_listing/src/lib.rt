@@ -8,12 +8,12 @@ ghost use Rattle.format.specs.Log.{log};
 ghost use Rattle.format.specs.Regular.{rulesOf};
 ghost use Rattle.format.specs.Directory.{dirOf};
 ghost use Rattle.format.specs.Listing.{tailKind, tailLine, erasedLine, recordLines, nameFields, structFields, attrData};
-ghost use Rattle.format.specs.Listing.{attrLine, attrLines, slotLines, blockText, listingOf, listingAs, writtenTo};
+ghost use Rattle.format.specs.Listing.{attrLine, attrLines, slotText, slotLines, blockText, listingOf, listingAs};
+ghost use Rattle.format.specs.Listing.{writtenTo};
 ghost use Rattle.text.specs.Put.{text, putsOf};
 ghost use Rattle.format.specs.Look.{HitIn};
 ghost use Rattle.theory.specs.Lookup.ByMask.{holds};
 ghost use Rattle.compact_slot.specs.Slots.{Slots, slotIn, AllInside};
-ghost use Rattle.text_listing.specs.Listed.{slotText};
 ghost use Rattle.text_input.specs.Input.{Listable};
 use format::Fetched;
 use format::Hit;
@@ -105,7 +105,7 @@ fn attr_lines(out: &mut [u8], at: u32, b: &[u8], id: u32, seats: &[u32; 516]) ->
 }
 
 // A slot: its line, and its user attributes behind it.
-fn slot_text(out: &mut [u8], at: u32, b: &[u8], id: u32, seats: &[u32; 516]) -> u32
+pub fn slot_text(out: &mut [u8], at: u32, b: &[u8], id: u32, seats: &[u32; 516]) -> u32
     requires { ⌜ AllInside (now b) (now seats) ⌝ }
     ensures { λ r. ⌜ text r (now (out .exit)) ≡ putsOf (text at (now (out .entry)))
         (slotText id (slotIn (now (b .entry)) (now (seats .entry)))) ⌝ }

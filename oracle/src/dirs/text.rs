@@ -3,7 +3,8 @@
 //! Assumes nothing.
 
 use super::inputs::Question;
-use crate::calls::{hex, Blocks, Lookup};
+use crate::calls::find::Find;
+use crate::calls::{hex, Blocks, Fetch, Lookup};
 
 /// What a difference's input weighs: the smallest one is printed.
 pub fn weight(question: &Question) -> usize {
@@ -13,8 +14,12 @@ pub fn weight(question: &Question) -> usize {
         Question::Info { input, .. } => (&input.blocks, 0),
         Question::Gstate { input, .. } => (&input.blocks, 0),
     };
+    weight_of(blocks) + more
+}
+
+pub fn weight_of(blocks: &Blocks) -> usize {
     let bytes: usize = blocks.images.iter().map(|image| written(image)).sum();
-    1000 * bytes + blocks.images[0].len() + more
+    1000 * bytes + blocks.images[0].len()
 }
 
 /// The bytes up to the last one that is not 0xff.
@@ -25,12 +30,7 @@ fn written(image: &[u8]) -> usize {
 
 pub fn text(question: &Question) -> String {
     match question {
-        Question::Fetch(input) => format!(
-            "{}\n    block count {:#x}, seed {:#010x}",
-            blocks(&input.blocks),
-            input.block_count,
-            input.seed
-        ),
+        Question::Fetch(input) => fetch(input),
         Question::Slice {
             slicer,
             input,
@@ -53,6 +53,25 @@ pub fn text(question: &Question) -> String {
             format!("{}\n    state {state:x?}", lookup(input))
         }
     }
+}
+
+pub fn find(input: &Find) -> String {
+    format!(
+        "{}\n    rules {}, name {}, type {:#x}",
+        fetch(&input.fetch),
+        input.rules,
+        hex(input.name),
+        input.type_
+    )
+}
+
+fn fetch(input: &Fetch) -> String {
+    format!(
+        "{}\n    block count {:#x}, seed {:#010x}",
+        blocks(&input.blocks),
+        input.block_count,
+        input.seed
+    )
 }
 
 fn lookup(input: &Lookup) -> String {

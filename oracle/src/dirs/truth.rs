@@ -40,10 +40,12 @@ pub trait Truth {
 
 /// Why an answer is Ours: the Rust has no such refusal.
 pub const REFUSED: &str = "-22";
+/// Why an answer is Ours: the block number has a meaning of its own in the Rust.
+pub const SPECIAL: &str = "block number from 0xfffffffe";
 /// Why an answer is Ours: of what is found the Rust tells the tag alone.
 pub const PLACE: &str = "length and place";
 
-fn special(numbers: [u32; 2]) -> bool {
+pub fn special(numbers: [u32; 2]) -> bool {
     numbers.iter().any(|&number| number >= SPECIAL_NUMBERS)
 }
 
@@ -79,7 +81,7 @@ impl Truth for FetchTruth {
     fn ours(&self) -> Option<&'static str> {
         match self.model.result {
             INVAL => Some(REFUSED),
-            _ if self.rust.is_none() => Some("block number from 0xfffffffe"),
+            _ if self.rust.is_none() => Some(SPECIAL),
             CORRUPT => Some("record of a refusal"),
             _ if self.forward_past => Some("forward length past the block"),
             _ => None,
@@ -199,7 +201,7 @@ impl Truth for SliceTruth {
         let got = self.model.got;
         match got.result {
             INVAL => Some(REFUSED),
-            _ if self.special => Some("block number from 0xfffffffe"),
+            _ if self.special => Some(SPECIAL),
             _ if self.rust.is_none() => Some("offset above 65,536"),
             0 if got.tag & INVALID != 0 => Some("found word with bit 31"),
             0 => Some(PLACE),
@@ -270,7 +272,7 @@ impl Truth for InfoTruth {
         match self.model.result {
             INVAL => Some(REFUSED),
             _ if self.bit_31 => Some("found word with bit 31"),
-            _ if self.rust.is_none() => Some("block number from 0xfffffffe"),
+            _ if self.rust.is_none() => Some(SPECIAL),
             0 if self.size_left() => Some("size of a directory"),
             0 => None,
             _ => Some("info of a refusal"),
@@ -336,7 +338,7 @@ impl Truth for GstateTruth {
         match self.model.0 {
             INVAL => Some(REFUSED),
             _ if self.bit_31 => Some("found word with bit 31"),
-            _ if self.rust.is_none() => Some("block number from 0xfffffffe"),
+            _ if self.rust.is_none() => Some(SPECIAL),
             _ => None,
         }
     }

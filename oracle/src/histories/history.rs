@@ -30,13 +30,9 @@ pub struct History<'a> {
     pub(super) tell: Tell<'a>,
 }
 
-fn random(number: u64, which: u64) -> Random {
-    Random::new(number.wrapping_mul(0x2545_f491_4f6c_dd1d) ^ which)
-}
-
 /// Every history by its number.
 pub fn run(number: u64, steps: usize, tell: Tell) {
-    let mut random = random(number, 0x3c1);
+    let mut random = Random::numbered(number, 0x3c1);
     let geometry = start::geometry(&mut random);
     let habits = habits(&mut random, geometry.block_size);
     let case = start::case(&mut random, geometry, &habits);
@@ -54,7 +50,7 @@ pub fn run(number: u64, steps: usize, tell: Tell) {
 
 /// The same from a given pair.
 pub fn run_from(case: &Case, number: u64, steps: usize, tell: Tell) {
-    let mut random = random(number, 0x9e1);
+    let mut random = Random::numbered(number, 0x9e1);
     let habits = habits(&mut random, case.geometry.block_size);
     let seed = random.word();
     let case = Case {
@@ -70,7 +66,7 @@ pub fn run_from(case: &Case, number: u64, steps: usize, tell: Tell) {
 /// One log of the wider kind by its number: a commit and a compaction under both
 /// rules, each from the same images.
 pub fn wider(number: u64, tell: Tell) {
-    let mut random = random(number, 0x71d);
+    let mut random = Random::numbered(number, 0x71d);
     let geometry = start::geometry(&mut random);
     let habits = habits(&mut random, geometry.block_size);
     let case = start::wider(&mut random, geometry, &habits);
@@ -89,7 +85,7 @@ pub fn wider(number: u64, tell: Tell) {
     }
 }
 
-fn habits(random: &mut Random, block_size: u32) -> Habits {
+pub fn habits(random: &mut Random, block_size: u32) -> Habits {
     const TYPES: [u32; 6] = [0x374, 0x300, 0x3ff, 0x301, 0x380, 0x37f];
     let first = random.below(TYPES.len());
     let number = 1 + random.below(3);
@@ -97,14 +93,14 @@ fn habits(random: &mut Random, block_size: u32) -> Habits {
         types: (first..first + number).map(|i| TYPES[i % 6]).collect(),
         crowd: 1 + block_size / 80,
         longest: [4, 6, 12, 40][random.below(4)],
+        names: Vec::new(),
+        commits: 4,
     }
 }
 
 /// The directory that stands in a pair; an empty one where nothing is fetched.
 pub(super) fn read(case: &Case) -> Directory {
-    let fetched = fetched(case, &case.images);
-    let which = usize::from(fetched.dir.pair[0] == case.numbers[1]);
-    Directory::of(&log_of(&case.images[which], fetched.dir.off as usize))
+    Directory::of(&fetched_log(&case.fetch()))
 }
 
 impl<'a> History<'a> {

@@ -20,6 +20,21 @@ pub struct Habits {
     /// With more slots, it mostly deletes.
     pub crowd: u32,
     pub longest: usize,
+    /// The names it uses; with none here, any bytes. Few names come often, and so do
+    /// creates, deletes and renames then.
+    pub names: Vec<Vec<u8>>,
+    /// The most commits of a log that it starts from.
+    pub commits: usize,
+}
+
+impl Habits {
+    /// A name: of those that are used, or of so many bytes.
+    pub fn name(&self, random: &mut Random, length: usize) -> Vec<u8> {
+        match self.names.len() {
+            0 => random.bytes(length),
+            some => self.names[random.below(some)].clone(),
+        }
+    }
 }
 
 impl List {
@@ -84,6 +99,7 @@ fn entry(random: &mut Random, habits: &Habits, list: &mut List, count: u32) -> u
     let kind = match count {
         0 => [0, 0, 0, 80, 90][random.below(5)],
         count if count > habits.crowd => [20, 20, 20, 50, 70][random.below(5)],
+        _ if !habits.names.is_empty() && random.below(2) == 0 => random.below(40),
         _ => random.below(100),
     };
     let id = random.below(count.max(1) as usize) as u32;
@@ -120,7 +136,7 @@ fn entry(random: &mut Random, habits: &Habits, list: &mut List, count: u32) -> u
 fn name(random: &mut Random, habits: &Habits, list: &mut List, id: u32) {
     let length = 1 + random.below(habits.longest);
     let type_ = [FILE, DIRECTORY][random.below(2)];
-    list.push(type_, id, &random.bytes(length));
+    list.push(type_, id, &habits.name(random, length));
 }
 
 pub fn structure(random: &mut Random, habits: &Habits, list: &mut List, id: u32) {

@@ -11,6 +11,7 @@ use crate::calls::Geometry;
 use crate::generate::{self, Case, Log, Sizes};
 use crate::model::*;
 use crate::random::Random;
+use std::ops::Range;
 
 /// Small blocks, with each program size that a rule could trip over.
 const SMALL: [(u32, u32); 16] = [
@@ -45,11 +46,20 @@ pub fn geometry(random: &mut Random) -> Geometry {
 
 /// A pair whose log is mostly regular, by document 01's rule or by littlefs's.
 pub fn case(random: &mut Random, geometry: Geometry, habits: &Habits) -> Case {
+    of_kinds(random, geometry, habits, 0..24)
+}
+
+/// The same, but for a fresh pair.
+pub fn filled(random: &mut Random, geometry: Geometry, habits: &Habits) -> Case {
+    of_kinds(random, geometry, habits, 9..24)
+}
+
+fn of_kinds(random: &mut Random, geometry: Geometry, habits: &Habits, kinds: Range<usize>) -> Case {
     let revision = match random.below(4) {
         0 => [0, 1, u32::MAX, u32::MAX - 1, 0x7fff_ffff][random.below(5)],
         _ => random.word(),
     };
-    let (kind, log) = match random.below(24) {
+    let (kind, log) = match kinds.start + random.below(kinds.len()) {
         0..9 => ("fresh", fresh(geometry, revision)),
         9..16 => (
             "regular",
@@ -80,7 +90,7 @@ pub fn wider(random: &mut Random, geometry: Geometry, habits: &Habits) -> Case {
 }
 
 /// The log with another block beside it.
-fn finished(
+pub fn finished(
     random: &mut Random,
     kind: &'static str,
     geometry: Geometry,
@@ -153,7 +163,7 @@ fn regular(
     spoil: bool,
 ) -> Log {
     let mut log = Log::new(geometry.block_size as usize, revision);
-    let (mut count, commits) = (0, 1 + random.below(4));
+    let (mut count, commits) = (0, 1 + random.below(habits.commits));
     let spoiled = random.below(commits);
     let plain = random.below(2) == 0;
     for commit in 0..commits {

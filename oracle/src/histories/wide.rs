@@ -34,7 +34,7 @@ pub fn log(
     spoil: bool,
 ) -> Log {
     let mut log = Log::new(geometry.block_size as usize, revision);
-    let commits = 1 + random.below(4);
+    let commits = 1 + random.below(habits.commits);
     let spoilt = random.below(commits);
     let mut wide = Wide {
         random,
@@ -96,7 +96,7 @@ impl Wide<'_> {
             1 => DIRECTORY,
             _ => FILE,
         };
-        self.put(list, type_, id, 1);
+        self.name(list, type_, id);
         self.count = self.count.max(id + 1);
         if self.random.below(2) == 0 {
             lists::structure(self.random, self.habits, list, id);
@@ -107,9 +107,14 @@ impl Wide<'_> {
         }
     }
 
-    fn put(&mut self, list: &mut List, type_: u32, id: u32, least: usize) {
-        let length = least + self.random.below(self.habits.longest);
-        list.push(type_, id, &self.random.bytes(length));
+    fn name(&mut self, list: &mut List, type_: u32, id: u32) {
+        let length = 1 + self.random.below(self.habits.longest);
+        list.push(type_, id, &self.habits.name(self.random, length));
+    }
+
+    fn inline(&mut self, list: &mut List, id: u32) {
+        let length = self.random.below(self.habits.longest);
+        list.push(INLINE, id, &self.random.bytes(length));
     }
 
     /// A commit that is not regular, or two: what raises the count and may not.
@@ -117,7 +122,7 @@ impl Wide<'_> {
         let (mut list, count) = (List::default(), self.count);
         let name = [FILE, DIRECTORY, SUPERBLOCK][self.random.below(3)];
         match self.random.below(9) {
-            0 => self.put(&mut list, INLINE, count, 0),
+            0 => self.inline(&mut list, count),
             1 => lists::attribute(self.random, self.habits, &mut list, count),
             2 => list.push(name, count, &[]),
             3 => list.remove(name, count, 0),
@@ -131,7 +136,7 @@ impl Wide<'_> {
             }
             // One slot too many, and one less at once, so that fetch takes it.
             _ => {
-                self.put(&mut list, name, MOST, 1);
+                self.name(&mut list, name, MOST);
                 list.push(DELETE, [0, MOST - 1][self.random.below(2)], &[]);
             }
         }
@@ -147,8 +152,7 @@ impl Wide<'_> {
             lists.push(List::default());
         }
         let last = lists.len() - 1;
-        let length = 1 + self.random.below(self.habits.longest);
-        lists[last].push(name, id, &self.random.bytes(length));
+        self.name(&mut lists[last], name, id);
         lists
     }
 }

@@ -4,7 +4,8 @@
 //! the same, and means nothing.
 
 use super::rules::Rules;
-use super::{bytes::*, tag::*, WriteFault};
+use super::{bytes::*, tag::*, WriteFault, FAULTLESS};
+use crate::calls::{Fetch, Voice};
 
 /// An entry or a check: its tag, and the bytes behind it.
 pub struct Logged<'a> {
@@ -30,6 +31,13 @@ pub fn log_of(block: &[u8], end: usize) -> Vec<Logged<'_>> {
         at = next;
     }
     log
+}
+
+/// The log that fetch's record is of; without a record, none.
+pub fn fetched_log<'a>(fetch: &Fetch<'a>) -> Vec<Logged<'a>> {
+    let dir = FAULTLESS.fetch(fetch).dir;
+    let which = usize::from(dir.pair[0] == fetch.blocks.numbers[1]);
+    log_of(fetch.blocks.images[which], dir.off as usize)
 }
 
 /// "A log is regular if every check tag's size is 4 to 1,022 and its committed

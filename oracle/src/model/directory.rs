@@ -42,14 +42,22 @@ impl Default for Directory {
 impl Directory {
     pub fn of(log: &[Logged]) -> Directory {
         let mut directory = Directory::default();
-        for logged in log.iter().filter(|logged| type2_of(logged.tag) != CHECK) {
-            let data = match is_removal(logged.tag) {
-                true => None,
-                false => Some(logged.data),
-            };
-            directory.take(type_of(logged.tag), id_of(logged.tag) as usize, data);
+        for logged in log {
+            directory.follow(logged);
         }
         directory
+    }
+
+    /// An entry of a log. A check changes nothing.
+    pub fn follow(&mut self, logged: &Logged) {
+        if type2_of(logged.tag) == CHECK {
+            return;
+        }
+        let data = match is_removal(logged.tag) {
+            true => None,
+            false => Some(logged.data),
+        };
+        self.take(type_of(logged.tag), id_of(logged.tag) as usize, data);
     }
 
     /// One entry. A removal has no data.

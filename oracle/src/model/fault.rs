@@ -14,21 +14,23 @@ pub enum Seen {
 }
 
 macro_rules! faults {
-    ($($name:ident $seen:ident $text:literal;)*) => {
+    ($fault:ident $faults:ident; $($name:ident $seen:ident $text:literal;)*) => {
         #[derive(Clone, Copy, Debug, PartialEq, Eq)]
-        pub enum Fault {
+        pub enum $fault {
             None,
             $($name,)*
         }
 
         /// Every fault but none, with its text.
-        pub const FAULTS: &[(Fault, Seen, &str)] = &[
-            $((Fault::$name, Seen::$seen, $text),)*
+        pub const $faults: &[($fault, $crate::model::Seen, &str)] = &[
+            $(($fault::$name, $crate::model::Seen::$seen, $text),)*
         ];
     };
 }
 
-faults! {
+pub(super) use faults;
+
+faults! { Fault FAULTS;
     ForwardResets Rust "fetch: forward check reset at each commit";
     CheckTagUnsummed Rust "fetch: check tag left out of the checksum";
     RevisionUnsigned Rust "fetch: unsigned revision order";

@@ -39,7 +39,8 @@ pub enum Stop {
 pub struct Walk<'a> {
     fault: Fault,
     pub block: &'a [u8],
-    at: usize,
+    /// Where the tag at hand stands; behind the walk, the one that it stopped on.
+    pub at: usize,
     pub previous: u32,
     sum: u32,
     pub contents: Contents,

@@ -62,17 +62,17 @@ find c i (skip ∷ l) = find c i l
 
 -- ---- inserting and removing
 module _ {A : Type 0} where
-  ins-before : (D : List A) (j i : ℕ) (x d : A) → j ≤ length D → i < j
+  pub ins-before : (D : List A) (j i : ℕ) (x d : A) → j ≤ length D → i < j
       → getD (take j D ++ x ∷ drop j D) i d ≡ getD D i d
   ins-before D j i x d h k =
       List·getD-append (take j D) (x ∷ drop j D) d i (omega (arith, length-take-le j D h)) ∙ getD-take j D i d k
 
-  ins-at : (D : List A) (j : ℕ) (x d : A) → j ≤ length D → getD (take j D ++ x ∷ drop j D) j d ≡ x
+  pub ins-at : (D : List A) (j : ℕ) (x d : A) → j ≤ length D → getD (take j D ++ x ∷ drop j D) j d ≡ x
   ins-at D j x d h =
       let e : length (take j D) + 0 ≡ j = omega (arith, length-take-le j D h) in
       ap (λ n. getD (take j D ++ x ∷ drop j D) n d) (sym e) ∙ getD-append-add (take j D) (x ∷ drop j D) 0 d
 
-  ins-after : (D : List A) (j i : ℕ) (x d : A) → j ≤ length D → j < i
+  pub ins-after : (D : List A) (j i : ℕ) (x d : A) → j ≤ length D → j < i
       → getD (take j D ++ x ∷ drop j D) i d ≡ getD D (i - 1) d
   ins-after D j i x d h k =
       let e : length (take j D) + suc (i - 1 - j) ≡ i = omega (arith, length-take-le j D h) in
@@ -81,13 +81,13 @@ module _ {A : Type 0} where
       (suc (i - 1 - j)) d
       ∙ getD-drop j D (i - 1 - j) d ∙ ap (λ n. getD D n d) f
 
-  del-before : (D : List A) (j i : ℕ) (d : A) → j < length D → i < j
+  pub del-before : (D : List A) (j i : ℕ) (d : A) → j < length D → i < j
       → getD (take j D ++ drop (suc j) D) i d ≡ getD D i d
   del-before D j i d h k =
       List·getD-append (take j D) (drop (suc j) D) d i (omega (arith, length-take-le j D (omega arith)))
       ∙ getD-take j D i d k
 
-  del-after : (D : List A) (j i : ℕ) (d : A) → j < length D → j ≤ i
+  pub del-after : (D : List A) (j i : ℕ) (d : A) → j < length D → j ≤ i
       → getD (take j D ++ drop (suc j) D) i d ≡ getD D (i + 1) d
   del-after D j i d h k =
       let e : length (take j D) + (i - j) ≡ i = omega (arith, length-take-le j D (omega arith)) in
