@@ -1,0 +1,2 @@
+-- The call, by what fetch answered and which block answers.
+pub mod Called
