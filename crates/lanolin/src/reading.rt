@@ -1,21 +1,24 @@
-// Reading for C callers: fetch and lookups. Each export hands its numbers, slices and records to the call of the same
+// Reading for C callers: fetch, lookups, and a slot by its name. Each export hands its numbers, slices and records to the call of the same
 // name.
 ghost use mathlib.Core.Path.{_≡_};
 ghost use Rattle.format.specs.Answer.{alteredResult};
 ghost use Rattle.format.specs.Fetch.{fetchOf};
+ghost use Rattle.format.specs.Find.{findOf};
 ghost use Rattle.format.specs.Lookup.{getsliceOf, getsliceBuffer, getOf, getBuffer, getinfoOf, getgstateOf};
 ghost use Rattle.format.specs.Lookup.{getgstateState};
-ghost use Rattle.lanolin_answers.specs.Values.{fetchedOut, gotOut, infoOut};
+ghost use Rattle.lanolin_answers.specs.Values.{fetchedOut, gotOut, infoOut, namedOut};
 use format::Geometry;
 use format::LfsGstate;
 use format::LfsMdir;
 use lanolin_answers::FetchedOut;
 use lanolin_answers::GotOut;
 use lanolin_answers::InfoOut;
+use lanolin_answers::NamedOut;
 use lanolin_answers::altered_out;
 use lanolin_answers::fetched_out;
 use lanolin_answers::got_out;
 use lanolin_answers::info_out;
+use lanolin_answers::named_out;
 
 #[no_mangle]
 pub extern "C" fn lanolin_fetch(
@@ -113,4 +116,24 @@ pub extern "C" fn lanolin_getgstate(
         (now (gstate .entry))) ⌝ }
 {
     altered_out(lookup::lfs_dir_getgstate(g, b0, b1, n0, n1, dir, gdisk, gstate))
+}
+
+// The lowest id whose name has these bytes and this type.
+#[no_mangle]
+pub extern "C" fn lanolin_find(
+    g: Geometry,
+    b0: &[u8],
+    b1: &[u8],
+    n0: u32,
+    n1: u32,
+    block_count: u32,
+    seed: u32,
+    rules: u32,
+    name: &[u8],
+    type_: u32,
+) -> NamedOut
+    ensures { λ r. ⌜ r ≡ namedOut (findOf g (now (b0 .entry)) (now (b1 .entry)) n0 n1 «block_count» seed rules
+        (now (name .entry)) «type_») ⌝ }
+{
+    named_out(find::lfs_dir_find(g, b0, b1, n0, n1, block_count, seed, rules, name, type_))
 }

@@ -2,19 +2,21 @@
 use Prim.Native.Nat.{ℕ}
 use Rattle.format.specs.Answer.{wordResult, wordValue, gotResult, gotFound, fetchedResult, fetchedMdir, fetchedSeed}
 use Rattle.format.specs.Answer.{alteredResult, committedResult, committedIndex, committedMdir, committedSeed}
-use Rattle.format.specs.Answer.{storedResult, storedIndex, storedMade}
+use Rattle.format.specs.Answer.{storedResult, storedIndex, storedMade, namedResult, namedFound, namedId}
 use Rattle.format.specs.declared.Word.{Word}
 use Rattle.format.specs.declared.Got.{Got}
 use Rattle.format.specs.declared.Fetched.{Fetched}
 use Rattle.format.specs.declared.Informed.{Informed}
 use Rattle.format.specs.declared.Committed.{Committed}
 use Rattle.format.specs.declared.Stored.{Stored}
+use Rattle.format.specs.declared.Named.{Named}
 use Rattle.lanolin_answers.specs.declared.Value.{Value}
 use Rattle.lanolin_answers.specs.declared.GotOut.{GotOut}
 use Rattle.lanolin_answers.specs.declared.FetchedOut.{FetchedOut}
 use Rattle.lanolin_answers.specs.declared.InfoOut.{InfoOut}
 use Rattle.lanolin_answers.specs.declared.CommittedOut.{CommittedOut}
 use Rattle.lanolin_answers.specs.declared.StoredOut.{StoredOut}
+use Rattle.lanolin_answers.specs.declared.NamedOut.{NamedOut}
 
 abbrev pub wordOut : Word → Value
 wordOut w = record { result = wordResult w; value = wordValue w }
@@ -41,3 +43,6 @@ committedOut seed c =
 
 abbrev pub storedOut : Stored → StoredOut
 storedOut s = record { result = storedResult s; index = storedIndex s; stores = storedMade s }
+
+abbrev pub namedOut : Named → NamedOut
+namedOut a = record { result = namedResult a; found = namedFound a; id = namedId a }

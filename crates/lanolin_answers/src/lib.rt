@@ -3,6 +3,7 @@ ghost use mathlib.Core.Path.{_≡_};
 ghost use Rattle.format.specs.Answer.{flagOf, refusalNumber, refusalMdir, refusalSeed, refusalIndex, alteredResult};
 ghost use Rattle.format.specs.Answer.{zeroMdir};
 ghost use Rattle.lanolin_answers.specs.Values.{wordOut, gotOut, fetchedOut, infoOut, committedOut, storedOut};
+ghost use Rattle.lanolin_answers.specs.Values.{namedOut};
 use format::Altered;
 use format::Committed;
 use format::Fetched;
@@ -11,6 +12,7 @@ use format::Got;
 use format::Informed;
 use format::LfsMdir;
 use format::LfsPair;
+use format::Named;
 use format::Refusal;
 use format::Stored;
 use format::Word;
@@ -63,6 +65,14 @@ pub struct StoredOut {
     pub result: i32,
     pub index: u32,
     pub stores: u32,
+}
+
+// What lanolin_find answers: whether a slot has the name, and the lowest id that has. None: 0, false, 0.
+#[repr(C)]
+pub struct NamedOut {
+    pub result: i32,
+    pub found: bool,
+    pub id: u32,
 }
 
 // Tests answer exactly 0 or 1.
@@ -242,6 +252,28 @@ pub fn stored_out(s: Stored) -> StoredOut
             result: number(r),
             index: refused_index(r),
             stores: 0,
+        },
+    }
+}
+
+pub fn named_out(a: Named) -> NamedOut
+    ensures { λ r. ⌜ r ≡ namedOut a ⌝ }
+{
+    match a {
+        Named::At(id) => NamedOut {
+            result: 0,
+            found: true,
+            id,
+        },
+        Named::Nothing => NamedOut {
+            result: 0,
+            found: false,
+            id: 0,
+        },
+        Named::Refused(r) => NamedOut {
+            result: number(r),
+            found: false,
+            id: 0,
         },
     }
 }
