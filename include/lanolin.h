@@ -24,7 +24,7 @@ extern "C" {
 
 /* The version, as littlefs has its own: the major number in the upper half, the minor in the lower. */
 #define LANOLIN_VERSION_MAJOR 0
-#define LANOLIN_VERSION_MINOR 4
+#define LANOLIN_VERSION_MINOR 5
 #define LANOLIN_VERSION (LANOLIN_VERSION_MAJOR << 16 | LANOLIN_VERSION_MINOR)
 
 /* Results. The first four refusals are littlefs's LFS_ERR_ numbers, the others are this project's own. */
@@ -34,7 +34,7 @@ extern "C" {
 #define LANOLIN_ERR_NOENT (-2)         /* a lookup: no such entry; the other calls: a pair of more than 1,023 slots */
 #define LANOLIN_ERR_NOSPC (-28)        /* writing: what is to be written passes the block */
 #define LANOLIN_ERR_BADENTRY (-201)    /* commit: an entry is bad; `index` says which */
-#define LANOLIN_ERR_IRREGULAR (-202)   /* writing: the log isn't regular by the rules given; reading it is allowed */
+#define LANOLIN_ERR_IRREGULAR (-202)   /* writing, and finding by name: the log isn't regular by the rules given */
 #define LANOLIN_ERR_MISALIGNED (-211)  /* commit: the log's end is no multiple of the program size: compact */
 #define LANOLIN_ERR_TOPBIT (-212)      /* commit: the end tag's top bit is set: compact */
 #define LANOLIN_ERR_NOTERASED (-213)   /* commit: a byte behind the end isn't erased; `index` is its offset: compact */
@@ -70,8 +70,8 @@ extern "C" {
 #define LANOLIN_MASK_TYPE 0x7ffffc00u  /* this type exactly, of this slot: a user attribute */
 #define LANOLIN_MASK_CLASS 0x700ffc00u /* any type of the same class, of this slot: the name, the struct */
 
-/* Rules of a regular log, which a writing call takes. The slots of a pair that this library wrote are made by creates.
- * littlefs's own compaction writes no creates: there a name makes its slot. */
+/* Rules of a regular log, which lanolin_find and a writing call take. The slots of a pair that this library wrote are
+ * made by creates. littlefs's own compaction writes no creates: there a name makes its slot. */
 #define LANOLIN_RULES_DOCUMENT 0 /* document 01's: for pairs that this library wrote */
 #define LANOLIN_RULES_LITTLEFS 1 /* littlefs's too: also for pairs that littlefs itself compacted */
 
@@ -140,6 +140,8 @@ typedef struct { int32_t result; uint8_t type; uint32_t size; uint8_t name[256];
 typedef struct { int32_t result; uint32_t index; lanolin_mdir dir; uint32_t seed; } lanolin_committed;
 /* index as lanolin_committed has it; stores: those made, 0 on a refusal */
 typedef struct { int32_t result; uint32_t index; uint32_t stores; } lanolin_stored;
+/* found: whether a slot has the name; id: the slot's. That none has it is no refusal: LANOLIN_OK, false, 0 */
+typedef struct { int32_t result; bool found; uint32_t id; } lanolin_named;
 
 /* ---- reading a pair: b0 and b1 are the images of the blocks n0 and n1, each block_size bytes. The
  * first word at each call is littlefs's name for it */
@@ -174,6 +176,15 @@ lanolin_info lanolin_getinfo(lanolin_geometry g, const uint8_t *b0, size_t b0_le
 /* lfs_dir_getgstate: the move state of the pair, XORed into *gstate where it stands; none found leaves it as it is. */
 int32_t lanolin_getgstate(lanolin_geometry g, const uint8_t *b0, size_t b0_len, const uint8_t *b1, size_t b1_len,
                           uint32_t n0, uint32_t n1, lanolin_mdir dir, lanolin_gstate gdisk, lanolin_gstate *gstate);
+
+/* The lowest id whose slot's name has exactly these bytes and this type (LANOLIN_TYPE_REG, LANOLIN_TYPE_DIR; any number
+ * may be asked for), or none, in one pass over the block that lanolin_fetch answers from: what asking slot by slot
+ * gives, where no move is pending. It reads no global state. An empty name is LANOLIN_ERR_INVAL; a pair that
+ * lanolin_fetch refuses is refused alike, LANOLIN_ERR_NOENT too (more than 1,023 slots); `rules` is as the writing calls
+ * take it, and a log that is not regular by it is LANOLIN_ERR_IRREGULAR. */
+lanolin_named lanolin_find(lanolin_geometry g, const uint8_t *b0, size_t b0_len, const uint8_t *b1, size_t b1_len,
+                           uint32_t n0, uint32_t n1, uint32_t block_count, uint32_t seed, uint32_t rules,
+                           const uint8_t *name, size_t name_len, uint32_t type);
 
 /* ---- writing; a refused call alters no byte
  *
@@ -327,6 +338,8 @@ LANOLIN_LAYOUT_(sizeof(lanolin_committed) == 44 && LANOLIN_AT_(committed, result
                 LANOLIN_AT_(committed, index, 4) && LANOLIN_AT_(committed, dir, 8) && LANOLIN_AT_(committed, seed, 40))
 LANOLIN_LAYOUT_(sizeof(lanolin_stored) == 12 && LANOLIN_AT_(stored, result, 0) && LANOLIN_AT_(stored, index, 4) &&
                 LANOLIN_AT_(stored, stores, 8))
+LANOLIN_LAYOUT_(sizeof(lanolin_named) == 12 && LANOLIN_AT_(named, result, 0) && LANOLIN_AT_(named, found, 4) &&
+                LANOLIN_AT_(named, id, 8))
 
 #undef LANOLIN_AT_
 #undef LANOLIN_LAYOUT_
