@@ -218,7 +218,7 @@ fn print_line(name: &str, len: usize, read: Option<usize>, times: &measure::Time
         None => String::from("-"),
     };
     // A find is so small a part of the lookups that two digits would not show it.
-    let digits = if times.ratio() < 0.1 { 4 } else { 2 };
+    let digits = if times.ratio() < 0.05 { 4 } else { 2 };
     println!(
         "{name:<26}{len:>7}{:>12.1}{:>12}{:>12.1}{:>12}{:>12.digits$}",
         times.port,

@@ -555,6 +555,206 @@ static void test_no_room_for_creates(void) {
     EXPECT(refused.result == LANOLIN_ERR_BADENTRY && refused.index == 0);
 }
 
+/* ---- a slot by its name: the images in `large` blocks, where the longest name has room */
+
+typedef struct { uint8_t b0[8192], b1[8192]; } large;
+static const lanolin_geometry LARGE = {8192, 16};
+
+/* Asks, and sees that no byte of what was lent is altered. */
+static lanolin_named find_by(uint32_t rules, const large *p, const void *name, size_t n, uint32_t type) {
+    static large before;
+    static uint8_t kept[8192];
+    before = *p;
+    if (n) memcpy(kept, name, n);
+    lanolin_named found = lanolin_find(LARGE, p->b0, 8192, p->b1, 8192, 0, 1, 0, 7, rules, name, n, type);
+    EXPECT(!memcmp(p, &before, sizeof before) && (n == 0 || !memcmp(name, kept, n)));
+    return found;
+}
+
+/* The bool as the byte that it is: exactly 0 or 1. */
+static int is_at(lanolin_named found, uint32_t id) {
+    return found.result == 0 && *(const uint8_t *)&found.found == 1 && found.id == id;
+}
+
+static int is_not(lanolin_named found, int32_t result) {
+    return found.result == result && *(const uint8_t *)&found.found == 0 && found.id == 0;
+}
+
+static int is_none(lanolin_named found) { return is_not(found, LANOLIN_OK); }
+
+/* A file's name, by document 01's rules. */
+static lanolin_named file_named(const large *p, const char *name) {
+    return find_by(DOCUMENT, p, name, strlen(name), LANOLIN_TYPE_REG);
+}
+
+static lanolin_named dir_named(const large *p, const char *name) {
+    return find_by(DOCUMENT, p, name, strlen(name), LANOLIN_TYPE_DIR);
+}
+
+static void write_to(large *p, uint32_t rules, const lanolin_entry *entries, size_t count, const char *data) {
+    const uint8_t *bytes = (const uint8_t *)data;
+    EXPECT(lanolin_commit(LARGE, p->b0, 8192, p->b1, 8192, 0, 1, 0, 7, rules, entries, count, bytes, strlen(data))
+               .result == LANOLIN_OK);
+}
+
+/* These bytes at the beginning of the first block, and nothing behind them and in the second. */
+static large enlarged(const uint8_t *log, size_t n) {
+    large p;
+    memset(&p, 0xff, sizeof p);
+    memcpy(p.b0, log, n);
+    return p;
+}
+
+/* Neither a part of a name, nor a longer one, nor one of another type; nor a payload or a deadline, which are none. */
+static void test_find(void) {
+    static const char *OTHERS[6] = {"q", "q21", "212", "Q212", "q213", "q2122"};
+    static const uint32_t TYPES[10] = {0, 2, 3, 0x0ff, 0x101, 0x401, 0x801, 0x10001, 0x80000001, 0xffffffff};
+    const uint32_t types = sizeof TYPES / sizeof *TYPES;
+    const large p = enlarged(LISTED, sizeof LISTED);
+    for (uint32_t rules = DOCUMENT; rules <= LITTLEFS; rules++) {
+        EXPECT(is_at(find_by(rules, &p, "q212", 4, LANOLIN_TYPE_REG), 0));
+        for (int i = 0; i < 6; i++)
+            EXPECT(is_none(find_by(rules, &p, OTHERS[i], strlen(OTHERS[i]), LANOLIN_TYPE_REG)));
+        EXPECT(is_none(find_by(rules, &p, "q212", 5, LANOLIN_TYPE_REG))); /* with a zero behind it */
+        for (uint32_t i = 0; i < types; i++) EXPECT(is_none(find_by(rules, &p, "q212", 4, TYPES[i])));
+        EXPECT(is_none(find_by(rules, &p, "abc", 3, 0x201)) && is_none(find_by(rules, &p, LISTED + 27, 4, 0x374)));
+    }
+    /* the blocks' order, the block count and the seed change nothing */
+    EXPECT(is_at(lanolin_find(LARGE, p.b1, 8192, p.b0, 8192, 5, 9, 10, 0, 0, LISTED + 12, 4, LANOLIN_TYPE_REG), 0));
+    EXPECT(is_none(lanolin_find(LARGE, p.b1, 8192, p.b0, 8192, 5, 9, 10, 0, 0, LISTED + 12, 3, LANOLIN_TYPE_REG)));
+}
+
+/* A file of the name twice, and a directory of it in between: the lowest that is left, wherever the slots move. */
+static void test_find_lowest(void) {
+    static const lanolin_entry ENTRIES[6] = {{0x401, 1, 0, 0}, {0x001, 1, 0, 4}, {0x401, 2, 0, 0},
+                                             {0x002, 2, 0, 4}, {0x401, 3, 0, 0}, {0x001, 3, 0, 4}};
+    static const lanolin_entry STEPS[4] = {{0x4ff, 1, 0, 0}, {0x401, 0, 0, 0}, {0x4ff, 2, 0, 0}, {0x4ff, 2, 0, 0}};
+    static const int FILES[4] = {2, 3, 2, -1}, DIRS[4] = {1, 2, -1, -1};
+    large p = enlarged(LISTED, sizeof LISTED);
+    write_to(&p, DOCUMENT, ENTRIES, 6, "q213");
+    EXPECT(is_at(file_named(&p, "q213"), 1) && is_at(dir_named(&p, "q213"), 2));
+    for (int i = 0; i < 4; i++) {
+        write_to(&p, DOCUMENT, &STEPS[i], 1, "");
+        for (int compacted = 0; compacted < 2; compacted++) { /* then the other block answers */
+            lanolin_named file = file_named(&p, "q213"), dir = dir_named(&p, "q213");
+            EXPECT(FILES[i] < 0 ? is_none(file) : is_at(file, (uint32_t)FILES[i]));
+            EXPECT(DIRS[i] < 0 ? is_none(dir) : is_at(dir, (uint32_t)DIRS[i]));
+            EXPECT(!lanolin_compact(LARGE, p.b0, 8192, p.b1, 8192, 0, 1, 0, 7, DOCUMENT).result);
+        }
+    }
+    EXPECT(is_at(file_named(&p, "q212"), 1));
+}
+
+/* The new name alone, also where it is of another type; but not before its commit is whole. */
+static void test_find_renamed(void) {
+    static const lanolin_entry FILE_NAME = {0x001, 0, 0, 4}, DIR_NAME = {0x002, 0, 0, 4};
+    large p = enlarged(LISTED, sizeof LISTED), torn = p;
+    /* tag, name, check tag, checksum: 16 bytes */
+    EXPECT(lanolin_commit_stores(LARGE, torn.b0, 8192, torn.b1, 8192, 0, 1, 0, 7, DOCUMENT, &FILE_NAME, 1,
+                                 (const uint8_t *)"q299", 4, 15).stores == 15);
+    EXPECT(is_at(file_named(&torn, "q212"), 0) && is_none(file_named(&torn, "q299")));
+    write_to(&p, DOCUMENT, &FILE_NAME, 1, "q299");
+    EXPECT(is_none(file_named(&p, "q212")) && is_at(file_named(&p, "q299"), 0));
+    write_to(&p, DOCUMENT, &DIR_NAME, 1, "q299");
+    EXPECT(is_none(file_named(&p, "q299")) && is_at(dir_named(&p, "q299"), 0));
+    /* the older block, which still has that name, is not read */
+    EXPECT(!lanolin_compact(LARGE, p.b0, 8192, p.b1, 8192, 0, 1, 0, 7, DOCUMENT).result);
+    write_to(&p, DOCUMENT, &FILE_NAME, 1, "q300");
+    EXPECT(is_none(dir_named(&p, "q299")) && is_at(file_named(&p, "q300"), 0));
+}
+
+/* Names up to the longest that there is, and longer ones, which no slot can have. */
+static void test_find_lengths(void) {
+    static const uint32_t LENGTHS[9] = {1, 2, 255, 256, 1021, 1022, 1023, 1024, 8192};
+    static char name[8193];
+    large p = enlarged(LISTED, sizeof LISTED);
+    for (int i = 0; i < 6; i++) {
+        const lanolin_entry renamed = {0x001, 0, 0, LENGTHS[i]};
+        memset(name, 'n', 8192);
+        write_to(&p, DOCUMENT, &renamed, 1, name);
+        for (int j = 0; j < 9; j++) {
+            lanolin_named found = find_by(DOCUMENT, &p, name, LENGTHS[j], LANOLIN_TYPE_REG);
+            EXPECT(i == j ? is_at(found, 0) : is_none(found));
+        }
+        name[LENGTHS[i] - 1] = 'm'; /* all but the last byte */
+        EXPECT(is_none(find_by(DOCUMENT, &p, name, LENGTHS[i], LANOLIN_TYPE_REG)));
+    }
+}
+
+/* Ids about the multiples of 32, up to the last, where a name alone makes its slot: found there, one lower behind a
+ * delete, and there again behind a create. */
+static void test_find_ids(void) {
+    static const lanolin_entry GONE = {0x4ff, 0, 0, 0}, COMES = {0x401, 0, 0, 0};
+    uint8_t block[512];
+    for (uint32_t id = 0; id < LANOLIN_SLOTS_MAX; id += id % 32 == 2 ? 28 : 1) { /* 0, 1, 2, 30, 31, 32, 33, 34, .. */
+        lay_one(block, lanolin_mktag(LANOLIN_TYPE_REG, id, 16), LISTED, 16); /* ends at 32, a multiple of 16 */
+        large p = enlarged(block, sizeof block);
+        EXPECT(is_not(find_by(DOCUMENT, &p, LISTED, 16, LANOLIN_TYPE_REG), LANOLIN_ERR_IRREGULAR));
+        EXPECT(is_at(find_by(LITTLEFS, &p, LISTED, 16, LANOLIN_TYPE_REG), id));
+        write_to(&p, LITTLEFS, &GONE, 1, "");
+        lanolin_named found = find_by(LITTLEFS, &p, LISTED, 16, LANOLIN_TYPE_REG);
+        EXPECT(id == 0 ? is_none(found) : is_at(found, id - 1));
+        write_to(&p, LITTLEFS, &COMES, 1, "");
+        found = find_by(LITTLEFS, &p, LISTED, 16, LANOLIN_TYPE_REG);
+        EXPECT(id == 0 ? is_none(found) : is_at(found, id));
+    }
+}
+
+/* Refused so by each rule: with the name q212, which the logs below have, and with one that none has. */
+static int both_refuse(const large *p, int32_t by_document, int32_t by_littlefs) {
+    const int32_t results[2] = {by_document, by_littlefs};
+    int all = 1;
+    for (uint32_t rules = DOCUMENT; rules <= LITTLEFS; rules++)
+        for (size_t n = 3; n < 5; n++)
+            all &= results[rules] == LANOLIN_OK
+                       ? find_by(rules, p, "q212", n, LANOLIN_TYPE_REG).result == LANOLIN_OK
+                       : is_not(find_by(rules, p, "q212", n, LANOLIN_TYPE_REG), results[rules]);
+    return all;
+}
+
+/* In this order: numbers that are no rule and an empty name, what fetch refuses, a log that isn't regular. */
+static void test_find_refused(void) {
+    static const uint32_t NUMBERS[4] = {2, 3, 0x80000000, 0xffffffff};
+    static const uint32_t ALONE[2] = {0x00100004, 0x00200804}, BY_NONE[2] = {0x00100004, 0x20100404};
+    static const uint32_t REMOVED[2] = {0x40100000, 0x001003ff}, AFTER[3] = {0x40100000, 0x00100004, 0x00100404};
+    uint8_t block[512];
+    lay_one(block, lanolin_mktag(LANOLIN_TYPE_REG, LANOLIN_SLOTS_MAX, 4), LISTED + 12, 4);
+    const large ps[4] = {enlarged(LISTED, sizeof LISTED), enlarged(b1, sizeof b1), enlarged(block, sizeof block),
+                         enlarged(logged(BY_NONE, 2).b0, 512)};
+    for (int i = 0; i < 4; i++) {
+        for (int j = 0; j < 4; j++) EXPECT(is_not(find_by(NUMBERS[j], &ps[i], "q212", 4, 0x001), LANOLIN_ERR_INVAL));
+        for (uint32_t rules = DOCUMENT; rules <= LITTLEFS; rules++) {
+            EXPECT(is_not(find_by(rules, &ps[i], "q212", 0, 0x001), LANOLIN_ERR_INVAL));
+            EXPECT(is_not(find_by(rules, &ps[i], NULL, 0, 0x001), LANOLIN_ERR_INVAL));
+        }
+    }
+    EXPECT(both_refuse(&ps[0], LANOLIN_OK, LANOLIN_OK));
+    EXPECT(both_refuse(&ps[1], LANOLIN_ERR_CORRUPT, LANOLIN_ERR_CORRUPT));
+    EXPECT(both_refuse(&ps[2], LANOLIN_ERR_NOENT, LANOLIN_ERR_NOENT));
+    EXPECT(both_refuse(&ps[3], LANOLIN_ERR_IRREGULAR, LANOLIN_ERR_IRREGULAR)); /* a struct at the count */
+    large p = enlarged(logged(REMOVED, 2).b0, 512); /* a name of a removal's size */
+    EXPECT(both_refuse(&p, LANOLIN_ERR_IRREGULAR, LANOLIN_ERR_IRREGULAR));
+    p = enlarged(logged(AFTER, 3).b0, 512); /* a name at the count, behind a create */
+    EXPECT(both_refuse(&p, LANOLIN_ERR_IRREGULAR, LANOLIN_ERR_IRREGULAR));
+    p = enlarged(logged(ALONE, 2).b0, 512); /* names without creates, as littlefs compacts */
+    EXPECT(both_refuse(&p, LANOLIN_ERR_IRREGULAR, LANOLIN_OK));
+    EXPECT(is_at(find_by(LITTLEFS, &p, "q212", 4, LANOLIN_TYPE_REG), 0));
+    EXPECT(is_at(find_by(LITTLEFS, &p, "q212", 4, LANOLIN_TYPE_DIR), 2));
+}
+
+/* Sizes and numbers, as fetch refuses them. */
+static void test_find_sizes(void) {
+    const uint8_t *name = LISTED + 12;
+    EXPECT(is_at(lanolin_find(G, b0, 128, b1, 128, 0, 1, 2, 7, DOCUMENT, name, 4, 0x001), 0));
+    EXPECT(is_not(lanolin_find(G, b0, 127, b1, 128, 0, 1, 0, 7, DOCUMENT, name, 4, 0x001), LANOLIN_ERR_INVAL));
+    EXPECT(is_not(lanolin_find(G, b0, 128, b1, 127, 0, 1, 0, 7, DOCUMENT, name, 4, 0x001), LANOLIN_ERR_INVAL));
+    EXPECT(is_not(lanolin_find(G, NULL, 0, NULL, 0, 0, 1, 0, 7, DOCUMENT, name, 4, 0x001), LANOLIN_ERR_INVAL));
+    EXPECT(is_not(lanolin_find(G, b0, 128, b1, 128, 3, 3, 0, 7, DOCUMENT, name, 4, 0x001), LANOLIN_ERR_INVAL));
+    EXPECT(is_not(lanolin_find(G, b0, 128, b1, 128, 0, 1, 1, 7, DOCUMENT, name, 4, 0x001), LANOLIN_ERR_CORRUPT));
+    const lanolin_geometry odd = {128, 3};
+    EXPECT(is_not(lanolin_find(odd, b0, 128, b1, 128, 0, 1, 0, 7, DOCUMENT, name, 4, 0x001), LANOLIN_ERR_INVAL));
+}
+
 /* ---- the names of lanolin.h, each by what the archive answers to it; document 01 says what that is */
 
 /* A commit behind the listing, on a copy. */
@@ -749,6 +949,13 @@ int main(void) {
     test_without_creates();
     test_what_makes_no_slot();
     test_no_room_for_creates();
+    test_find();
+    test_find_lowest();
+    test_find_renamed();
+    test_find_lengths();
+    test_find_ids();
+    test_find_refused();
+    test_find_sizes();
     test_names_of_refusals();
     test_no_room();
     test_names_of_types();

@@ -1,9 +1,10 @@
 /* Fetches every pair of samples/real/ and looks up each name, struct, size and attribute, all 256 attribute types of
  * each slot: they must be what the littlefs that wrote the pairs shows (shown.txt; README.md there has its lines), and
- * stand in the block where the answer says. Then commits to a copy of each, and compacts one, under both rules: by
- * littlefs's no pair is irregular, and after each accepted call all that littlefs shows is shown as before.
+ * stand in the block where the answer says. Each name is found by lanolin_find too. Then commits to a copy of each, and
+ * compacts one, under both rules: by littlefs's no pair is irregular, and after each accepted call all that littlefs
+ * shows is shown as before.
  *
- *     real_test samples/real        prints each difference and exits 1, or two lines with what was compared */
+ *     real_test samples/real        prints each difference and exits 1, or three lines with what was compared */
 #include "lanolin.h"
 
 #include <stdio.h>
@@ -37,6 +38,7 @@ static const struct { const char *what; bool compact, commit; uint32_t rules; } 
 static int way;
 static unsigned accepted[WAYS];
 static bool refused; /* the pair at hand, in this way */
+static unsigned found, nowhere, irregular; /* names asked for, and pairs that are not regular by document 01's rules */
 
 /* What a commit sets: an attribute of slot 0 that no pair has. */
 enum { NEW = 0x65 };
@@ -57,9 +59,13 @@ static size_t bytes_of(const char *hex, uint8_t *out) {
     return n;
 }
 
-static lanolin_got look(uint32_t mask, uint32_t key, uint8_t *buffer, size_t size) {
-    return lanolin_getslice(at.g, at.b0, at.g.block_size, at.b1, at.g.block_size, at.n0, at.n1, at.dir, at.gdisk, mask,
+static lanolin_got look_by(lanolin_gstate gdisk, uint32_t mask, uint32_t key, uint8_t *buffer, size_t size) {
+    return lanolin_getslice(at.g, at.b0, at.g.block_size, at.b1, at.g.block_size, at.n0, at.n1, at.dir, gdisk, mask,
                             key, 0, buffer, size);
+}
+
+static lanolin_got look(uint32_t mask, uint32_t key, uint8_t *buffer, size_t size) {
+    return look_by(at.gdisk, mask, key, buffer, size);
 }
 
 /* Whether the entry that was found has this tag and these bytes, in the buffer and at its place in the block. */
@@ -133,6 +139,42 @@ static void write_pair(void) {
         differs("the answered record", 0, "not what fetch gives");
 }
 
+/* Whether a compaction, which stores nothing, is refused since the log isn't regular. */
+static bool is_irregular(uint32_t rules) {
+    const uint32_t size = at.g.block_size;
+    return lanolin_compact_stores(at.g, at.b0, size, at.b1, size, at.n0, at.n1, 0, 0, rules, 0).result ==
+           LANOLIN_ERR_IRREGULAR;
+}
+
+/* The lowest id that has the name, asked slot by slot, or -1. No move is pending here: find reads no global state. */
+static long lowest(uint32_t kind, const uint8_t *name, size_t n) {
+    uint8_t have[MOST_DATA];
+    for (uint32_t id = 0; id < at.dir.count; id++) {
+        lanolin_got got = look_by((lanolin_gstate){0}, 0x700ffc00, lanolin_mktag(0, id, 0), have, sizeof have);
+        if (!got.result && got.tag == lanolin_mktag(kind, id, (uint32_t)n) && !memcmp(have, name, n)) return (long)id;
+    }
+    return -1;
+}
+
+/* Asks for a name by each rule: the lowest id that has it, and by document 01's -202 where the log isn't regular. */
+static long find_name(uint32_t kind, const uint8_t *name, size_t n, const char *line) {
+    const long id = lowest(kind, name, n);
+    const uint32_t size = at.g.block_size;
+    const pair_t before = at;
+    for (uint32_t rules = LANOLIN_RULES_DOCUMENT; rules <= LANOLIN_RULES_LITTLEFS; rules++) {
+        lanolin_named want = {LANOLIN_OK, id >= 0, id >= 0 ? (uint32_t)id : 0};
+        if (is_irregular(rules)) want = (lanolin_named){LANOLIN_ERR_IRREGULAR, false, 0};
+        lanolin_named named =
+            lanolin_find(at.g, at.b0, size, at.b1, size, at.n0, at.n1, 0, 0, rules, name, n, kind);
+        if (named.result != want.result || named.found != want.found || named.id != want.id)
+            differs("what find answers to a name", named.id, line);
+    }
+    if (memcmp(&before, &at, sizeof at)) differs("a block", 0, "altered by find");
+    if (id >= 0) found++;
+    else nowhere++;
+    return id;
+}
+
 /* What littlefs shows of the record; of a pair that was written to count and tail. */
 static void check_record(const char *line) {
     unsigned p0, p1, rev, off, etag, count, erased, split, t0, t1;
@@ -142,11 +184,26 @@ static void check_record(const char *line) {
     lanolin_fetched f = fetch();
     lanolin_mdir *d = &f.dir;
     at.dir = f.dir;
+    if (is_irregular(LANOLIN_RULES_LITTLEFS)) differs("the log", 0, "irregular by littlefs's rules");
+    irregular += is_irregular(LANOLIN_RULES_DOCUMENT);
+    if (find_name(LANOLIN_TYPE_REG, (const uint8_t *)"nowhere", 7, line) >= 0)
+        differs("a name that is not there", 0, line);
     if (f.result || d->count != count || d->split != split || d->tail[0] != t0 || d->tail[1] != t1)
         differs("the record", 0, line);
     if (way == AS_IT_IS && (d->pair[0] != p0 || d->pair[1] != p1 || d->rev != rev || d->off != off ||
                             d->etag != etag || d->erased != erased))
         differs("the record", 0, line);
+}
+
+/* A name that littlefs shows is found, in its slot: behind the entry that a pending move hides, which is still there,
+ * one higher. A longer one, a shorter one and one of another type are found where lookups find them. */
+static void check_find(uint32_t kind, uint8_t *name, size_t n, uint32_t id, const char *line) {
+    const bool moved = lanolin_gstate_hasmovehere(&at.gdisk, at.n0, at.n1) && lanolin_tag_id(at.gdisk.tag) < id;
+    if (find_name(kind, name, n, line) != (long)id + moved) differs("the found id", id, line);
+    find_name(kind == LANOLIN_TYPE_REG ? LANOLIN_TYPE_DIR : LANOLIN_TYPE_REG, name, n, line);
+    if (n > 1) find_name(kind, name, n - 1, line);
+    name[n] = '!';
+    if (find_name(kind, name, n + 1, line) >= 0) differs("a name that is not there", id, line);
 }
 
 static void check_slot(const char *line) {
@@ -157,6 +214,7 @@ static void check_slot(const char *line) {
     size_t n = bytes_of(name, want);
     lanolin_got got = look(0x700ffc00, lanolin_mktag(0, id, 0), have, sizeof have);
     if (!has(got, lanolin_mktag(kind, id, (uint32_t)n), have, want, n)) differs("the name", id, line);
+    check_find(kind, want, n, id, line);
     lanolin_info info =
         lanolin_getinfo(at.g, at.b0, at.g.block_size, at.b1, at.g.block_size, at.n0, at.n1, at.dir, at.gdisk, 255, id);
     /* a superblock's name type is not among those that getinfo's mask 0x780 takes */
@@ -188,9 +246,12 @@ static void check_attr(const char *line) {
 
 static void check_hidden(const char *line) {
     unsigned id;
-    uint8_t byte;
+    uint8_t byte, name[MOST_DATA];
     if (sscanf(line, "hidden %u", &id) != 1) exit(2);
     if (look(0x700ffc00, lanolin_mktag(0, id, 0), &byte, 1).result != -2) differs("the moved entry", id, line);
+    lanolin_got got = look_by((lanolin_gstate){0}, 0x700ffc00, lanolin_mktag(0, id, 0), name, sizeof name);
+    if (got.result || find_name(lanolin_tag_type3(got.tag), name, got.length - 4, line) != (long)id)
+        differs("the moved entry's name", id, line); /* find reads no global state */
 }
 
 /* Every line of shown.txt, in one way. */
@@ -198,7 +259,7 @@ static void check_all(const char *directory, const char *path) {
     char line[8192];
     FILE *f = fopen(path, "r");
     if (!f) fprintf(stderr, "%s can't be read\n", path), exit(2);
-    pairs = slots = attrs = absent = 0;
+    pairs = slots = attrs = absent = found = nowhere = irregular = 0;
     while (fgets(line, sizeof line, f)) {
         if (strncmp(line, "attr ", 5)) check_absent();
         if (!strncmp(line, "pair ", 5)) {
@@ -223,6 +284,9 @@ int main(int argc, char **argv) {
     check_all(argv[1], path);
     printf("real pairs: %u pairs, %u slots, %u attributes, %u missing attributes, %u differences\n", pairs, slots,
            attrs, absent, differences);
+    printf("real pairs, by name: by littlefs's rules %u names found and %u not; %u pairs refused by document 01's; "
+           "%u differences\n",
+           found, nowhere, irregular, differences);
     for (way = AS_IT_IS + 1; way < WAYS; way++) check_all(argv[1], path);
     printf("real pairs, written to: by document 01's rules %u committed to and %u compacted, by littlefs's %u and %u, "
            "and %u both; %u differences\n",

@@ -106,6 +106,21 @@ static __attribute__((noinline)) void reading(void) {
     DEPTH(lanolin_getgstate, G, b0, BLOCK, b1, BLOCK, 0, 2, dir, STILL, &state);
 }
 
+/* A name that slots have, of their type and of another, one that none has and an empty one; a block number that is too
+ * high, and a number that is no rule. */
+static __attribute__((noinline)) void finding(const char *name, uint32_t rules, int32_t result) {
+    const uint8_t *bytes = (const uint8_t *)name;
+    const size_t n = strlen(name);
+    MUST(lanolin_find(G, PAIR, 0, 0, rules, bytes, n, 0x001).result == result);
+    MUST(lanolin_find(G, PAIR, 0, 0, rules, bytes, n, 0x001).found == (result == LANOLIN_OK));
+    DEPTH(lanolin_find, G, PAIR, 0, 0, rules, bytes, n, 0x001);
+    DEPTH(lanolin_find, G, PAIR, 0, 0, rules, bytes, n, 0x002);
+    DEPTH(lanolin_find, G, PAIR, 0, 0, rules, buffer, 1022, 0x001);
+    DEPTH(lanolin_find, G, PAIR, 0, 0, rules, buffer, 0, 0x001);
+    DEPTH(lanolin_find, G, PAIR, 1, 0, rules, bytes, n, 0x001);
+    DEPTH(lanolin_find, G, PAIR, 0, 0, NONE, bytes, n, 0x001);
+}
+
 /* An entry of every kind, and one that is bad. */
 static __attribute__((noinline)) void committing(uint32_t rules) {
     static const uint8_t DATA[16] = "0123456789abcde";
@@ -176,9 +191,13 @@ int main(void) {
     DEPTH(lanolin_compact, G, PAIR, 0, 0, DOCUMENT); /* no slot */
     fill(SLOTS);
     reading();
+    finding("q212", DOCUMENT, LANOLIN_OK);
     committing(DOCUMENT);
+    finding("q212", DOCUMENT, LANOLIN_OK); /* a delete and a rename are in the log */
     compacting(DOCUMENT);
     name_all(SLOTS);
+    finding("\xff", DOCUMENT, LANOLIN_ERR_IRREGULAR);
+    finding("\xff", LITTLEFS, LANOLIN_OK);
     DEPTH(lanolin_compact, G, PAIR, 0, 0, DOCUMENT); /* -202 */
     committing(LITTLEFS);
     compacting(LITTLEFS);

@@ -20,14 +20,19 @@ def unrolled(runs):
     return data
 
 
-cases, *program = sys.argv[1:]
-with open(cases) as f:
-    for line in f:
-        name, runs = line.split()
-        done = subprocess.run(program, input=unrolled(runs), capture_output=True, timeout=60)
-        text = done.stdout
-        print(f"== {name}")
-        if done.returncode or done.stderr:
-            print(f"exit {done.returncode}, {done.stderr!r}")
-        long = f"{len(text)} bytes, CRC-32 {zlib.crc32(text):08x}\n"
-        sys.stdout.write(text.decode("latin-1") if len(text) <= 2000 else long)
+def main():
+    cases, *program = sys.argv[1:]
+    with open(cases) as f:
+        for line in f:
+            name, runs = line.split()
+            done = subprocess.run(program, input=unrolled(runs), capture_output=True, timeout=60)
+            text = done.stdout
+            print(f"== {name}")
+            if done.returncode or done.stderr:
+                print(f"exit {done.returncode}, {done.stderr!r}")
+            long = f"{len(text)} bytes, CRC-32 {zlib.crc32(text):08x}\n"
+            sys.stdout.write(text.decode("latin-1") if len(text) <= 2000 else long)
+
+
+if __name__ == "__main__":
+    main()

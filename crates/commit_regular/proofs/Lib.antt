@@ -1,3 +1,2 @@
--- From the code's steps to format's `Regular`; and what a step leaves to ask of a log whose end is known.
+-- From the code's steps to format's `Regular`.
 pub mod Settled
-pub mod Entered

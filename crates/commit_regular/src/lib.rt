@@ -13,7 +13,6 @@ use commit_rules::Ruled;
 use fetch_walk::cursor::Cursor;
 use fetch_walk::cursor::Seen;
 use format::Rules;
-use format::types::LFS_ATTR_MAX;
 
 // The rule as a call takes it: 0 document 01's, 1 littlefs's. (Any other number is refused before.)
 pub fn rules_of(rules: u32) -> Rules
@@ -36,23 +35,19 @@ pub struct Passing {
 
 impl Passing {
     // An empty log is regular.
-    pub fn start(rules: Rules) -> Self
+    fn start(rules: Rules) -> Self
         ensures { λ r. ⌜ r ≡ starts rules ⌝ }
     {
-        let grows = match rules {
-            Rules::Document => false,
-            Rules::Littlefs => true,
-        };
         Passing {
             count: 0,
-            grows,
+            grows: commit_rules::grows(rules),
             good: true,
             taken: true,
         }
     }
 
     // An entry, in a log.
-    pub fn entry(self, tag: u32) -> Self
+    fn entry(self, tag: u32) -> Self
         ensures { λ r. ⌜ r ≡ entering tag self ⌝ }
     {
         if !self.good {
@@ -78,10 +73,10 @@ impl Passing {
     }
 
     // "every check tag's size is 4 to 1,022": what stands before this check is committed.
-    pub fn check(self, size: u32) -> Self
+    fn check(self, size: u32) -> Self
         ensures { λ r. ⌜ r ≡ checking size self ⌝ }
     {
-        let good = self.good & ((4 <= size) & (size <= LFS_ATTR_MAX));
+        let good = self.good & commit_rules::check_fits(size);
         Passing {
             count: self.count,
             grows: self.grows,

@@ -2,8 +2,9 @@
 // those of a log, where by littlefs's rule a name may make slots. Any numbers.
 ghost use mathlib.Core.Path.{_≡_};
 ghost use Prim.Native.Nat.{_^_, _<_};
-ghost use Rattle.format.specs.Regular.{ruleOf, ruleHolds, countAfter, growsAfter, countRaised};
+ghost use Rattle.format.specs.Regular.{ruleOf, ruleHolds, between, countAfter, grows, growsAfter, countRaised};
 ghost use Rattle.commit_rules.specs.Rules.{ruleAs, passedBy, countedBy};
+use format::Rules;
 use format::types::*;
 
 // Which rule a type falls under.
@@ -101,6 +102,23 @@ pub fn grows_after(rule: Rule, grows: bool) -> bool
         Rule::Delete => false,
         _ => grows,
     }
+}
+
+// Whether names may make slots at the beginning of a log.
+pub fn grows(rules: Rules) -> bool
+    ensures { λ r. ⌜ r ≡ grows rules ⌝ }
+{
+    match rules {
+        Rules::Document => false,
+        Rules::Littlefs => true,
+    }
+}
+
+// "every check tag's size is 4 to 1,022"
+pub fn check_fits(size: u32) -> bool
+    ensures { λ r. ⌜ r ≡ between 4 1_022 size ⌝ }
+{
+    (4 <= size) & (size <= LFS_ATTR_MAX)
 }
 
 // The count behind an entry that falls under a rule, or that it is bad.

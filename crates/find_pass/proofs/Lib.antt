@@ -4,4 +4,5 @@ pub mod Moved
 pub mod Entry
 pub mod Flags
 pub mod Kept
+pub mod Passed
 pub mod Turn

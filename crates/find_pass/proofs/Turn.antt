@@ -1,7 +1,7 @@
 -- A turn of the pass: what stands at its place in the committed log, and what it keeps. Assumes nothing.
 use mathlib.Core.Path.{_≡_, refl, sym, ap, _∙_}
 use mathlib.Core.Logic.{_≢_, _⊎_, inl, inr}
-use mathlib.Core.Bool.{Bool, true, false, cond, _&&_}
+use mathlib.Core.Bool.{Bool, true, false, not}
 use mathlib.Core.Option.{Option, none}
 use mathlib.Core.List.{List, [], _∷_}
 use Prim.Native.Nat.{ℕ, _+_, _-_, _/_, _%_, _^_, _≤_, _<_}
@@ -12,10 +12,11 @@ use lib.Bits.{bitXor}
 use lib.Dec.{eqb}
 use Rattle.format.specs.Word.{be32, xor, allOnes}
 use Rattle.format.specs.Crc.{crc}
-use Rattle.format.specs.Tag.{tagType3, tagSize, tagLength, tagFlipped}
+use Rattle.format.specs.Tag.{tagType3, tagId, tagSize, tagLength, tagFlipped}
 use Rattle.format.specs.Kind.{isCheck}
 use Rattle.format.specs.Walk.{Event, ent, chk, inv, bodyOf, walk}
 use Rattle.format.specs.Log.{keptBefore, committed, log, span, eventLength, logEnd}
+use Rattle.format.specs.Regular.{Rule, ruleOf, between, countRaised, growsAfter, grows, loggedRule, countAt}
 use Rattle.format.specs.Regular.{regularFrom, Regular}
 use Rattle.format.specs.Directory.{Load, Slot, act, acts, apply, applyAll, dir, dirOf}
 use Rattle.format.specs.Find.{isNamed, firstNamed, findIn}
@@ -34,13 +35,15 @@ use Rattle.fetch_walk.proofs.Seen.{follow, from-next, EntrySeen, entry-seen, ch
 use Rattle.theory.specs.Directory.Acts.{dir-rev}
 use Rattle.theory.specs.Directory.Machine.{Allowed}
 use Rattle.theory.specs.Lookup.SlotCount.{slotsAfter, length-apply}
-use Rattle.theory.specs.Rules.RuledEntry.{Ruled, ruled, rule-says}
-use Rattle.commit_regular.specs.Passing.{starts, entering, checking}
-use Rattle.commit_regular.specs.declared.Passing.{Passing}
-use Rattle.commit_regular.proofs.Entered.{passes, check-passes, entryRule, entryCount, Enters, bad-passes, good-enters}
+use Rattle.theory.specs.Rules.RuledEntry as entry
+use Rattle.theory.specs.Rules.RuledEntry.{ruled, rule-says}
+use Rattle.commit_rules.specs.Rules.{passedBy}
+use Rattle.commit_rules.specs.declared.Ruled.{Ruled}
+use Rattle.commit_rules.specs.declared.Ruled.the-variants.{Bad, To}
 use Rattle.find_set.specs.Set.{has, lowest}
 use Rattle.find_pass.specs.Pass.{Holds, Keeps, marked, Followable, CommittedTo, answered}
 use Rattle.find_pass.proofs.Kept.{name-kept}
+use Rattle.find_pass.proofs.Passed.{check-bad, check-on, entry-bad, Enters, entry-good}
 use Rattle.find_pass.proofs.Flags.{flags, flags-past, flags-apply, lowest-named}
 
 -- ---- what stands at a place
@@ -155,17 +158,17 @@ module _ (b : List ℕ) (at prev sum : ℕ) where
       go (inl h) = h
       go (inr m) = absurd (omega (arith, met-long m))
 
--- ---- what the pass keeps, which began with p₀: of the slots as they are here, which have the name; and the log that is
--- still to come
-pub record Going (b : List ℕ) (p₀ : Passing) (q : Option Load → Bool) (end : ℕ) (set : List ℕ) (any : Bool) (p : Passing)
-    (at prev : ℕ) : Type 0 where
+-- ---- what the pass keeps: of the slots as they are here, which have the name; and the log that is still to come. g₀:
+-- whether names might make slots at the beginning
+pub record Going (b : List ℕ) (g₀ : Bool) (q : Option Load → Bool) (end : ℕ) (set : List ℕ) (any : Bool) (count : ℕ)
+    (g : Bool) (at prev : ℕ) : Type 0 where
   sum : ℕ
   slots : List Slot
   ends : at + span (rest b at prev sum) ≡ end
-  regular : passes p₀ (log b) ≡ passes p (rest b at prev sum)
+  regular : regularFrom g₀ 0 (log b) ≡ regularFrom g count (rest b at prev sum)
   made : dirOf (log b) ≡ applyAll slots (acts (rest b at prev sum))
-  count′ : length slots ≡ p .count
-  few : p .count ≤ 1_023
+  count′ : length slots ≡ count
+  few : count ≤ 1_023
   holds : Holds set any (flags q slots)
 
 no-flags : (q : Option Load → Bool) → q none ≡ false → Holds (replicate 32 0) false (flags q [])
@@ -179,17 +182,17 @@ no-flags q never = record {
     zero-digit : (k : ℕ) → eqb (0 / 2 ^ k % 2) 1 ≡ false
     zero-digit k = rw (zero-div (2 ^ k))
 
-pub starts-going : (b : List ℕ) (r : Rules) (q : Option Load → Bool) (end : ℕ) (p : Passing) → q none ≡ false
-    → CommittedTo b end → p ≡ starts r → Going b p q end (replicate 32 0) false p 4 allOnes
-unfolding from log walk starts dirOf dir
-starts-going b r q end p never k e = record {
+pub starts-going : (b : List ℕ) (q : Option Load → Bool) (end : ℕ) (g₀ : Bool) → q none ≡ false → CommittedTo b end
+    → Going b g₀ q end (replicate 32 0) false 0 g₀ 4 allOnes
+unfolding from log walk dirOf dir
+starts-going b q end g₀ never k = record {
   sum = crc allOnes (take 4 b);
   slots = [];
   ends = sym (k .ends);
   regular = refl;
   made = dir-rev (acts (log b)) [];
-  count′ = rw e;
-  few = rw e (omega arith);
+  count′ = refl;
+  few = omega arith;
   holds = no-flags q never;
 }
 
@@ -199,111 +202,117 @@ ends-on : (at n end : ℕ) (l k : List Event) (x : Event) → at + span l ≡ en
 unfolding span
 ends-on at n end l k x e h m = let z : span l ≡ eventLength x + span k = ap span h in omega arith
 
--- the rule that was asked for
-by-rule : (b : List ℕ) (p₀ : Passing) (r : Rules) → p₀ ≡ starts r → Regular r (log b) ≡ passes p₀ (log b)
-unfolding starts Regular
-by-rule b p₀ r e = rw e
+-- by the rule that was asked for, the log is not regular
+by-rule : (b : List ℕ) (g₀ : Bool) (r : Rules) → g₀ ≡ grows r → Regular r (log b) ≡ regularFrom g₀ 0 (log b)
+unfolding Regular
+by-rule b g₀ r e = rw e
 
-module _ (b : List ℕ) (p₀ : Passing) (q : Option Load → Bool) (never : q none ≡ false) (end : ℕ) (set : List ℕ)
-    (any : Bool) (p : Passing) (at prev : ℕ) (g : Going b p₀ q end set any p at prev) where
+refused : (b : List ℕ) (g₀ : Bool) (r : Rules) → g₀ ≡ grows r → regularFrom g₀ 0 (log b) ≡ false
+    → (name : List ℕ) (kind : ℕ) → Refused Irregular ≡ findIn r name kind (log b)
+unfolding findIn
+refused b g₀ r e h name kind = rw (by-rule b g₀ r e ∙ h)
+
+module _ (b : List ℕ) (g₀ : Bool) (q : Option Load → Bool) (never : q none ≡ false) (end : ℕ) (set : List ℕ)
+    (any : Bool) (count : ℕ) (g : Bool) (at prev : ℕ) (v : Going b g₀ q end set any count g at prev) where
   abbrev u : ℕ
   u = tagOn b at prev
 
-  pub tag-whole : at < end → Whole u (length (drop at b))
-  tag-whole l = more-met b at prev (g .sum) end (g .ends) l .whole
+  module _ (l : at < end) where
+    met : Met b at prev (v .sum)
+    met = more-met b at prev (v .sum) end (v .ends) l
 
-  pub check-goes : at < end → isCheck u ≡ true → (p′ : Passing) → p′ ≡ checking (tagSize u) p
-      → Going b p₀ q end set any p′ (at + tagLength u) (tagFlipped u)
-  unfolding span eventLength acts applyAll apply checking
-  check-goes l h p′ e =
-      let m = more-met b at prev (g .sum) end (g .ends) l in
-      let k = m .check h in
-      record {
-        sum = k .next;
-        slots = g .slots;
-        ends = ends-on at (tagLength u) end _ _ (chk u (m .stored)) (g .ends) (k .is) refl;
-        regular = g .regular ∙ ap (passes p) (k .is) ∙ check-passes p p′ u (m .stored)
-            (rest b (at + tagLength u) (tagFlipped u) (k .next)) e;
-        made = g .made ∙ ap (λ (y : List Event). applyAll (g .slots) (acts y)) (k .is);
-        count′ = g .count′ ∙ ap (λ (y : Passing). y .count) (sym e);
-        few = rw e (g .few);
-        holds = g .holds;
-      }
+    tag-whole : Whole u (length (drop at b))
+    tag-whole = met .whole
 
-  -- an entry that doesn't pass: the log is not regular
-  entry-stops : at < end → isCheck u ≡ false → (p′ : Passing) → p′ ≡ entering u p → p′ .good ≡ false
-      → (r : Rules) → p₀ ≡ starts r → (name : List ℕ) (kind : ℕ) → Refused Irregular ≡ findIn r name kind (log b)
-  unfolding findIn
-  entry-stops l h p′ e bad r er name kind =
-      let k = more-met b at prev (g .sum) end (g .ends) l .entry h in
-      let d : List ℕ = bodyOf u (drop at b) in
-      let n : Regular r (log b) ≡ false = by-rule b p₀ r er ∙ g .regular ∙ ap (passes p) (k .is)
-      ∙ bad-passes u p p′ e bad d (rest b (at + tagLength u) u (k .next)) in
-      rw n
+    -- x is what `check_fits` answers
+    module _ (h : isCheck u ≡ true) (x : Bool) (ex : x ≡ between 4 1_022 (tagSize u)) where
+      check-stops : not x ≡ true → regularFrom g₀ 0 (log b) ≡ false
+      check-stops e =
+          let k = met .check h in
+          v .regular ∙ ap (regularFrom g count) (k .is)
+          ∙ check-bad g count u (met .stored) (rest b (at + tagLength u) (tagFlipped u) (k .next)) x ex e
 
-  module _ (l : at < end) (h : isCheck u ≡ false) (p′ : Passing) (e : p′ ≡ entering u p) (good : p′ .good ≡ true) where
-    body : List ℕ
-    body = bodyOf u (drop at b)
+      check-goes : not x ≡ false → Going b g₀ q end set any count g (at + tagLength u) (tagFlipped u)
+      unfolding span eventLength acts applyAll apply
+      check-goes e =
+          let k = met .check h in
+          record {
+            sum = k .next;
+            slots = v .slots;
+            ends = ends-on at (tagLength u) end _ _ (chk u (met .stored)) (v .ends) (k .is) refl;
+            regular = v .regular ∙ ap (regularFrom g count) (k .is)
+                ∙ check-on g count u (met .stored) (rest b (at + tagLength u) (tagFlipped u) (k .next)) x ex e;
+            made = v .made ∙ ap (λ (y : List Event). applyAll (v .slots) (acts y)) (k .is);
+            count′ = v .count′;
+            few = v .few;
+            holds = v .holds;
+          }
 
-    enters : Enters u p p′
-    enters = good-enters u p p′ e good
+    module _ (h : isCheck u ≡ false) where
+      body : List ℕ
+      body = bodyOf u (drop at b)
 
-    passed : Ruled (p .grows) (p .count) (entryCount p u) (entryRule u) u body
-    unfolding body
-    passed = ruled (p .grows) (entryRule u) (p .count) u body (rule-says (tagType3 u) true) (enters .holds)
+      -- an entry that doesn't pass: the log is not regular
+      entry-stops : Bad ≡ passedBy (loggedRule u) (countAt g count u) (tagId u) (tagSize u)
+          → regularFrom g₀ 0 (log b) ≡ false
+      entry-stops e =
+          let k = met .entry h in
+          v .regular ∙ ap (regularFrom g count) (k .is)
+          ∙ entry-bad g count u e (bodyOf u (drop at b)) (rest b (at + tagLength u) u (k .next))
 
-    pub entry-followable : Followable b at u
-    entry-followable = record {
-      whole = omega (arith, length-drop at b, tag-whole l .fits, tagLength-ge u);
-      kept = λ n. name-kept (entryRule u) (entryCount p u) u (rule-says (tagType3 u) true) (enters .holds) n;
-    }
+      -- n is the count behind one that does
+      module _ (n : ℕ) (e : To n ≡ passedBy (loggedRule u) (countAt g count u) (tagId u) (tagSize u)) where
+        enters : Enters g count u n
+        enters = entry-good g count u n e
 
-    pub entry-goes : (set′ : List ℕ) (any′ : Bool) → Keeps set any set′ any′ (marked q (act u (bodyOf u (drop at b))))
-        → Going b p₀ q end set′ any′ p′ (at + tagLength u) u
-    unfolding span eventLength acts applyAll body
-    entry-goes set′ any′ keeps =
-        let k = more-met b at prev (g .sum) end (g .ends) l .entry h in
-        let s = passed in
-        let D : List Slot = g .slots in
-        let allowed : Allowed (p .grows) (act u body) (length D) = rw (g .count′) (s .allowed) in
-        let top : flags q D 1_024 ≡ false = flags-past q never D 1_024 (omega (arith, g .count′, g .few)) in
-        let held = keeps (flags q D) top (g .holds) in
-        let n : length (apply D (act u body)) ≡ p′ .count =
-        length-apply (p .grows) D (act u body) allowed ∙ ap (λ (c : ℕ). slotsAfter c (act u body)) (g .count′)
-        ∙ s .slots ∙ sym (enters .count′) in
-        record {
-          sum = k .next;
-          slots = apply D (act u body);
-          ends = ends-on at (tagLength u) end _ _ (ent u body) (g .ends) (k .is) refl;
-          regular = g .regular ∙ ap (passes p) (k .is) ∙ enters .on body (rest b (at + tagLength u) u (k .next));
-          made = g .made ∙ ap (λ (y : List Event). applyAll D (acts y)) (k .is);
-          count′ = n;
-          few = rw (enters .count′) (s .few (g .few));
-          holds = record {
-            marks = λ i w. held .marks i w ∙ sym (flags-apply q never (p .grows) D (act u body) allowed i);
-            never = λ z i. flags-apply q never (p .grows) D (act u body) allowed i ∙ held .never z i;
-          };
+        passed : entry.Ruled g count (countAt g count u) (loggedRule u) u body
+        unfolding body
+        passed = ruled g (loggedRule u) count u body (rule-says (tagType3 u) true) (enters .holds)
+
+        entry-followable : Followable b at u
+        entry-followable = record {
+          whole = omega (arith, length-drop at b, tag-whole .fits, tagLength-ge u);
+          kept = name-kept (loggedRule u) (countAt g count u) u (rule-says (tagType3 u) true) (enters .holds);
         }
 
-  -- ---- the end
-  pub ends-bad : p .good ≡ false → (r : Rules) → p₀ ≡ starts r → (name : List ℕ) (kind : ℕ)
-      → Refused Irregular ≡ findIn r name kind (log b)
-  unfolding findIn
-  ends-bad bad r er name kind =
-      let n : Regular r (log b) ≡ false = by-rule b p₀ r er ∙ g .regular ∙ rw bad in rw n
+        entry-goes : (set′ : List ℕ) (any′ : Bool) → Keeps set any set′ any′
+            (marked q (act u (bodyOf u (drop at b))))
+            → Going b g₀ q end set′ any′ n (growsAfter g (loggedRule u)) (at + tagLength u) u
+        unfolding span eventLength acts applyAll body
+        entry-goes set′ any′ keeps =
+            let k = met .entry h in
+            let D : List Slot = v .slots in
+            let allowed : Allowed g (act u body) (length D) = rw (v .count′) (passed .allowed) in
+            let top : flags q D 1_024 ≡ false = flags-past q never D 1_024 (omega (arith, v .count′, v .few)) in
+            let held = keeps (flags q D) top (v .holds) in
+            record {
+              sum = k .next;
+              slots = apply D (act u body);
+              ends = ends-on at (tagLength u) end _ _ (ent u body) (v .ends) (k .is) refl;
+              regular = v .regular ∙ ap (regularFrom g count) (k .is)
+                  ∙ enters .on body (rest b (at + tagLength u) u (k .next));
+              made = v .made ∙ ap (λ (y : List Event). applyAll D (acts y)) (k .is);
+              count′ = length-apply g D (act u body) allowed
+                  ∙ ap (λ (c : ℕ). slotsAfter c (act u body)) (v .count′) ∙ passed .slots ∙ sym (enters .count′);
+              few = rw (enters .count′) (passed .few (v .few));
+              holds = record {
+                marks = λ i w. held .marks i w ∙ sym (flags-apply q never g D (act u body) allowed i);
+                never = λ z i. flags-apply q never g D (act u body) allowed i ∙ held .never z i;
+              };
+            }
 
-pub ends-good : (b : List ℕ) (p₀ : Passing) (name : List ℕ) (kind end : ℕ) (set : List ℕ) (any : Bool) (p : Passing)
-    (at prev : ℕ) → Going b p₀ (isNamed name kind) end set any p at prev
-    → end ≤ at → p .good ≡ true → (r : Rules) → p₀ ≡ starts r → (x : Named) → x ≡ answered (lowest 1_024 0 (has set))
-    → x ≡ findIn r name kind (log b)
+-- ---- the end; x is what `answer` answers
+pub ends : (b : List ℕ) (g₀ : Bool) (name : List ℕ) (kind end : ℕ) (set : List ℕ) (any : Bool) (count : ℕ) (g : Bool)
+    (at prev : ℕ) → Going b g₀ (isNamed name kind) end set any count g at prev → end ≤ at → (r : Rules) → g₀ ≡ grows r
+    → (x : Named) → x ≡ answered (lowest 1_024 0 (has set)) → x ≡ findIn r name kind (log b)
 unfolding findIn regularFrom acts applyAll
-ends-good b p₀ name kind end set any p at prev g l good r er x ex =
-    let z = none-left b at prev (g .sum) end (g .ends) l in
-    let n : Regular r (log b) ≡ true = by-rule b p₀ r er ∙ g .regular ∙ rw (good, z) in
-    let D : List Slot = g .slots in
-    let d : dirOf (log b) ≡ D = g .made ∙ ap (λ (y : List Event). applyAll D (acts y)) z in
-    let f = lowest-named name kind 1_024 0 D (has set) (omega (arith, g .count′, g .few)) refl
-    (λ k m w. let e : k ≡ k - 0 = omega arith in g .holds .marks k w ∙ ap (flags (isNamed name kind) D) e) in
+ends b g₀ name kind end set any count g at prev v l r er x ex =
+    let z = none-left b at prev (v .sum) end (v .ends) l in
+    let n : Regular r (log b) ≡ true = by-rule b g₀ r er ∙ v .regular ∙ rw z in
+    let D : List Slot = v .slots in
+    let d : dirOf (log b) ≡ D = v .made ∙ ap (λ (y : List Event). applyAll D (acts y)) z in
+    let f = lowest-named name kind 1_024 0 D (has set) (omega (arith, v .count′, v .few)) refl
+    (λ k m w. let e : k ≡ k - 0 = omega arith in v .holds .marks k w ∙ ap (flags (isNamed name kind) D) e) in
     ex ∙ f ∙ rw (n, d)
 
 -- nothing is no name
@@ -312,15 +321,16 @@ unfolding isNamed
 none-named name kind = refl
 
 -- ---- the same as the code has it: w is the word that it read, n the tag's length, x whether it is a check
-module _ (b : List ℕ) (p₀ : Passing) (name : List ℕ) (kind end : ℕ) (set : List ℕ) (any : Bool) (p : Passing)
-    (at prev : ℕ) (g : Going b p₀ (isNamed name kind) end set any p at prev) (more : at < end) where
+module _ (b : List ℕ) (g₀ : Bool) (name : List ℕ) (kind end : ℕ) (set : List ℕ) (any : Bool) (count : ℕ) (g : Bool)
+    (at prev : ℕ) (v : Going b g₀ (isNamed name kind) end set any count g at prev) (more : at < end) where
+  never′ : isNamed name kind none ≡ false
+  never′ = none-named name kind
+
+  there : Whole (tagOn b at prev) (length (drop at b))
+  there = tag-whole b g₀ (isNamed name kind) never′ end set any count g at prev v more
+
   pub word-inside : at + 4 ≤ length b
-  word-inside = omega (
-    arith,
-    length-drop at b,
-    tag-whole b p₀ (isNamed name kind) (none-named name kind) end set any p at prev g more .fits,
-    tagLength-ge (tagOn b at prev),
-  )
+  word-inside = omega (arith, length-drop at b, there .fits, tagLength-ge (tagOn b at prev))
 
   module _ (w : ℕ) (ew : w ≡ be32 (drop at b)) where
     same : bitXor w prev ≡ tagOn b at prev
@@ -328,7 +338,7 @@ module _ (b : List ℕ) (p₀ : Passing) (name : List ℕ) (kind end : ℕ) (set
     same = ap (λ (y : ℕ). bitXor y prev) ew
 
     whole : Whole (bitXor w prev) (length (drop at b))
-    whole = rw same (tag-whole b p₀ (isNamed name kind) (none-named name kind) end set any p at prev g more)
+    whole = rw same there
 
     pub tag-small : bitXor w prev < 2 ^ 31
     tag-small = whole .small
@@ -340,34 +350,53 @@ module _ (b : List ℕ) (p₀ : Passing) (name : List ℕ) (kind end : ℕ) (set
     )
 
     module _ (n : ℕ) (en : n ≡ tagLength (bitXor w prev)) (x : Bool) (ex : x ≡ isCheck (bitXor w prev)) where
-      plain : (v : Bool) → x ≡ v → isCheck (tagOn b at prev) ≡ v
-      plain v h = ap isCheck (sym same) ∙ sym ex ∙ h
+      plain : (y : Bool) → x ≡ y → isCheck (tagOn b at prev) ≡ y
+      plain y h = ap isCheck (sym same) ∙ sym ex ∙ h
 
-      -- k is the tag's size, f the tag with its flipped bit
-      pub turn-check : x ≡ true → (k : ℕ) → k ≡ tagSize (bitXor w prev) → (p′ : Passing) → p′ ≡ checking k p → (f : ℕ)
-          → f ≡ tagFlipped (bitXor w prev) → Going b p₀ (isNamed name kind) end set any p′ (at + n) f
-      turn-check h k ek p′ ep f ef = rw (en ∙ ap tagLength same, ef ∙ ap tagFlipped same)
-          (check-goes b p₀ (isNamed name kind) (none-named name kind) end set any p at prev g more (plain true h) p′
-          (ep ∙ ap (λ (y : ℕ). checking y p) (ek ∙ ap tagSize same)))
+      -- k is the tag's size, y what `check_fits` answers of it
+      module _ (h : x ≡ true) (k : ℕ) (ek : k ≡ tagSize (bitXor w prev)) (y : Bool) (ey : y ≡ between 4 1_022 k) where
+        fits : y ≡ between 4 1_022 (tagSize (tagOn b at prev))
+        fits = ey ∙ ap (between 4 1_022) (ek ∙ ap tagSize same)
 
-      module _ (h : x ≡ false) (p′ : Passing) (ep : p′ ≡ entering (bitXor w prev) p) where
-        entered : p′ ≡ entering (tagOn b at prev) p
-        entered = ep ∙ ap (λ (y : ℕ). entering y p) same
+        pub turn-unchecked : not y ≡ true → (r : Rules) → g₀ ≡ grows r
+            → Refused Irregular ≡ findIn r name kind (log b)
+        turn-unchecked e r er = refused b g₀ r er
+            (check-stops b g₀ (isNamed name kind) never′ end set any count g at prev v more (plain true h) y fits e) name
+            kind
 
-        pub turn-stops : p′ .good ≡ false → (r : Rules) → p₀ ≡ starts r → Refused Irregular ≡ findIn r name kind (log b)
-        turn-stops bad r er =
-            entry-stops b p₀ (isNamed name kind) (none-named name kind) end set any p at prev g more (plain false h) p′
-            entered bad r er name kind
+        -- f is the tag with its flipped bit
+        pub turn-check : not y ≡ false → (f : ℕ) → f ≡ tagFlipped (bitXor w prev)
+            → Going b g₀ (isNamed name kind) end set any count g (at + n) f
+        turn-check e f ef = rw (en ∙ ap tagLength same, ef ∙ ap tagFlipped same)
+            (check-goes b g₀ (isNamed name kind) never′ end set any count g at prev v more (plain true h) y fits e)
 
-        module _ (good : p′ .good ≡ true) where
+      -- k is the tag's type, R its rule, y what `entered` answers
+      module _ (h : x ≡ false) (k : ℕ) (ek : k ≡ tagType3 (bitXor w prev)) (R : Rule) (eR : R ≡ ruleOf true k)
+          (y : Ruled)
+          (ey : y ≡ passedBy R (countRaised g R count (tagId (bitXor w prev))) (tagId (bitXor w prev))
+          (tagSize (bitXor w prev))) where
+        rule : R ≡ loggedRule (tagOn b at prev)
+        rule = eR ∙ ap (ruleOf true) (ek ∙ ap tagType3 same)
+
+        asked : y ≡ passedBy (loggedRule (tagOn b at prev)) (countAt g count (tagOn b at prev))
+            (tagId (tagOn b at prev)) (tagSize (tagOn b at prev))
+        asked = rw (rule, same) at ey
+
+        pub turn-bad : Bad ≡ y → (r : Rules) → g₀ ≡ grows r → Refused Irregular ≡ findIn r name kind (log b)
+        turn-bad e r er = refused b g₀ r er
+            (entry-stops b g₀ (isNamed name kind) never′ end set any count g at prev v more (plain false h) (e ∙ asked))
+            name kind
+
+        -- c is the count behind it
+        module _ (c : ℕ) (e : To c ≡ y) where
           pub turn-followable : Followable b at (bitXor w prev)
           turn-followable = rw same
-              (entry-followable b p₀ (isNamed name kind) (none-named name kind) end set any p at prev g more
-              (plain false h) p′ entered good)
+              (entry-followable b g₀ (isNamed name kind) never′ end set any count g at prev v more (plain false h) c
+              (e ∙ asked))
 
-          pub turn-entry : (set′ : List ℕ) (any′ : Bool) → Keeps set any set′ any′
+          pub turn-entry : (set′ : List ℕ) (any′ g′ : Bool) → Keeps set any set′ any′
               (marked (isNamed name kind) (act (bitXor w prev) (bodyOf (bitXor w prev) (drop at b))))
-              → Going b p₀ (isNamed name kind) end set′ any′ p′ (at + n) (bitXor w prev)
-          turn-entry set′ any′ keeps = rw (en ∙ ap tagLength same, same)
-              (entry-goes b p₀ (isNamed name kind) (none-named name kind) end set any p at prev g more
-              (plain false h) p′ entered good set′ any′ (rw same at keeps))
+              → g′ ≡ growsAfter g R → Going b g₀ (isNamed name kind) end set′ any′ c g′ (at + n) (bitXor w prev)
+          turn-entry set′ any′ g′ keeps eg = rw (en ∙ ap tagLength same, same, eg ∙ ap (growsAfter g) rule)
+              (entry-goes b g₀ (isNamed name kind) never′ end set any count g at prev v more (plain false h) c
+              (e ∙ asked) set′ any′ (rw same at keeps))

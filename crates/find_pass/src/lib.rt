@@ -10,9 +10,12 @@ ghost use Rattle.format.specs.Log.{log};
 ghost use Rattle.format.specs.Walk.{bodyOf};
 ghost use Rattle.format.specs.Directory.{act};
 ghost use Rattle.format.specs.Find.{sameBytes, isNamed, firstNamed, findIn};
+ghost use Rattle.format.specs.Regular.{countRaised};
+ghost use Rattle.commit_rules.specs.Rules.{ruleAs, passedBy};
 ghost use Rattle.find_set.specs.Set.{has, made, removed, assigned, lowest};
 ghost use Rattle.find_pass.specs.Pass.{Keeps, marked, CommittedTo, Followable, answered};
-use commit_regular::Passing;
+use commit_rules::Rule;
+use commit_rules::Ruled;
 use fetch_walk::cursor;
 use format::Named;
 use format::Refusal;
@@ -123,35 +126,48 @@ fn answer(set: &[u32; 32]) -> Named
     Named::Nothing
 }
 
-// The pass over the log that ends at `end`, by a rule: the lowest id whose name is the one that is asked for.
+// The count behind an entry, or that it is bad, where the count is `count` before it and names may make slots or not.
+fn entered(rule: Rule, grows: bool, count: u32, tag: u32) -> Ruled
+    ensures { λ r. ⌜ r ≡ passedBy (ruleAs rule) (countRaised grows (ruleAs rule) count (tagId tag)) (tagId tag)
+        (tagSize tag) ⌝ }
+{
+    let id = tag::lfs_tag_id(tag) as u32;
+    let raised = commit_rules::raised(rule, grows, count, id);
+    commit_rules::count_behind(rule, raised, id, tag::lfs_tag_size(tag))
+}
+
+// The pass over the log that ends at `end`, by a rule: the lowest id whose name is the one that is asked for. The rules
+// run against the count as in crate `commit_regular`; here the first bad one ends the pass.
 pub fn find_in(b: &[u8], end: usize, rules: Rules, wanted: &[u8], kind: u32) -> Named
     requires { ⌜ CommittedTo (now b) end ⌝ }
     ensures { λ r. ⌜ r ≡ findIn rules (now (wanted .entry)) kind (log (now (b .entry))) ⌝ }
 {
     let mut set = [0u32; 32];
     let mut any = false;
-    let mut passing = Passing::start(rules);
+    let mut count: u32 = 0;
+    let mut grows = commit_rules::grows(rules);
     let mut at: usize = 4;
     let mut prev = FIRST_PREV;
     while at < end {
         let tag = word::within::be32(b, at) ^ prev;
         let next = at + tag::lfs_tag_dsize(tag) as usize;
         if cursor::is_check(tag) {
-            passing = passing.check(tag::lfs_tag_size(tag));
+            if !commit_rules::check_fits(tag::lfs_tag_size(tag)) {
+                return Named::Refused(Refusal::Irregular);
+            }
             prev = cursor::flipped(tag);
             at = next;
         } else {
-            passing = passing.entry(tag);
-            if !passing.good {
+            let rule = commit_rules::rule_of(true, tag::lfs_tag_type3(tag));
+            let Ruled::To(behind) = entered(rule, grows, count, tag) else {
                 return Named::Refused(Refusal::Irregular);
-            }
+            };
             any = follow(&mut set, any, b, at, tag, wanted, kind);
+            count = behind;
+            grows = commit_rules::grows_after(rule, grows);
             prev = tag;
             at = next;
         }
-    }
-    if !passing.good {
-        return Named::Refused(Refusal::Irregular);
     }
     answer(&set)
 }

@@ -135,5 +135,5 @@ pub extern "C" fn lanolin_find(
     ensures { λ r. ⌜ r ≡ namedOut (findOf g (now (b0 .entry)) (now (b1 .entry)) n0 n1 «block_count» seed rules
         (now (name .entry)) «type_») ⌝ }
 {
-    named_out(find::lfs_dir_find(g, b0, b1, n0, n1, block_count, seed, rules, name, type_))
+    named_out(find_name::lfs_dir_find(g, b0, b1, n0, n1, block_count, seed, rules, name, type_))
 }

@@ -57,7 +57,7 @@ pub fn number(text: &[u8]) -> Decimal
 }
 
 // An argument as a number. One that is longer than the buffer counts as empty, and so as none.
-fn word(i: usize) -> Decimal {
+pub fn word(i: usize) -> Decimal {
     let mut text = [0u8; 32];
     let n = os::arg(i, &mut text);
     number(&text[..n])

@@ -15,7 +15,8 @@ use Rattle.format.specs.Directory.{Load, Slot, dirOf}
 use Rattle.format.specs.Compaction.{isNoTail}
 use Rattle.format.specs.Listing.{ascii, decimal, hexByte, hexBytes, hexType}
 use Rattle.format.specs.Listing.{numberLine, tailKind, tailLine, erasedLine, recordLines, nameFields}
-use Rattle.format.specs.Listing.{structFields, slotLine, attrData, attrLine, attrLines, slotLines, refusedLine}
+use Rattle.format.specs.Listing.{structFields, slotLine, attrData, attrLine, attrLines, slotText, slotLines}
+use Rattle.format.specs.Listing.{refusedLine}
 use Rattle.format.specs.Listing.{dirLines, blockText, fetchInput, fetchedText, listingAs}
 use Rattle.format.specs.declared.LfsPair.{LfsPair}
 use Rattle.format.specs.declared.LfsMdir.{LfsMdir}
@@ -140,6 +141,15 @@ attrs-short (suc n) c id s ok =
       attrs-short n (suc c) id s ok,
     )
 
+pub text-short : (id : ℕ) (s : Slot) → OkSlot s → length (slotText id s) ≤ 534_044
+text-short id s ok =
+    omega (
+      arith,
+      length-append (slotLine id s) (attrLines (2 ^ 8) 2 id s),
+      slot-short id s ok,
+      attrs-short (2 ^ 8) 2 id s ok,
+    )
+
 slots-short : (D : List Slot) (id : ℕ) → OkSlots D → length (slotLines id D) ≤ length D * 534_044
 unfolding slotLines
 slots-short [] id h = omega arith
@@ -150,8 +160,8 @@ slots-short (s ∷ D) id h =
       arith,
       length-append (slotLine id s) (A ++ R),
       length-append A R,
-      slot-short id s (h .0),
-      attrs-short (2 ^ 8) 2 id s (h .0),
+      length-append (slotLine id s) A,
+      text-short id s (h .0),
       slots-short D (suc id) (h .1),
     )
 

@@ -1,6 +1,6 @@
-//! littlefs metadata pairs from Rust: fetch, lookup, commit and compaction of
-//! one pair, each proved against its definition, through the C-callable archive
-//! `liblanolin.a`, which `./lanolin lib` builds.
+//! littlefs metadata pairs from Rust: fetch, lookup, finding by name, commit and
+//! compaction of one pair, each proved against its definition, through the
+//! C-callable archive `liblanolin.a`, which `./lanolin lib` builds.
 //!
 //! The deadline of a slot, its user attribute 0x74:
 //!
@@ -31,8 +31,8 @@
 //!
 //! The constants are those of `include/lanolin.h` without their `LANOLIN_`. Whole
 //! programs are `examples/first.rs`, in ten lines, `examples/deadline.rs`,
-//! `examples/set_deadline.rs`, which writes, and `examples/restart.rs`, a
-//! controller's restart.
+//! `examples/find.rs`, which asks by name, `examples/set_deadline.rs`, which
+//! writes, and `examples/restart.rs`, a controller's restart.
 //!
 //! The calls with a limit of stores, which are for trying what a power cut
 //! leaves, and most of the leaves are not here; `include/lanolin.h` has them.
@@ -346,6 +346,48 @@ impl Pair<'_> {
         state: &mut Gstate,
     ) -> Result<(), Refusal> {
         refusal::of_lookup(raw::get_gstate(self, record, gdisk, state), ())
+    }
+
+    /// The lowest id whose slot's name has exactly these bytes and this type
+    /// ([`TYPE_REG`] of a file, [`TYPE_DIR`] of a directory), or `None`; in one pass
+    /// over the block that fetch answers from, whose log is regular by `rules`. An
+    /// empty name is [`Refusal::Invalid`]. A type that no name has and a name of
+    /// more than [`ATTR_MAX`] bytes are asked for in vain.
+    ///
+    /// It reads no global state: an entry that a pending move hides from a lookup
+    /// is found.
+    ///
+    /// Proved: the answer equals `findOf`, for every input; a pair that fetch
+    /// refuses is refused alike. It is what asking slot by slot gives, where no move
+    /// is pending (`find-is-asking`).
+    ///
+    /// ```
+    /// # use lanolin::*;
+    /// # let image = include_bytes!(concat!(env!("CARGO_MANIFEST_DIR"), "/../../samples/q212.pair"));
+    /// # let (b0, b1) = image.split_at(128);
+    /// # let geometry = Geometry { block_size: 128, prog_size: 16 };
+    /// # let pair = Pair { geometry, images: [b0, b1], numbers: [0, 1] };
+    /// let rules = Rules::Littlefs; // the pair may be one that littlefs compacted
+    /// assert_eq!(pair.find(0, 0, rules, b"q212", TYPE_REG)?, Some(0));
+    /// // No directory has the name, and no file the first part of it.
+    /// assert_eq!(pair.find(0, 0, rules, b"q212", TYPE_DIR)?, None);
+    /// assert_eq!(pair.find(0, 0, rules, b"q21", TYPE_REG)?, None);
+    /// # Ok::<(), lanolin::Refusal>(())
+    /// ```
+    pub fn find(
+        &self,
+        block_count: u32,
+        seed: u32,
+        rules: Rules,
+        name: &[u8],
+        type_: u32,
+    ) -> Result<Option<u32>, Refusal> {
+        let named = raw::find(self, block_count, seed, rules.number(), name, type_);
+        if named.result == ERR_NOENT {
+            // Fetch's own refusal, which comes with what fetch read.
+            self.fetch(block_count, seed)?;
+        }
+        refusal::of_lookup(named.result, named.found.then_some(named.id))
     }
 }
 

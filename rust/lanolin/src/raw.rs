@@ -21,6 +21,7 @@ const _: () = {
     assert!(size_of::<Gstate>() == 12 && size_of::<Entry>() == 12);
     assert!(size_of::<Fetched>() == 40 && size_of::<Committed>() == 44);
     assert!(size_of::<Got>() == 16 && size_of::<Info>() == 268);
+    assert!(size_of::<Named>() == 12);
 };
 
 /// `lanolin_fetched`.
@@ -47,6 +48,14 @@ pub struct Info {
     pub type_: u8,
     pub size: u32,
     pub name: [u8; 256],
+}
+
+/// `lanolin_named`.
+#[repr(C)]
+pub struct Named {
+    pub result: i32,
+    pub found: bool,
+    pub id: u32,
 }
 
 /// `lanolin_committed`.
@@ -82,6 +91,11 @@ extern "C" {
         geometry: Geometry, b0: *const u8, b0_len: usize, b1: *const u8, b1_len: usize,
         n0: u32, n1: u32, dir: Record, gdisk: Gstate, gstate: *mut Gstate,
     ) -> i32;
+    fn lanolin_find(
+        geometry: Geometry, b0: *const u8, b0_len: usize, b1: *const u8, b1_len: usize,
+        n0: u32, n1: u32, block_count: u32, seed: u32, rules: u32,
+        name: *const u8, name_len: usize, type_: u32,
+    ) -> Named;
     fn lanolin_commit(
         geometry: Geometry, b0: *mut u8, b0_len: usize, b1: *mut u8, b1_len: usize,
         n0: u32, n1: u32, block_count: u32, seed: u32, rules: u32,
@@ -153,6 +167,22 @@ pub fn get_gstate(pair: &crate::Pair, record: Record, gdisk: Gstate, state: &mut
     // SAFETY: the images are valid for their lengths; the state is lent
     // exclusively.
     unsafe { lanolin_getgstate(g, p0, l0, p1, l1, n0, n1, record, gdisk, state) }
+}
+
+pub fn find(
+    pair: &crate::Pair,
+    count: u32,
+    seed: u32,
+    rules: u32,
+    name: &[u8],
+    type_: u32,
+) -> Named {
+    let (g, [b0, b1], [n0, n1]) = (pair.geometry, pair.images, pair.numbers);
+    let (p0, l0, p1, l1) = (b0.as_ptr(), b0.len(), b1.as_ptr(), b1.len());
+    let (p, l) = (name.as_ptr(), name.len());
+    // SAFETY: images and name are valid for their lengths, and nothing is written
+    // to, so that they may overlap; any number is answered.
+    unsafe { lanolin_find(g, p0, l0, p1, l1, n0, n1, count, seed, rules, p, l, type_) }
 }
 
 pub fn commit(
@@ -238,6 +268,9 @@ mod tests {
                     assert_eq!((answer.result, answer.index), (ERR_INVAL, 0));
                     assert_eq!((answer.record, answer.seed), (NOTHING, 7));
                 }
+                let named = find(&pair.as_pair(), 0, 7, rules, b"q212", TYPE_REG);
+                let answer = (named.result, named.found, named.id);
+                assert_eq!(answer, (ERR_INVAL, false, 0));
                 assert_eq!(bytes, image);
             }
         }

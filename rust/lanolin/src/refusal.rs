@@ -27,13 +27,13 @@ pub enum Refusal {
     Corrupt,
     /// -2 of a lookup: no entry.
     NoEntry,
-    /// -2 of fetch, commit and compaction: a count above 1,023. Record and seed
-    /// as read.
+    /// -2 of fetch, find, commit and compaction: a count above 1,023. Record and
+    /// seed as read.
     TooMany(Fetched),
     /// -201: an entry is bad; the index from 0 of the first bad one. Commit only.
     BadEntry(u32),
     /// -202: the committed log isn't regular by the [`Rules`](crate::Rules) given.
-    /// Commit and compaction.
+    /// Find, commit and compaction.
     Irregular,
     /// -28: the rounded end passes the block. Commit and compaction; of a
     /// compaction also where the creates of a block that littlefs compacted have

@@ -12,6 +12,10 @@ const LISTING: &[u8; 256] = include_bytes!("../../../samples/q212.pair");
 /// create before it (`samples/make_edges.py`).
 const CROWDED: &[u8; 256] = include_bytes!("../../../crates/check_edges/data/count-1024");
 const IRREGULAR: &[u8; 256] = include_bytes!("../../../crates/check_edges/data/count-1023");
+/// A yard's instructions (`samples/make_pairs.py`).
+const INSTRUCTIONS: &[u8; 1024] = include_bytes!("../../../samples/instructions.pair");
+/// A pair that a real littlefs compacted: names without creates.
+const REAL: &[u8; 1024] = include_bytes!("../../../samples/real/attrs-512-0-1.pair");
 const GEOMETRY: Geometry = Geometry {
     block_size: 128,
     prog_size: 16,
@@ -59,36 +63,38 @@ const fn entry(type_: u16, id: u16, off: u32, len: u32) -> Entry {
     }
 }
 
-fn pair(bytes: &[u8; 256]) -> Pair<'_> {
-    let (b0, b1) = bytes.split_at(128);
+/// Blocks of half the bytes each.
+fn halves(bytes: &[u8]) -> Geometry {
+    Geometry {
+        block_size: bytes.len() as u32 / 2,
+        ..GEOMETRY
+    }
+}
+
+fn pair(bytes: &[u8]) -> Pair<'_> {
+    let (b0, b1) = bytes.split_at(bytes.len() / 2);
     Pair {
-        geometry: GEOMETRY,
+        geometry: halves(bytes),
         images: [b0, b1],
         numbers: [0, 1],
     }
 }
 
-fn pair_mut(bytes: &mut [u8; 256]) -> PairMut<'_> {
-    let (b0, b1) = bytes.split_at_mut(128);
+fn pair_mut(bytes: &mut [u8]) -> PairMut<'_> {
+    let geometry = halves(bytes);
+    let (b0, b1) = bytes.split_at_mut(bytes.len() / 2);
     PairMut {
-        geometry: GEOMETRY,
+        geometry,
         images: [b0, b1],
         numbers: [0, 1],
     }
 }
 
-/// The listing in blocks of 1,024 bytes.
-fn roomy(bytes: &mut [u8; 2048]) -> PairMut<'_> {
-    let (b0, b1) = bytes.split_at_mut(1024);
-    b0[..128].copy_from_slice(&LISTING[..128]);
-    PairMut {
-        geometry: Geometry {
-            block_size: 1024,
-            ..GEOMETRY
-        },
-        images: [b0, b1],
-        numbers: [0, 1],
-    }
+/// The listing in larger blocks.
+fn roomy(block_size: usize) -> Vec<u8> {
+    let mut bytes = vec![0xff; 2 * block_size];
+    bytes[..128].copy_from_slice(&LISTING[..128]);
+    bytes
 }
 
 /// The entry of slot 0 that a type finds, and its data; their buffer begins as
@@ -116,26 +122,11 @@ fn fetch_reads_the_listing() {
     assert_eq!(pair(LISTING).fetch(2, 0), Ok(found));
 }
 
-/// The record of a pair with blocks of 512 bytes.
-fn fetched(bytes: &[u8; 1024], numbers: [u32; 2]) -> Record {
-    let (b0, b1) = bytes.split_at(512);
-    let geometry = Geometry {
-        block_size: 512,
-        ..GEOMETRY
-    };
-    let images = [b0, b1];
-    let answer = Pair {
-        geometry,
-        images,
-        numbers,
-    }
-    .fetch(0, 0);
-    answer.unwrap().record
-}
-
 #[test]
 fn fetch_reads_the_split_mark_and_the_tail() {
-    let record = fetched(include_bytes!("../../../samples/instructions.pair"), [8, 9]);
+    let mut pair = pair(INSTRUCTIONS);
+    pair.numbers = [8, 9];
+    let record = pair.fetch(0, 0).unwrap().record;
     assert_eq!((record.pair, record.rev, record.count), ([9, 8], 7, 10));
     assert_eq!(
         (record.erased, record.split, record.tail),
@@ -145,11 +136,8 @@ fn fetch_reads_the_split_mark_and_the_tail() {
 
 #[test]
 fn fetch_reads_the_erased_mark() {
-    // A pair that a real littlefs wrote; its line in samples/real/shown.txt.
-    let record = fetched(
-        include_bytes!("../../../samples/real/attrs-512-0-1.pair"),
-        [0, 1],
-    );
+    // Its line in samples/real/shown.txt.
+    let record = pair(REAL).fetch(0, 0).unwrap().record;
     let shown = Record {
         pair: [1, 0],
         rev: 4,
@@ -197,8 +185,8 @@ fn offset_and_buffer_change_nothing_of_what_is_found() {
 /// longer or shorter.
 #[test]
 fn a_short_buffer_hides_nothing() {
-    let mut bytes = [0xff; 2048];
-    let mut pair = roomy(&mut bytes);
+    let mut bytes = roomy(1024);
+    let mut pair = pair_mut(&mut bytes);
     let mut end = LISTED.off;
     for size in [0, 1, 2, 3, 4, 5, 300] {
         let entries = [Entry::user_attr(0x74, 0, 0, size)];
@@ -281,8 +269,8 @@ fn info_tells_type_size_and_name() {
 /// A name that fills all 256 bytes has no zero behind it.
 #[test]
 fn a_long_name_is_shown_to_the_256th_byte() {
-    let mut bytes = [0xff; 2048];
-    let mut pair = roomy(&mut bytes);
+    let mut bytes = roomy(1024);
+    let mut pair = pair_mut(&mut bytes);
     for len in [255, 256, 300] {
         let renamed = [Entry::file_name(0, 0, len)];
         pair.compact(0, 0, BY_DOCUMENT).unwrap();
@@ -303,6 +291,167 @@ fn a_pending_move_hides_its_entry() {
     };
     let answer = pair(LISTING).get_slice(LISTED, gdisk, 0x700ffc00, Tag::new(0, 0, 0), 0, &mut []);
     assert_eq!(answer, Err(Refusal::NoEntry));
+}
+
+/// What find answers of a file's name, by document 01's rules.
+fn file(pair: &Pair, name: &[u8]) -> Result<Option<u32>, Refusal> {
+    pair.find(0, 0, BY_DOCUMENT, name, TYPE_REG)
+}
+
+/// The same of a directory's.
+fn directory(pair: &Pair, name: &[u8]) -> Result<Option<u32>, Refusal> {
+    pair.find(0, 0, BY_DOCUMENT, name, TYPE_DIR)
+}
+
+/// Neither the first part of a name, nor a longer one, nor one of another type;
+/// nor a payload or a deadline, which are no names.
+#[test]
+fn find_takes_a_name_and_its_type_exactly() {
+    let listing = pair(LISTING);
+    assert_eq!(file(&listing, b"q212"), Ok(Some(0)));
+    assert_eq!(
+        listing.find(2, 7, BY_LITTLEFS, b"q212", TYPE_REG),
+        Ok(Some(0))
+    );
+    let others: [&[u8]; 7] = [b"q", b"q21", b"212", b"Q212", b"q213", b"q212\0", b"q2122"];
+    for name in others {
+        assert_eq!(file(&listing, name), Ok(None), "{name:?}");
+    }
+    for type_ in [0, 2, 3, 0x0ff, 0x101, 0x801, 0x10001, 1 << 31, u32::MAX] {
+        let answer = listing.find(0, 0, BY_DOCUMENT, b"q212", type_);
+        assert_eq!(answer, Ok(None), "type {type_:#x}");
+    }
+    for (name, type_) in [(&b"abc"[..], 0x201), (b"\x90\x5f\x01\0", 0x374)] {
+        let answer = listing.find(0, 0, BY_DOCUMENT, name, type_);
+        assert_eq!(answer, Ok(None), "type {type_:#x}");
+    }
+}
+
+/// A file of the name twice, and a directory of it in between.
+#[test]
+fn find_answers_the_lowest_that_is_left() {
+    let mut bytes = roomy(512);
+    let mut pair = pair_mut(&mut bytes);
+    let entries = [
+        Entry::create(1),
+        Entry::file_name(1, 0, 4),
+        Entry::create(2),
+        Entry::dir_name(2, 0, 4),
+        Entry::create(3),
+        Entry::file_name(3, 0, 4),
+    ];
+    let found = |pair: &PairMut| {
+        let pair = pair.as_pair();
+        (file(&pair, b"q213"), directory(&pair, b"q213"))
+    };
+    pair.commit(0, 0, BY_DOCUMENT, &entries, b"q213").unwrap();
+    assert_eq!(found(&pair), (Ok(Some(1)), Ok(Some(2))));
+    // What each delete leaves, and what a slot that comes in before it.
+    let steps = [
+        (Entry::delete(1), Some(2), Some(1)),
+        (Entry::create(0), Some(3), Some(2)),
+        (Entry::delete(2), Some(2), None),
+        (Entry::delete(2), None, None),
+    ];
+    for (step, first, second) in steps {
+        pair.commit(0, 0, BY_DOCUMENT, &[step], &[]).unwrap();
+        assert_eq!(found(&pair), (Ok(first), Ok(second)));
+        // The other block then answers, with the same.
+        pair.compact(0, 0, BY_DOCUMENT).unwrap();
+        assert_eq!(found(&pair), (Ok(first), Ok(second)));
+    }
+    assert_eq!(file(&pair.as_pair(), b"q212"), Ok(Some(1)));
+}
+
+#[test]
+fn a_renamed_slot_has_its_new_name_alone() {
+    let mut bytes = *LISTING;
+    let mut pair = pair_mut(&mut bytes);
+    pair.commit(0, 0, BY_DOCUMENT, &[Entry::file_name(0, 0, 4)], b"q299")
+        .unwrap();
+    assert_eq!(file(&pair.as_pair(), b"q212"), Ok(None));
+    assert_eq!(file(&pair.as_pair(), b"q299"), Ok(Some(0)));
+    // A name of another type takes its place too.
+    pair.commit(0, 0, BY_DOCUMENT, &[Entry::dir_name(0, 0, 4)], b"q299")
+        .unwrap();
+    assert_eq!(file(&pair.as_pair(), b"q299"), Ok(None));
+    assert_eq!(directory(&pair.as_pair(), b"q299"), Ok(Some(0)));
+}
+
+/// Names up to the longest, and names that no slot can have.
+#[test]
+fn find_takes_names_of_every_length() {
+    let mut bytes = roomy(8192);
+    let mut pair = pair_mut(&mut bytes);
+    let name = [b'n'; 65537];
+    for len in [1, 2, 255, 256, 1021, ATTR_MAX] {
+        let renamed = [Entry::file_name(0, 0, len as u32)];
+        pair.commit(0, 0, BY_DOCUMENT, &renamed, &name[..len])
+            .unwrap();
+        for asked in [1, 2, 255, 256, 1021, 1022, 1023, 2000, name.len()] {
+            let expected = (asked == len).then_some(0);
+            assert_eq!(file(&pair.as_pair(), &name[..asked]), Ok(expected));
+        }
+        assert_eq!(file(&pair.as_pair(), b""), Err(Refusal::Invalid));
+    }
+}
+
+/// The lowest id that has the name, asked slot by slot.
+fn slot_by_slot(pair: &Pair, record: Record, name: &[u8], type_: u32) -> Option<u32> {
+    (0..record.count.into()).find(|&id| {
+        let (key, mut buffer) = (Tag::new(TYPE_NAME, id, 0), [0; ATTR_MAX]);
+        let found = pair.get_slice(record, NO_MOVE, MASK_CLASS, key, 0, &mut buffer);
+        found.is_ok_and(|found| found.tag.type3() == type_ && buffer[..found.size()] == *name)
+    })
+}
+
+/// By littlefs's rules a pair that littlefs compacted too; by document 01's it is
+/// refused, and a pair that this library wrote is not.
+#[test]
+fn find_is_asking_slot_by_slot() {
+    let names = "littlefs empty hello.txt hello q212 sub done gone q213 q218 note";
+    for (bytes, refused, there) in [(REAL, true, 5), (INSTRUCTIONS, false, 6)] {
+        let (pair, mut found) = (pair(bytes), 0);
+        let record = pair.fetch(0, 0).unwrap().record;
+        for name in names.split(' ').map(str::as_bytes) {
+            for type_ in [TYPE_REG, TYPE_DIR, TYPE_SUPERBLOCK] {
+                let expected = slot_by_slot(&pair, record, name, type_);
+                let answer = pair.find(0, 0, BY_LITTLEFS, name, type_);
+                assert_eq!(answer, Ok(expected), "{name:?}, {type_}");
+                let by_document = pair.find(0, 0, BY_DOCUMENT, name, type_);
+                let refusal = Err(Refusal::Irregular);
+                assert_eq!(by_document, if refused { refusal } else { answer });
+                found += expected.iter().count();
+            }
+        }
+        assert_eq!(found, there);
+    }
+    // Their lines in samples/real/shown.txt.
+    let real = pair(REAL);
+    let found = |name, type_| real.find(0, 0, BY_LITTLEFS, name, type_);
+    assert_eq!(found(b"q212", TYPE_REG), Ok(Some(3)));
+    assert_eq!(found(b"sub", TYPE_DIR), Ok(Some(4)));
+    // A name that is no plain text.
+    assert_eq!(file(&pair(INSTRUCTIONS), b"q217 \\\xb5"), Ok(Some(7)));
+}
+
+/// In this order: an empty name, what fetch refuses, a log that isn't regular.
+#[test]
+fn find_refuses_as_fetch_does() {
+    let find = |bytes, rules, name| pair(bytes).find(0, 7, rules, name, TYPE_REG);
+    for rules in [BY_DOCUMENT, BY_LITTLEFS] {
+        for bytes in [LISTING, &[0xff; 256], CROWDED, IRREGULAR] {
+            assert_eq!(find(bytes, rules, b""), Err(Refusal::Invalid));
+        }
+        assert_eq!(find(&[0xff; 256], rules, b"a"), Err(Refusal::Corrupt));
+        // More than 1,023 slots: with the record and the seed that fetch read.
+        let refusal = pair(CROWDED).fetch(0, 7).unwrap_err();
+        assert!(matches!(refusal, Refusal::TooMany(_)));
+        assert_eq!(find(CROWDED, rules, b"a"), Err(refusal));
+    }
+    let answer = find(IRREGULAR, BY_DOCUMENT, b"a");
+    assert_eq!(answer, Err(Refusal::Irregular));
+    assert_eq!(find(IRREGULAR, BY_LITTLEFS, b"a"), Ok(Some(1022)));
 }
 
 #[test]
@@ -393,8 +542,8 @@ fn entries_are_what_a_commit_takes() {
         (Entry::hard_tail(4), entry(0x601, 1023, 4, 8)),
         (Entry::move_state(0), entry(0x7ff, 1023, 0, 12)),
     ];
-    let mut bytes = [0xff; 2048];
-    let mut pair = roomy(&mut bytes);
+    let mut bytes = roomy(1024);
+    let mut pair = pair_mut(&mut bytes);
     for (made, expected) in made {
         assert_eq!(made, expected);
     }
@@ -495,32 +644,17 @@ fn a_refused_compaction_leaves_the_images() {
     assert_eq!((answer, &bytes), (Err(Refusal::Irregular), IRREGULAR));
 }
 
-/// A pair of blocks of 512 bytes, as these two hold them.
-fn wide(bytes: &mut [u8; 1024]) -> PairMut<'_> {
-    let (b0, b1) = bytes.split_at_mut(512);
-    PairMut {
-        geometry: Geometry {
-            block_size: 512,
-            ..GEOMETRY
-        },
-        images: [b0, b1],
-        numbers: [0, 1],
-    }
-}
-
-/// A pair that a real littlefs compacted: names without creates.
 #[test]
 fn littlefs_s_own_pair_needs_its_rules() {
-    let real = include_bytes!("../../../samples/real/attrs-512-0-1.pair");
-    let mut bytes = *real;
-    let mut pair = wide(&mut bytes);
+    let mut bytes = *REAL;
+    let mut pair = pair_mut(&mut bytes);
     let deadline = [Entry::user_attr(0x74, 3, 0, 4)];
     let refused = [
         pair.commit(0, 0, BY_DOCUMENT, &deadline, &SECONDS),
         pair.compact(0, 0, BY_DOCUMENT),
     ];
     assert_eq!(refused, [Err(Refusal::Irregular); 2]);
-    assert_eq!(&bytes, real);
+    assert_eq!(&bytes, REAL);
 
     // What shown.txt has of slot 3, and of its eight bytes of deadline the new.
     let shown = |pair: &PairMut, record: Record| {
@@ -535,7 +669,7 @@ fn littlefs_s_own_pair_needs_its_rules() {
         let found = reader.get_slice(record, NO_MOVE, MASK_TYPE, key, 0, &mut seconds);
         assert_eq!((found.unwrap().size(), &seconds[..4]), (4, &SECONDS[..]));
     };
-    let mut pair = wide(&mut bytes);
+    let mut pair = pair_mut(&mut bytes);
     let done = pair.commit(0, 0, BY_LITTLEFS, &deadline, &SECONDS);
     shown(&pair, done.unwrap().record);
     let done = pair.compact(0, 0, BY_LITTLEFS).unwrap();
@@ -636,8 +770,12 @@ fn broken_sizes_and_numbers_are_invalid() {
     ];
     for pair in broken {
         assert_eq!(pair.fetch(0, 0), Err(Refusal::Invalid));
+        assert_eq!(file(&pair, b"q212"), Err(Refusal::Invalid));
     }
-    assert_eq!(good.fetch(1, 0), Err(Refusal::Corrupt)); // number 1 is too high
+    // number 1 is too high
+    assert_eq!(good.fetch(1, 0), Err(Refusal::Corrupt));
+    let answer = good.find(1, 0, BY_DOCUMENT, b"q212", TYPE_REG);
+    assert_eq!(answer, Err(Refusal::Corrupt));
 }
 
 /// A number as the header writes it: `1022`, `(-22)`, `0x401`, `0x7ffffc00u`.

@@ -1,4 +1,4 @@
--- `commit_regular::Passing::start` meets its contract: names may make slots by littlefs's rule. Assumes nothing.
+-- `commit_regular::Passing::start` meets its contract. Assumes nothing.
 use Rattle.commit_regular.specs.Passing.{starts}
 use borrow.Author.Needs.{needs}
 use Rattle.commit_regular.proofs.Passing.start.Statement.{statement}
@@ -6,11 +6,7 @@ use Rattle.commit_regular.proofs.Passing.start.Tie as tie
 
 returns : tie.Need-returns
 unfolding starts
-returns c = rw (c .enum-told .given .1)
-
-returns-2 : tie.Need-returns-2
-unfolding starts
-returns-2 c = rw (c .enum-told2 .given .1)
+returns c = rw (c .grows .ensures)
 
 pub start-spec : {M : Type 1} → statement M
-start-spec = tie.close (tie.spec (λ c. search needs) (λ c. search needs) returns returns-2)
+start-spec = tie.close (tie.spec (λ c κs. search needs) returns)

@@ -1,11 +1,11 @@
--- `find::lfs_dir_find` meets its contract: a rule or a name that is none, what fetch refuses, and either block's pass.
+-- `find_name::lfs_dir_find` meets its contract: a rule or a name that is none, what fetch refuses, and either block's pass.
 -- Assumes nothing.
 use mathlib.Core.Path.{sym, _∙_}
 use borrow.Author.Needs.{needs}
-use Rattle.find.proofs.Called.{called-invalid, called-refused, called-first, called-second, ends-first}
-use Rattle.find.proofs.Called.{ends-second}
-use Rattle.find.proofs.lfs_dir_find.Statement.{statement}
-use Rattle.find.proofs.lfs_dir_find.Tie as tie
+use Rattle.find_name.proofs.Called.{called-invalid, called-refused, called-first, called-second, ends-first}
+use Rattle.find_name.proofs.Called.{ends-second}
+use Rattle.find_name.proofs.lfs_dir_find.Statement.{statement}
+use Rattle.find_name.proofs.lfs_dir_find.Tie as tie
 
 returns : tie.Need-returns
 returns c = called-invalid _ _ _ _ _ _ _ _ _ _ (c .if1 .taken)
