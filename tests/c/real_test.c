@@ -164,8 +164,7 @@ static long find_name(uint32_t kind, const uint8_t *name, size_t n, const char *
     for (uint32_t rules = LANOLIN_RULES_DOCUMENT; rules <= LANOLIN_RULES_LITTLEFS; rules++) {
         lanolin_named want = {LANOLIN_OK, id >= 0, id >= 0 ? (uint32_t)id : 0};
         if (is_irregular(rules)) want = (lanolin_named){LANOLIN_ERR_IRREGULAR, false, 0};
-        lanolin_named named =
-            lanolin_find(at.g, at.b0, size, at.b1, size, at.n0, at.n1, 0, 0, rules, name, n, kind);
+        lanolin_named named = lanolin_find(at.g, at.b0, size, at.b1, size, at.n0, at.n1, 0, 0, rules, name, n, kind);
         if (named.result != want.result || named.found != want.found || named.id != want.id)
             differs("what find answers to a name", named.id, line);
     }

@@ -1,6 +1,6 @@
 -- Document 02, L4: "Prove it equal to asking slot by slot on every regular log with no pending move." Asking slot by
 -- slot is said of `lfs_dir_getslice`'s own definition. Assumes nothing.
-use mathlib.Core.Path.{_≡_, refl, sym, ap, _∙_}
+use mathlib.Core.Path.{_≡_, refl, sym, ap, ap₂, _∙_}
 use mathlib.Core.Logic.{_≢_}
 use mathlib.Core.Bool.{Bool, true, false, not, cond, _&&_, _||_}
 use mathlib.Core.Option.{Option, none, some}
@@ -118,8 +118,19 @@ held-names name type id s ok low = go (s 0) refl
         let z : tagSize (tagOf (v .type) id n) ≡ n = of-size (v .type) id n (omega (arith, k .1)) in
         let f = take-front (v .bytes) (length (blankBuffer 1_022))
         (replicate (length (blankBuffer 1_022) - n) 0)
-        (omega (arith, length-replicate 1_022 0, k .1)) in
+        (omega (arith, length-replicate {A = ℕ} 1_022 0, k .1)) in
         rw (t, z, f)
+
+-- a pair that fetch finds passes its block count
+low-enough : (g : Geometry) (b0 b1 : List ℕ) (n0 n1 count seed : ℕ) (dir : LfsMdir) (read : ℕ)
+    → fetchOf g b0 b1 n0 n1 count seed ≡ fetched.Found dir read → tooHigh count n0 || tooHigh count n1 ≡ false
+unfolding fetchOf
+low-enough g b0 b1 n0 n1 count seed dir read f =
+    let p = past-test (not (pairFits g (length b0) (length b1) n0 n1)) _ _ dir read f in
+    past-test (tooHigh count n0 || tooHigh count n1) _ _ dir read (p .1) .0
+
+found-same : {m k : LfsMdir} {s t : ℕ} → fetched.Found m s ≡ fetched.Found k t → m ≡ k
+found-same e = cc
 
 -- THE THEOREM. The pair is one that fetch finds, its log is regular by the rule that is asked for, no move is pending,
 -- and the name is not empty.
@@ -128,25 +139,27 @@ pub find-is-asking : (g : Geometry) (b0 b1 : List ℕ) (n0 n1 count seed rules :
     → rulesFit rules ≡ true → Regular (rulesOf rules) (log (blockOf b0 b1 n0 dir)) ≡ true
     → gstateHasMoveHere gdisk (dir .pair) ≡ false → length name ≢ 0
     → findOf g b0 b1 n0 n1 count seed rules name type ≡ asking g b0 b1 n0 n1 dir gdisk name type
-unfolding findOf findIn fetchOf
-find-is-asking g b0 b1 n0 n1 count seed rules dir read gdisk name type f fits regular still some =
+unfolding findOf findIn
+find-is-asking g b0 b1 n0 n1 count seed rules dir read gdisk name type f fits regular still filled =
     let b : List ℕ = blockOf b0 b1 n0 dir in
     let D : List Slot = dirOf (log b) in
+    let wide = widest (rulesOf rules) (log b) regular in
     let S = directory-lookups g b0 b1 n0 n1 count seed dir read (rulesOf rules) f regular in
-    let p = past-test (not (pairFits g (length b0) (length b1) n0 n1)) _ _ dir read f in
-    let q = past-test (tooHigh count n0 || tooHigh count n1) _ _ dir read (p .1) in
-    let same : S .dir ≡ dir = found-same (sym (S .fetched count seed (q .0)) ∙ f) in
-    let ok : OkSlots D = ok-dirOf (log b) (regular-loads b (log b) refl (widest (rulesOf rules) (log b) regular)) in
-    let few : length D ≤ 1_023 = slots-few b (widest (rulesOf rules) (log b) regular) in
-    let number : dir .count ≡ length D = ap (λ (m : LfsMdir). m .count) (sym same) ∙ S .slots in
+    let same : S .dir ≡ dir
+    = found-same (sym (S .fetched count seed (low-enough g b0 b1 n0 n1 count seed dir read f)) ∙ f) in
+    let ok : OkSlots D = ok-dirOf (log b) (regular-loads b (log b) refl wide) in
+    let number : length D ≡ dir .count = sym (S .slots) ∙ ap (λ (m : LfsMdir). m .count) same in
     let each : (k : ℕ) → k < length D → asked g b0 b1 n0 n1 dir gdisk name type (0 + k) ≡ isNamed name type
     (getD D k empty 0) = λ k l.
     let z : 0 + k ≡ k = omega arith in
     let a = S .lookups (machine.name k) gdisk 0 (blankBuffer 1_022) (lt-ltb k (length D) l)
     (ap (λ (m : LfsMdir). gstateHasMoveHere gdisk (m .pair)) same ∙ still) (omega arith)
-    (omega (arith, length-replicate 1_022 0)) in
-    ? in
-    ?
-  where
-    found-same : {m : LfsMdir} {s : ℕ} → fetched.Found m s ≡ fetched.Found dir read → m ≡ dir
-    found-same e = cc
+    (omega (arith, length-replicate {A = ℕ} 1_022 0)) in
+    ap₂ (λ (m : LfsMdir) (i : ℕ). asked g b0 b1 n0 n1 m gdisk name type i) (sym same) z
+    ∙ by-word name type (nameAnswer g b0 b1 n0 n1 (S .dir) gdisk name type k)
+    (nameBuffer g b0 b1 n0 n1 (S .dir) gdisk name type k)
+    ∙ ap₂ (wordNames name type) (a .0) (a .1)
+    ∙ held-names name type k (getD D k empty) (ok-get D k ok) (omega (arith, slots-few b wide)) in
+    rw (fits, ne-eqb (length name) 0 filled, f, ← block-is b0 b1 n0 dir (isSecond n0 dir) refl, regular)
+    (sym (asks-first g b0 b1 n0 n1 dir gdisk name type D 0 each)
+    ∙ ap (λ (n : ℕ). askFrom g b0 b1 n0 n1 dir gdisk name type n 0) number)

@@ -18,7 +18,8 @@ pub mod Numbers
 pub mod FoundEntry
 -- Document 01's rule and littlefs's, by which a log is regular.
 pub mod Rules
--- The directory machine, and demand 3.
+-- The directory machine; that a slot by its name is what asking slot by slot gives; and demand 3.
 pub mod Directory
+pub mod Find
 pub mod Stopped
 pub mod Example

@@ -1,8 +1,8 @@
 -- No text is as long as 2^32 bytes: what a slot of a regular log holds is short. Assumes nothing.
-use mathlib.Core.Path.{_≡_, refl, sym, _∙_}
+use mathlib.Core.Path.{_≡_, refl, sym}
 use mathlib.Core.Bool.{Bool, true, false, cond}
-use mathlib.Core.List.{List, [], _∷_}
-use Prim.Native.Nat.{ℕ, zero, suc, _^_, _≤_, _<_}
+use mathlib.Core.List.{List}
+use Prim.Native.Nat.{ℕ, _^_, _<_}
 use native.Mathlib.Omega.{arith}
 use lib.ListN.{length, getD}
 use lib.Dec.{eqb}
@@ -19,16 +19,11 @@ use Rattle.format.specs.declared.LfsMdir.{LfsMdir}
 use Rattle.format.specs.declared.Refusal.the-variants.{Invalid}
 use Rattle.format.specs.declared.Named.{Named}
 use Rattle.format.specs.declared.Named.the-variants.{At, Nothing, Refused}
-use Rattle.theory.specs.Blocks.SlotItems.{OkSlot, OkSlots, ok-dirOf}
+use Rattle.theory.specs.Blocks.SlotItems.{OkSlots, ok-get, ok-dirOf}
 use Rattle.theory.specs.Commit.Tested.{regular-loads}
 use Rattle.text_input.proofs.Short.{refused-short, ruled-short, fetched-short}
 use Rattle.text_listing.proofs.Fits.{text-short}
 use Rattle.text_find.proofs.Told.{found-there}
-
-ok-slot : (D : List Slot) (i : ℕ) → OkSlots D → i < length D → OkSlot (getD D i empty)
-ok-slot [] i ok h = absurd (omega arith)
-ok-slot (s ∷ D) zero ok h = ok .0
-ok-slot (s ∷ D) (suc i) ok h = ok-slot D i (ok .1) (omega arith)
 
 found-short : (r : Rules) (name : List ℕ) (kind : ℕ) (m : LfsMdir) (b : List ℕ)
     → length (foundText r name kind m b) < 2 ^ 32
@@ -40,7 +35,7 @@ found-short r name kind m b = go (findIn r name kind (log b)) refl
         let t = found-there r name kind (log b) id (sym e) in
         let D : List Slot = dirOf (log b) in
         let ok : OkSlots D = ok-dirOf (log b) (regular-loads b (log b) refl (widest r (log b) (t .regular))) in
-        omega (arith, text-short id (getD D id empty) (ok-slot D id ok (t .inside)))
+        omega (arith, text-short id (getD D id empty) (ok-get D id ok))
     go Nothing e = omega arith
     go (Refused y) e = omega (arith, refused-short y)
 

@@ -13,10 +13,11 @@ use Rattle.format.specs.Back.{back}
 use Rattle.format.specs.Regular.{Regular, rulesOf}
 use Rattle.format.specs.Directory.{classes, Slot, empty, dirOf}
 use Rattle.format.specs.Find.{isNamed, firstNamed, findIn}
-use Rattle.format.specs.Listing.{ascii, slotText, refusedLine}
+use Rattle.format.specs.Listing.{ascii, slotText, refusedLine, fetchInput, fetchedText}
 use Rattle.format.specs.FindText.{namedText, foundText, namedBy}
 use Rattle.format.specs.declared.Rules.{Rules}
 use Rattle.format.specs.declared.Rules.the-variants.{Littlefs}
+use Rattle.format.specs.declared.LfsPair.{LfsPair}
 use Rattle.format.specs.declared.LfsMdir.{LfsMdir}
 use Rattle.format.specs.declared.Refusal.{Refusal}
 use Rattle.format.specs.declared.Refusal.the-variants.{Invalid, Irregular}
@@ -106,6 +107,11 @@ module _ (b : List ℕ) (m : LfsMdir) (w : Listable b m) where
           (slot-holds b (m .off) (m .etag) (m .count) slots id seats low g)))
 
 -- ---- the name
+-- the text of a name that is not empty, by a rule that is one
+abbrev pub foundAs : ℕ → LfsPair → ℕ → List ℕ → ℕ → List ℕ → List ℕ
+foundAs prog p rules name kind input =
+    fetchedText (foundText (rulesOf rules) name kind) p input (fetchInput prog p input)
+
 pub name-refused : (name text : List ℕ) (s r : Text) → length name ≡ 0 → r ≡ putsOf s (refusedLine Invalid)
     → r ≡ putsOf s (namedBy name text)
 name-refused name text s r h er = rw (eq-eqb (length name) 0 h) er

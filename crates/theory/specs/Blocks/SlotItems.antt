@@ -84,7 +84,7 @@ ok-app : (D E : List Slot) → OkSlots D → OkSlots E → OkSlots (D ++ E)
 ok-app [] E h k = k
 ok-app (s ∷ D) E h k = (h .0, ok-app D E (h .1) k)
 
-ok-get : (D : List Slot) (i : ℕ) → OkSlots D → OkSlot (getD D i empty)
+pub ok-get : (D : List Slot) (i : ℕ) → OkSlots D → OkSlot (getD D i empty)
 ok-get [] i h = ok-empty
 ok-get (s ∷ D) zero h = h .0
 ok-get (s ∷ D) (suc i) h = ok-get D i (h .1)
