@@ -60,6 +60,32 @@ ends "slots 10"
 tries 0 log "$pair"
 shows crates/log/stdout
 
+# ---- find: a file, a directory, no such name, and names that begin with a dash or are no plain text
+many=samples/instructions.pair
+tries 0 find "$pair" q212
+shows crates/find/stdout
+quiet err
+tries 0 find --prog-size 16 "$many" q213
+shows <(printf 'slot 3 001 q213 201 6\nattr 3 374 100e0000\nattr 3 375 01\n')
+tries 0 find "$many" $'q217 \\\xb5'
+ends "attr 7 374 80510100"
+tries 0 find --dir "$many" done
+shows <(printf 'slot 1 002 done 200 8\nattr 1 374 05000000\n')
+# none WORDS ARGUMENTS..: there is no such name
+none() { tries 1 find "${@:2}"; ends none; says "$1"; lacks REFUSALS; }
+none "no file is named 'done'" "$many" done
+none "no directory is named 'q212'" "$many" q212 --dir
+none "no file is named 'q21'" - q21 <"$many"
+none "no file is named '-x'" -- "$many" -x
+none "no file is named" "$many" "$(printf 'q%.0s' {1..2000})"
+tries 1 find crates/check_edges/data/all-erased q212
+ends "refused -84"
+says "neither block"
+misused "find takes FILE and NAME, not 1 words" find "$pair"
+misused "find takes FILE and NAME, not 3 words" find "$pair" q212 q213
+misused "--dir goes with find alone" list --dir "$pair"
+unfit "NAME is empty" find "$pair" ""
+
 refused -84 "neither block has a valid commit" crates/check_edges/data/all-erased
 tries 1 log crates/check_edges/data/all-erased # the log is shown all the same
 ends "refused -84"
@@ -174,7 +200,7 @@ door=$tree/lanolin path=$tools
 for tool in bash cat dd dirname env mktemp readlink rm sed tail tee wc; do ln -s "$(command -v $tool)" "$tools"; done
 # stub FILE COMMAND: a program that does this
 stub() { printf '#!/usr/bin/env bash\n%s\n' "$2" >"$1" && chmod +x "$1"; }
-program() { for command in list audit log; do stub "$tree/target/bin/$command" "$1"; done; }
+program() { for command in list find audit log; do stub "$tree/target/bin/$command" "$1"; done; }
 stub "$tools/uname" 'echo x86_64'
 stub "$tools/apt-get" "echo >$scratch/installed"
 stub "$tools/rt" "echo \"\$*\" >>$scratch/asked; echo 'rt: format proved (12 s)'"
@@ -196,12 +222,14 @@ told list "" 256 "$pair"
 told list "16 0 1 1" 256 --littlefs "$pair"
 told audit "8 0 1 1" 256 "$pair" --prog-size 8 --littlefs
 told audit "16 4 7 1" 256 --littlefs --block-size 128 --pair 4,7 "$volume"
+told find "1 a b" 256 "$pair" "a b"
+told find "2 q212 16 4 7 1" 256 --dir --littlefs --block-size 128 --pair 4,7 "$volume" q212
 
 # After -202 by document 01's rule, and then alone, the program is asked once more; what it shows then is not shown.
 # asked_again SAID WORDS ARGUMENTS..: what is said of littlefs's rule, and the words of each time
 asked_again() {
   : >"$scratch/words"
-  tries 1 list "${@:3}"
+  tries 1 "${asks:-list}" "${@:3}"
   [ "$(grep -F -- --littlefs "$scratch/err")" = "${1:+lanolin: $1}" ] || fail "says $(cat "$scratch/err")"
   [ "$(paste -sd/ "$scratch/words")" = "$2" ] || fail "has the program told $(cat "$scratch/words")"
   [ "$(wc -l <"$scratch/out")" = 1 ] || fail "shows $(cat "$scratch/out")"
@@ -210,6 +238,8 @@ note="echo \"\$*\" >>$scratch/words"
 program "$note; [ \$# = 4 ] && echo fine || echo 'refused -202'"
 asked_again "$hint" "/16 0 1 1" "$pair"
 asked_again "$hint" "8 4 7/8 4 7 1" --prog-size 8 --block-size 128 --pair 4,7 "$volume"
+program "$note; [ \$# = 6 ] && echo none || echo 'refused -202'"
+asks=find asked_again "$hint" "1 q212/1 q212 16 0 1 1" "$pair" q212 # none is an answer too
 program "$note; echo 'refused -202'"
 asked_again "" "/16 0 1 1" "$pair"
 asked_again "" "16 0 1 1" --littlefs "$pair"

@@ -1,7 +1,7 @@
 #!/usr/bin/env python3
-"""The program find against the listings that samples/make_listings.py worked out: of each case a name that is there
+"""The program find against the listings that samples/make_listings.py worked out: a name that is there
 shows the lines of the lowest slot that has it, as the listing has them; others show none; and what is refused to the
-listing is refused to find. One rule for each case, by turns; the names take their turn too, so that all kinds come up.
+listing is refused to find. One question for each case; names, kinds of other names and rules take turns.
 
     tests/listing/find.py samples/listings PROGRAM..
 
@@ -46,8 +46,8 @@ def has(case, image, rule, kind, name, expected):
 
 def others(kind, name):
     """Names near one that is there: the other type, a prefix, a longer one, one with another last byte."""
-    return [(3 - kind, name), (kind, name[:-1]), (kind, name + b"."), (kind, name[:-1] + bytes([name[-1] ^ 1])),
-            (kind + 0x100, name), (kind, name * 1023)]
+    return [(kind ^ 3, name), (kind, name[:-1]), (kind, name + b"."), (kind, name[:-1] + bytes([name[-1] ^ 1])),
+            (kind + 0x100, name), (kind + 0x800, name), (kind, name * 1023)]
 
 
 listings = texts("expected"), texts("expected-littlefs")
@@ -67,11 +67,11 @@ with open(f"{folder}/cases") as f:
             there.setdefault(key, lines)
         # an argument has no zero byte
         keys = [key for key in there if 0 not in key[1]] or [(1, b"q212")]
-        key = keys[turn // 2 % len(keys)]
-        near = others(*key)[turn // 2 % 6]
-        for asked in (key, near):
-            if asked[1] and 0 not in asked[1]:
-                has(case, image, rule, *asked, there.get(asked, "none\n"))
+        asked = keys[turn // 2 % len(keys)]
+        if turn // 2 % 3 == 0:
+            asked = others(*asked)[turn // 6 % 7]
+        if asked[1] and 0 not in asked[1]:
+            has(case, image, rule, *asked, there.get(asked, "none\n"))
 has("an empty name", b"", 0, 1, b"", "refused -22\n")
 if min(shown.values()) < 10:
     sys.exit(f"too few: {shown}")

@@ -6,6 +6,7 @@ pub mod Room
 pub mod Walks
 pub mod Rules
 pub mod Littlefs
+pub mod Find
 pub mod Pairs
 pub mod Lookups
 pub mod Text

@@ -114,10 +114,10 @@ module _ (g : Geometry) (b0 b1 : List ℕ) (n0 n1 : ℕ) (dir : LfsMdir) (gdisk 
   )
 
 -- ---- the texts: the length, and the buffer afterwards
-abbrev TextDecided : List ℕ → List ℕ → Type 0
+abbrev pub TextDecided : List ℕ → List ℕ → Type 0
 TextDecided out text = Decides (length text) × Decides (writtenTo out text)
 
-text-decided : (out text : List ℕ) → TextDecided out text
+pub text-decided : (out text : List ℕ) → TextDecided out text
 text-decided out text = (decided (length text), decided (writtenTo out text))
 
 pub list-as-decided : (prog : ℕ) (p : LfsPair) (rules : ℕ) (input out : List ℕ)

@@ -21,5 +21,6 @@ pub mod Rules
 -- The directory machine; that a slot by its name is what asking slot by slot gives; and demand 3.
 pub mod Directory
 pub mod Find
+pub mod FindAnswer
 pub mod Stopped
 pub mod Example
