@@ -1,24 +1,23 @@
 -- What an entry does to the ids: a name, a create, a delete, and all others. Assumes nothing.
 use mathlib.Core.Path.{_≡_, refl, sym, ap, subst, _∙_}
-use mathlib.Core.Logic.{_≢_, _⊎_, inl, inr}
+use mathlib.Core.Logic.{_≢_, inl}
 use mathlib.Core.Bool.{Bool, true, false, cond}
 use mathlib.Core.Option.{Option, some}
 use mathlib.Core.List.{List}
-use Prim.Native.Nat.{ℕ, _+_, _-_, _^_, _≤_}
+use Prim.Native.Nat.{ℕ, _+_, _-_, _≤_}
 use native.Mathlib.Omega.{arith}
 use lib.ListN.{length, take, drop}
 use lib.Seq.{drop-drop}
-use lib.Dec.{eqb}
 use borrow.Author.Tests.{eq-eqb, ne-eqb, eqb-false}
 use Rattle.format.specs.Tag.{tagType1, tagType3, tagChunk, tagId, tagSize, removalSize, tagDelete, tagLength}
-use Rattle.format.specs.Kind.{typeName, typeCreate, typeDelete, isName, isWide}
+use Rattle.format.specs.Kind.{typeName, typeCreate, typeDelete}
 use Rattle.format.specs.Walk.{bodyLength, bodyOf}
 use Rattle.format.specs.Directory.{Load, Act, put, skip, isStruct, isAttr, loadOf, act}
 use Rattle.format.specs.Find.{isNamed}
 use Rattle.format.proofs.Tags.{length-size}
 use Rattle.theory.specs.Directory.Types.{type1-of, not-wide, act-name, act-create, act-delete}
 use Rattle.find_set.specs.Set.{made, removed, assigned}
-use Rattle.find_pass.specs.Pass.{Holds, Keeps, marked, Followable}
+use Rattle.find_pass.specs.Pass.{Keeps, marked, Followable}
 
 -- ---- a name's data
 name-type : (t : ℕ) → tagType1 t ≡ typeName → tagType3 t ≤ 0xff

@@ -9,10 +9,10 @@ use native.Mathlib.Omega.{arith}
 use lib.ListN.{length, getD, set, take, drop, List·getD-eq-default}
 use lib.Seq.{getD-set-same, getD-set-other}
 use lib.Dec.{eqb, ltb}
-use borrow.Author.Tests.{eq-eqb, ne-eqb, eqb-true, eqb-false, lt-ltb, le-ltb, ltb-true, ltb-false}
+use borrow.Author.Tests.{ne-eqb, eqb-true, eqb-false, lt-ltb, le-ltb, ltb-true, ltb-false}
 use Rattle.format.specs.Directory.{Load, Slot, Act, mk, rm, put, skip, empty, upd, reaching, apply}
 use Rattle.format.specs.Find.{isNamed, firstNamed}
-use Rattle.format.specs.declared.Named.the-variants.{At, Nothing}
+use Rattle.format.specs.declared.Named.the-variants.{At}
 use Rattle.format.proofs.Slots.{length-reaching, getD-reaching}
 use Rattle.theory.specs.Directory.Machine.{Allowed, ins-before, ins-at, ins-after, del-before, del-after}
 use Rattle.find_set.specs.Set.{made, removed, assigned, lowest}

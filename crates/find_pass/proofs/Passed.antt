@@ -1,6 +1,6 @@
 -- An entry and a check of a log, by the rules: what they leave to ask of the events behind them. Assumes nothing.
-use mathlib.Core.Path.{_≡_, refl, sym, ap, _∙_}
-use mathlib.Core.Bool.{Bool, true, false, not, _&&_}
+use mathlib.Core.Path.{_≡_, refl, sym, _∙_}
+use mathlib.Core.Bool.{Bool, true, false, not}
 use mathlib.Core.List.{List, _∷_}
 use Prim.Native.Nat.{ℕ}
 use native.Mathlib.Omega.{arith}
@@ -9,7 +9,6 @@ use Rattle.format.specs.Tag.{tagId, tagSize}
 use Rattle.format.specs.Walk.{Event, ent, chk}
 use Rattle.format.specs.Regular.{between, ruleHolds, countAfter, growsAfter, loggedRule, countAt, regularFrom}
 use Rattle.commit_rules.specs.Rules.{countedAs, passedBy}
-use Rattle.commit_rules.specs.declared.Ruled.{Ruled}
 use Rattle.commit_rules.specs.declared.Ruled.the-variants.{Bad, To}
 
 -- ---- a check; x is what `check_fits` answers

@@ -1,6 +1,6 @@
 -- A turn of the pass: what stands at its place in the committed log, and what it keeps. Assumes nothing.
 use mathlib.Core.Path.{_≡_, refl, sym, ap, _∙_}
-use mathlib.Core.Logic.{_≢_, _⊎_, inl, inr}
+use mathlib.Core.Logic.{_⊎_, inl, inr}
 use mathlib.Core.Bool.{Bool, true, false, not}
 use mathlib.Core.Option.{Option, none}
 use mathlib.Core.List.{List, [], _∷_}
@@ -14,19 +14,19 @@ use Rattle.format.specs.Word.{be32, xor, allOnes}
 use Rattle.format.specs.Crc.{crc}
 use Rattle.format.specs.Tag.{tagType3, tagId, tagSize, tagLength, tagFlipped}
 use Rattle.format.specs.Kind.{isCheck}
-use Rattle.format.specs.Walk.{Event, ent, chk, inv, bodyOf, walk}
-use Rattle.format.specs.Log.{keptBefore, committed, log, span, eventLength, logEnd}
+use Rattle.format.specs.Walk.{Event, ent, chk, bodyOf, walk}
+use Rattle.format.specs.Log.{keptBefore, committed, log, span, eventLength}
 use Rattle.format.specs.Regular.{Rule, ruleOf, between, countRaised, growsAfter, grows, loggedRule, countAt}
 use Rattle.format.specs.Regular.{regularFrom, Regular}
 use Rattle.format.specs.Directory.{Load, Slot, act, acts, apply, applyAll, dir, dirOf}
-use Rattle.format.specs.Find.{isNamed, firstNamed, findIn}
+use Rattle.format.specs.Find.{isNamed, findIn}
 use Rattle.format.specs.declared.Rules.{Rules}
 use Rattle.format.specs.declared.Refusal.the-variants.{Irregular}
 use Rattle.format.specs.declared.Named.the-variants.{Refused}
 use Rattle.format.specs.declared.Named.{Named}
 use Rattle.format.proofs.Words.{tagLength-ge}
 use Rattle.format.proofs.Classes.{Whole}
-use Rattle.fetch_walk.specs.Next.{nextOf, startOf, tagAt}
+use Rattle.fetch_walk.specs.Next.{nextOf, tagAt}
 use Rattle.fetch_walk.specs.State.{from}
 use Rattle.fetch_walk.specs.declared.cursor.Cursor.{Cursor}
 use Rattle.fetch_walk.specs.declared.cursor.Seen.{Seen}

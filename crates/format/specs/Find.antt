@@ -1,7 +1,7 @@
 -- Document 02, L4: "a pass over the chosen block that answers the lowest id whose live name has the given bytes and
 -- type, or none". What it answers, said of the directory machine; that it is what asking slot by slot gives is a theorem
 -- (`find-is-asking` of promises). Assumes nothing.
-use mathlib.Core.Bool.{Bool, true, false, not, cond, _&&_, _||_}
+use mathlib.Core.Bool.{Bool, true, false, not, cond, _&&_}
 use mathlib.Core.Option.{Option, none, some}
 use mathlib.Core.List.{List, [], _∷_}
 use Prim.Native.Nat.{ℕ, suc}

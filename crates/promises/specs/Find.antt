@@ -8,7 +8,6 @@ use mathlib.Core.List.{List, [], _∷_, _++_}
 use Prim.Native.Nat.{ℕ, zero, suc, _+_, _-_, _^_, _≤_, _<_}
 use native.Mathlib.Omega.{arith}
 use lib.ListN.{length, take, replicate, getD, length-replicate}
-use lib.Seq.{take-all}
 use lib.Dec.{eqb}
 use borrow.Author.Tests.{ne-eqb, lt-ltb}
 use Rattle.format.specs.Tag.{tagType3, tagSize, tagOf}
@@ -21,10 +20,9 @@ use Rattle.format.specs.Look.{maskType1}
 use Rattle.format.specs.Lookup.{blockOf, blankBuffer, getsliceOf, getsliceBuffer}
 use Rattle.format.specs.Regular.{Regular, rulesFit, rulesOf}
 use Rattle.format.specs.Directory.{Load, Slot, empty, dirOf}
-use Rattle.format.specs.Machine.{machineOf, heldWord, heldBuffer}
+use Rattle.format.specs.Machine.{heldWord, heldBuffer}
 use Rattle.format.specs.Machine as machine
-use Rattle.format.specs.Stopped.{Shows}
-use Rattle.format.specs.Writer.{blockAt, isSecond}
+use Rattle.format.specs.Writer.{isSecond}
 use Rattle.format.specs.Find.{sameBytes, isNamed, firstNamed, findIn, findOf}
 use Rattle.format.specs.declared.Geometry.{Geometry}
 use Rattle.format.specs.declared.LfsMdir.{LfsMdir}

@@ -12,7 +12,7 @@ use Rattle.format.specs.declared.Rules.{Rules}
 use Rattle.format.proofs.Growing.{widest}
 use Rattle.format.specs.Directory.{Slot, empty, dirOf}
 use Rattle.format.specs.Find.{findIn}
-use Rattle.format.specs.Listing.{slotText, refusedLine, fetchInput, fetchedText}
+use Rattle.format.specs.Listing.{refusedLine, fetchInput, fetchedText}
 use Rattle.format.specs.FindText.{namedText, foundText, namedBy, findTextAs}
 use Rattle.format.specs.declared.LfsPair.{LfsPair}
 use Rattle.format.specs.declared.LfsMdir.{LfsMdir}

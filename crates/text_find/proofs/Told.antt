@@ -2,21 +2,19 @@
 use mathlib.Core.Path.{_≡_, refl, sym, ap, _∙_}
 use mathlib.Core.Bool.{Bool, true, false, cond}
 use mathlib.Core.List.{List, [], _∷_, map}
-use Prim.Native.Nat.{ℕ, zero, suc, _+_, _^_, _≤_, _<_}
+use Prim.Native.Nat.{ℕ, suc, _+_, _≤_, _<_}
 use native.Mathlib.Omega.{arith}
 use lib.ListN.{length, getD}
 use borrow.Author.Tests.{eq-eqb, ne-eqb}
-use lib.Dec.{eqb}
 use Rattle.format.specs.Log.{log}
 use Rattle.format.specs.Walk.{Event}
 use Rattle.format.specs.Back.{back}
 use Rattle.format.specs.Regular.{Regular, rulesOf}
-use Rattle.format.specs.Directory.{classes, Slot, empty, dirOf}
+use Rattle.format.specs.Directory.{Slot, empty, dirOf}
 use Rattle.format.specs.Find.{isNamed, firstNamed, findIn}
 use Rattle.format.specs.Listing.{ascii, slotText, refusedLine, fetchInput, fetchedText}
 use Rattle.format.specs.FindText.{namedText, foundText, namedBy}
 use Rattle.format.specs.declared.Rules.{Rules}
-use Rattle.format.specs.declared.Rules.the-variants.{Littlefs}
 use Rattle.format.specs.declared.LfsPair.{LfsPair}
 use Rattle.format.specs.declared.LfsMdir.{LfsMdir}
 use Rattle.format.specs.declared.Refusal.{Refusal}

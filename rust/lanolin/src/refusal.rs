@@ -4,7 +4,7 @@
 //! `crates/format/src/lib.rt`.
 //!
 //! That a call gives no other answers than its own is proved (`fetch-possible`,
-//! `getslice-possible`, `commit-possible`, `compact-possible`), of the archive of
+//! `getslice-possible`, `find-possible`, `commit-possible`, `compact-possible`), of the archive of
 //! this repository. A number of another archive is handed on as it is: a
 //! controller is not to stop for it.
 

@@ -1,5 +1,5 @@
 -- `lanolin_answers::named_out` meets its contract: the id with 0, nothing, or a refusal's number. Assumes nothing.
-use mathlib.Core.Path.{_≡_, sym, ap, _∙_}
+use mathlib.Core.Path.{sym, ap, _∙_}
 use mathlib.Core.Bool.{false}
 use lib.IntN.{ℤ}
 use mir.Facts.{toZ-ofZ}
