@@ -1,6 +1,6 @@
 #!/usr/bin/env python3
-"""The fourth number of the programs list, audit and find, the rule of a regular log: 0 is document 01's, as where there is
-none, 1 is littlefs's, any other is refused; and what is no number is not understood.
+"""The fourth number of the programs list, audit and find, the rule of a regular log: 0 is document 01's, as where there
+is none, 1 is littlefs's, any other is refused; and what is no number is not understood.
 
     tests/listing/rules.py PAIR PROGRAM..     PAIR: one that only littlefs's rule takes; PROGRAM: with the words that
                                               stand before the numbers

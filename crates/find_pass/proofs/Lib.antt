@@ -5,4 +5,5 @@ pub mod Entry
 pub mod Flags
 pub mod Kept
 pub mod Passed
+pub mod Place
 pub mod Turn
