@@ -22,9 +22,10 @@ extern "C" {
 
 /* ---- names: the results, the types of entries, the masks of a lookup, and the limits */
 
-/* The version, as littlefs has its own: the major number in the upper half, the minor in the lower. */
+/* The version, as littlefs has its own: the major number in the upper half, the minor in the lower. With 0.6
+ * lanolin_mdir has the forward check at its end: callers of 0.5 and before are compiled again. */
 #define LANOLIN_VERSION_MAJOR 0
-#define LANOLIN_VERSION_MINOR 5
+#define LANOLIN_VERSION_MINOR 6
 #define LANOLIN_VERSION (LANOLIN_VERSION_MAJOR << 16 | LANOLIN_VERSION_MINOR)
 
 /* Results. The first four refusals are littlefs's LFS_ERR_ numbers, the others are this project's own. */
@@ -60,7 +61,7 @@ extern "C" {
 #define LANOLIN_TYPE_CREATE 0x401       /* a slot comes in; those from its id on move up */
 #define LANOLIN_TYPE_DELETE 0x4ff       /* a slot goes; those behind it move down */
 #define LANOLIN_TYPE_CCRC 0x500         /* the check that closes a commit, by lanolin_tag_type2; the commit makes it */
-#define LANOLIN_TYPE_FCRC 0x5ff         /* the forward check of the room behind a commit; read, but not written */
+#define LANOLIN_TYPE_FCRC 0x5ff         /* the forward check of the room behind a commit; the commit makes it */
 #define LANOLIN_TYPE_TAIL 0x600         /* (class) a tail: the two block numbers of the next pair */
 #define LANOLIN_TYPE_SOFTTAIL 0x600     /* to another directory */
 #define LANOLIN_TYPE_HARDTAIL 0x601     /* to the rest of the same directory */
@@ -93,16 +94,20 @@ extern "C" {
 /* Block size 128 to 32,768, program size 4 to 512, block size a multiple of it: else LANOLIN_ERR_INVAL. */
 typedef struct { uint32_t block_size, prog_size; } lanolin_geometry;
 
-/* The record of a metadata pair, as lanolin_fetch reads it. Lookups read pair, off and etag alone. */
+/* The record of a metadata pair, as lanolin_fetch reads it. Lookups read pair, off and etag alone. Two records are
+ * compared field by field: the bytes between `forward` and `forward_size` may be any. */
 typedef struct {
-    uint32_t pair[2]; /* the answering block's number first */
-    uint32_t rev;     /* its revision */
-    uint32_t off;     /* where its committed log ends */
-    uint32_t etag;    /* the tag there */
-    uint16_t count;   /* slots */
-    bool erased;      /* the room behind the end passed its forward check; that it is empty this does not say */
-    bool split;       /* the tail is hard */
-    uint32_t tail[2]; /* two LANOLIN_BLOCK_NULL: none */
+    uint32_t pair[2];      /* the answering block's number first */
+    uint32_t rev;          /* its revision */
+    uint32_t off;          /* where its committed log ends */
+    uint32_t etag;         /* the tag there */
+    uint16_t count;        /* slots */
+    bool erased;           /* the room behind the end passed its forward check; that it is empty this does not say */
+    bool split;            /* the tail is hard */
+    uint32_t tail[2];      /* two LANOLIN_BLOCK_NULL: none */
+    bool forward;          /* the log has a committed forward check; its last one, which decides `erased`, is */
+    uint32_t forward_size; /* over so many bytes behind the end: the program size, as this library writes it */
+    uint32_t forward_sum;  /* with this checksum, lanolin_crc from 0xffffffff; both are 0 where there is none */
 } lanolin_mdir;
 
 /* The global state: three words that XOR. */
@@ -180,8 +185,8 @@ int32_t lanolin_getgstate(lanolin_geometry g, const uint8_t *b0, size_t b0_len, 
 /* The lowest id whose slot's name has exactly these bytes and this type (LANOLIN_TYPE_REG, LANOLIN_TYPE_DIR; any number
  * may be asked for), or none, in one pass over the block that lanolin_fetch answers from: what asking slot by slot
  * gives, where no move is pending. It reads no global state. An empty name is LANOLIN_ERR_INVAL; a pair that
- * lanolin_fetch refuses is refused alike, LANOLIN_ERR_NOENT too (more than 1,023 slots); `rules` is as the writing calls
- * take it, and a log that is not regular by it is LANOLIN_ERR_IRREGULAR. */
+ * lanolin_fetch refuses is refused alike, LANOLIN_ERR_NOENT too (more than 1,023 slots); `rules` is as the writing
+ * calls take it, and a log that is not regular by it is LANOLIN_ERR_IRREGULAR. */
 lanolin_named lanolin_find(lanolin_geometry g, const uint8_t *b0, size_t b0_len, const uint8_t *b1, size_t b1_len,
                            uint32_t n0, uint32_t n1, uint32_t block_count, uint32_t seed, uint32_t rules,
                            const uint8_t *name, size_t name_len, uint32_t type);
@@ -198,7 +203,11 @@ lanolin_named lanolin_find(lanolin_geometry g, const uint8_t *b0, size_t b0_len,
  *
  * Any other number is LANOLIN_ERR_INVAL. Use the first for pairs that this library wrote; the second takes these too,
  * with the same answers and bytes, and pairs that littlefs itself compacted. The entries of a commit are judged by
- * lanolin_entry alone, and what a compaction writes is regular by both. */
+ * lanolin_entry alone, and what a compaction writes is regular by both.
+ *
+ * Behind its entries a commit, and so a compaction, carries a forward check of the program unit behind its new end: by
+ * it littlefs sees that this is erased, and appends there. It takes 12 bytes, and is left out where with them no unit
+ * would follow in the block; so it never makes the difference to LANOLIN_ERR_NOSPC. */
 
 /* One commit of all the entries, appended to the block that answers; answers what a fetch of the finished pair from the
  * same seed gives. Where there is no room for it the result says why; LANOLIN_NEEDS_COMPACTION says that a compaction
@@ -320,22 +329,24 @@ void lanolin_gstate_xor(lanolin_gstate *a, const lanolin_gstate *b);
 LANOLIN_LAYOUT_(sizeof(bool) == 1)
 LANOLIN_LAYOUT_(sizeof(lanolin_geometry) == 8 && LANOLIN_AT_(geometry, block_size, 0) &&
                 LANOLIN_AT_(geometry, prog_size, 4))
-LANOLIN_LAYOUT_(sizeof(lanolin_mdir) == 32 && LANOLIN_AT_(mdir, pair, 0) && LANOLIN_AT_(mdir, rev, 8) &&
+LANOLIN_LAYOUT_(sizeof(lanolin_mdir) == 44 && LANOLIN_AT_(mdir, pair, 0) && LANOLIN_AT_(mdir, rev, 8) &&
                 LANOLIN_AT_(mdir, off, 12) && LANOLIN_AT_(mdir, etag, 16) && LANOLIN_AT_(mdir, count, 20) &&
-                LANOLIN_AT_(mdir, erased, 22) && LANOLIN_AT_(mdir, split, 23) && LANOLIN_AT_(mdir, tail, 24))
+                LANOLIN_AT_(mdir, erased, 22) && LANOLIN_AT_(mdir, split, 23) && LANOLIN_AT_(mdir, tail, 24) &&
+                LANOLIN_AT_(mdir, forward, 32) && LANOLIN_AT_(mdir, forward_size, 36) &&
+                LANOLIN_AT_(mdir, forward_sum, 40))
 LANOLIN_LAYOUT_(sizeof(lanolin_gstate) == 12 && LANOLIN_AT_(gstate, tag, 0) && LANOLIN_AT_(gstate, pair, 4))
 LANOLIN_LAYOUT_(sizeof(lanolin_entry) == 12 && LANOLIN_AT_(entry, type, 0) && LANOLIN_AT_(entry, id, 2) &&
                 LANOLIN_AT_(entry, off, 4) && LANOLIN_AT_(entry, len, 8))
 LANOLIN_LAYOUT_(sizeof(lanolin_value) == 8 && LANOLIN_AT_(value, result, 0) && LANOLIN_AT_(value, value, 4))
 LANOLIN_LAYOUT_(sizeof(lanolin_pair) == 8 && LANOLIN_AT_(pair, pair, 0))
-LANOLIN_LAYOUT_(sizeof(lanolin_fetched) == 40 && LANOLIN_AT_(fetched, result, 0) && LANOLIN_AT_(fetched, dir, 4) &&
-                LANOLIN_AT_(fetched, seed, 36))
+LANOLIN_LAYOUT_(sizeof(lanolin_fetched) == 52 && LANOLIN_AT_(fetched, result, 0) && LANOLIN_AT_(fetched, dir, 4) &&
+                LANOLIN_AT_(fetched, seed, 48))
 LANOLIN_LAYOUT_(sizeof(lanolin_got) == 16 && LANOLIN_AT_(got, result, 0) && LANOLIN_AT_(got, tag, 4) &&
                 LANOLIN_AT_(got, length, 8) && LANOLIN_AT_(got, off, 12))
 LANOLIN_LAYOUT_(sizeof(lanolin_info) == 268 && LANOLIN_AT_(info, result, 0) && LANOLIN_AT_(info, type, 4) &&
                 LANOLIN_AT_(info, size, 8) && LANOLIN_AT_(info, name, 12))
-LANOLIN_LAYOUT_(sizeof(lanolin_committed) == 44 && LANOLIN_AT_(committed, result, 0) &&
-                LANOLIN_AT_(committed, index, 4) && LANOLIN_AT_(committed, dir, 8) && LANOLIN_AT_(committed, seed, 40))
+LANOLIN_LAYOUT_(sizeof(lanolin_committed) == 56 && LANOLIN_AT_(committed, result, 0) &&
+                LANOLIN_AT_(committed, index, 4) && LANOLIN_AT_(committed, dir, 8) && LANOLIN_AT_(committed, seed, 52))
 LANOLIN_LAYOUT_(sizeof(lanolin_stored) == 12 && LANOLIN_AT_(stored, result, 0) && LANOLIN_AT_(stored, index, 4) &&
                 LANOLIN_AT_(stored, stores, 8))
 LANOLIN_LAYOUT_(sizeof(lanolin_named) == 12 && LANOLIN_AT_(named, result, 0) && LANOLIN_AT_(named, found, 4) &&

@@ -3,7 +3,8 @@
 examples must print of them, examples/restart.expected: first q212.pair, then instructions.pair.
 
 The images come from writer.py, the text from the tables of what each pair holds in the end; nothing is taken from the
-port or from the examples. A table says it by hand: no reader of logs stands between. Run by hand when a pair changes.
+port or from the examples. A table says it by hand: no reader of logs stands between. The pairs are as the library wrote
+them before it wrote forward checks, and stay so, byte for byte. Run by hand when a pair changes.
 """
 import os
 
@@ -30,7 +31,7 @@ def log(size, revision, first, *later):
     """A block: its first commit, and the later ones behind it."""
     image, end, last = block(size, PROG, entry_tags(*entries(*first)), revision)
     for commit in later:
-        image, _, end, last = appended(image, PROG, end, last, *entries(*commit), None)
+        image, _, end, last = appended(image, PROG, end, last, *entries(*commit), None, forward=False)
     return image
 
 

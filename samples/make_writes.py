@@ -2,8 +2,8 @@
 """Writes samples/writes/cases and samples/writes/expected: commits and compactions at the edges of document 01, and
 what each must answer and leave.
 
-What is expected is worked out here from document 01 and the sentence of littlefs's rule alone, by a writer and a reader
-of its own (writer.py, reader.py); nothing is taken from the port. A case is one line,
+What is expected is worked out here from document 01, the sentence of littlefs's rule and document 02's forward check
+alone, by a writer and a reader of its own (writer.py, reader.py); nothing is taken from the port. A case is one line,
     NAME OP BLOCK PROG N0 N1 COUNT SEED RULES LIMIT IMAGE0 IMAGE1 ENTRIES DATA
 with OP commit or compact, RULES the rule of a regular log by its number, LIMIT a number of stores or -, images and data
 as runs of hex (aa*9 is aa nine times), ENTRIES as type:id:off:len*times, all joined by commas, - for none. Run by hand
@@ -12,8 +12,8 @@ when the set changes.
 import os
 
 from reader import DOCUMENT_01, LITTLEFS, Log, attributes, fetched
-from writer import (ATTR, CREATE, DELETE, FILE, HARD, INLINE, MOVE, SOFT, appended, block, check_size, checksum,
-                    compacted, runs, tag)
+from writer import (ATTR, CREATE, DELETE, FILE, FORWARD, HARD, INLINE, MOVE, SOFT, appended, block, check_size,
+                    checksum, compacted, entry_tags, forward_check, runs, tag, with_forward)
 
 ROOT = os.path.dirname(os.path.abspath(__file__))
 HERE = os.path.join(ROOT, "writes")
@@ -53,35 +53,46 @@ def refused(name, op, size, prog, images, entries, data, number, index=0, **more
     case(name, op, size, prog, images, entries, data, f"refused {number} index {index}", images, **more)
 
 
+def record(prog, after, stop, this, count, revision):
+    """What is printed of the record: end, end tag, count and revision by the writer, and so by the reader, which says
+    the erased mark and the last committed forward check."""
+    log = fetched(b"".join(after), prog)[1]
+    assert (log.ends, log.last, log.count, log.revision) == (stop, this, count, revision)
+    forward = "none" if log.forward is None else f"{log.forward[0]} {log.forward[1]:08x}"
+    erased = "yes" if log.erased(prog) else "no"
+    return f"end {stop} tag {this:08x} count {count} rev {revision} erased {erased} forward {forward}"
+
+
+def accepted(name, op, prog, images, entries, data, after, written, count, revision, **more):
+    """`written` is what the writer says: how many stores were made, where the whole commit ends, and its end tag."""
+    made, stop, this = written
+    answer = f"made {made}"
+    if more.get("limit") is None:
+        answer = record(prog, after, stop, this, count, revision)
+    case(name, op, len(images[0]), prog, images, entries, data, answer, after, **more)
+
+
 def accepted_commit(name, size, prog, base, entries, data, count, limit=None):
     first, end, last = block(size, prog, base)
     erased = b"\xff" * size
-    after, made, stop, this = appended(first, prog, end, last, entries, data, limit)
-    answer = f"made {made}" if limit is not None else f"end {stop} tag {this:08x} count {count} rev 1"
-    case(name, "commit", size, prog, (first, erased), entries, data, answer, (after, erased), limit=limit)
+    after, *written = appended(first, prog, end, last, entries, data, limit)
+    accepted(name, "commit", prog, (first, erased), entries, data, (after, erased), written, count, 1, limit=limit)
 
 
-def accepted_compaction(name, size, prog, base, held, count, limit=None, revision=1, extra=()):
-    """`base` and then `extra` are in the log; `held` is what document 01 lays down of them."""
-    first, end, last = block(size, prog, base, revision)
-    if extra:
-        first, _, end, last = appended(first, prog, end, last, list(extra), b"", None)
-    old = b"\x55" * size
-    new, made, stop, this = compacted(size, prog, (revision + 1) % 2 ** 32, held, limit, old)
-    answer = f"end {stop} tag {this:08x} count {count} rev {(revision + 1) % 2 ** 32}"
-    if limit is not None:
-        answer = f"made {made}"
-    case(name, "compact", size, prog, (first, old), [], b"", answer, (first, new), limit=limit)
+def accepted_compaction(name, size, prog, base, held, count, limit=None, revision=1):
+    """`base` is in the log; `held` is what document 01 lays down of it."""
+    first, old, raised = block(size, prog, base, revision)[0], b"\x55" * size, (revision + 1) % 2 ** 32
+    new, *written = compacted(size, prog, raised, held, limit, old)
+    accepted(name, "compact", prog, (first, old), [], b"", (first, new), written, count, raised, limit=limit)
 
 
-def coincidence(prog, end, start, last, entries):
+def coincidence(size, prog, end, start, last, entries, forward=True):
     """An attribute of slot 0 whose four bytes make the checksum behind the check tag's first byte, filled with 0xff,
-    0xffffffff. The checksum is linear in the four bytes, so one solves 32 equations in 32 unknowns."""
+    0xffffffff. The checksum is linear in the four bytes, so one solves 32 equations in 32 unknowns. Where `forward` is
+    false, those of the commit without its forward check."""
     def after(value):
-        body = value.to_bytes(4, "little")
-        word = b""
-        previous = last
-        for this, data in entries + [(tag(ATTR, 0, 4), body)]:
+        word, previous, laid = b"", last, entries + [(tag(ATTR, 0, 4), value.to_bytes(4, "little"))]
+        for this, data in with_forward(size, prog, end, laid) if forward else laid:
             word += (this ^ previous).to_bytes(4, "big") + data
             previous = this
         check = tag(0x500, 1023, check_size(prog, end + len(word))) ^ previous
@@ -156,14 +167,14 @@ refused("commit-first-byte-not-erased", "commit", 128, 16, (image[:48] + b"\xfe"
         SECONDS, -213, 48)
 refused("commit-three-bytes-not-erased", "commit", 128, 16,
         (image[:70] + b"\x7f" + image[71:90] + b"\x00" + dirty[91:], erased), DEADLINE, SECONDS, -213, 70)
-# the first commit of a log that was cut short behind 5 of its 16 bytes, and the one that it is tried again with
+# the first commit of a log that was cut short behind 5 of its bytes, and the one that it is tried again with
 torn = appended(image, 16, end, last, DEADLINE, SECONDS, 5)[0]
 refused("commit-torn", "commit", 128, 16, (torn, erased), DEADLINE, SECONDS, -213, 48)
 refused("commit-torn-limited", "commit", 128, 16, (torn, erased), DEADLINE, SECONDS, -213, 48, limit=3)
 # the padding of the last check is no room: bytes 39 to 47 may be anything
 padded = image[:39] + b"\x00" * 9 + image[48:]
-case("commit-behind-padding", "commit", 128, 16, (padded, erased), DEADLINE, SECONDS,
-     "end 64 tag 500ffc04 count 1 rev 1", (appended(padded, 16, end, last, DEADLINE, SECONDS, None)[0], erased))
+after, *written = appended(padded, 16, end, last, DEADLINE, SECONDS, None)
+accepted("commit-behind-padding", "commit", 16, (padded, erased), DEADLINE, SECONDS, (after, erased), written, 1, 1)
 # two reasons at once, and all three: the first of "misaligned end, top bit, byte" is given
 refused("commit-misaligned-before-top-bit", "commit", 128, 32, (flipped, erased), DEADLINE, SECONDS, -211)
 refused("commit-misaligned-before-byte", "commit", 128, 32, (dirty, erased), DEADLINE, SECONDS, -211)
@@ -175,14 +186,22 @@ refused("commit-no-space-before-misaligned", "commit", 128, 32, (image, erased),
 refused("commit-no-space-before-top-bit", "commit", 128, 16, (flipped, erased), large, b"p" * 69, -28)
 refused("commit-no-space-before-byte", "commit", 128, 16, (dirty, erased), large, b"p" * 69, -28)
 refused("commit-misaligned-before-coincidence", "commit", 128, 32, (image, erased), DEADLINE,
-        coincidence(32, end, b"", last, []), -211)
+        coincidence(128, 32, end, b"", last, []), -211)
 refused("commit-top-bit-before-coincidence", "commit", 128, 16, (flipped, erased), DEADLINE,
-        coincidence(16, end, b"", top, []), -212)
+        coincidence(128, 16, end, b"", top, []), -212)
 refused("commit-byte-before-coincidence", "commit", 128, 16, (dirty, erased), DEADLINE,
-        coincidence(16, end, b"", last, []), -213, 127)
-refused("commit-coincidence", "commit", 128, 16, (image, erased), DEADLINE, coincidence(16, end, b"", last, []), -204)
-refused("commit-coincidence-limited", "commit", 128, 16, (image, erased), DEADLINE, coincidence(16, end, b"", last, []),
-        -204, limit=3)
+        coincidence(128, 16, end, b"", last, []), -213, 127)
+fatal = coincidence(128, 16, end, b"", last, [])
+refused("commit-coincidence", "commit", 128, 16, (image, erased), DEADLINE, fatal, -204)
+refused("commit-coincidence-limited", "commit", 128, 16, (image, erased), DEADLINE, fatal, -204, limit=3)
+# the forward check is in the sum: what would coincide without it is taken where it is carried, and refused where not
+bare = coincidence(128, 16, end, b"", last, [], forward=False)
+assert bare != fatal
+accepted_commit("commit-coincidence-but-for-the-forward-check", 128, 16, SLOT, DEADLINE, bare, 1)
+long = [(INLINE, 0, 4, 40)]
+late = coincidence(128, 16, end, b"", last, entry_tags(long, b"p" * 44))
+refused("commit-coincidence-without-forward-check", "commit", 128, 16, (image, erased), long + DEADLINE,
+        late + b"p" * 40, -204)
 
 # ---- compactions
 for size, prog in ((128, 4), (128, 16), (765, 255), (1024, 512)):
@@ -205,14 +224,15 @@ refused("compact-equal-numbers", "compact", 128, 16, (image, erased), [], b"", -
 refused("compact-of-nothing-valid", "compact", 128, 16, (erased, erased), [], b"", -84)
 refused("compact-irregular", "compact", 128, 16, (irregular, erased), [], b"", -202)
 refused("compact-count-1024", "compact", 128, 16, (crowded, erased), [], b"", -2)
-deadline = coincidence(16, 4, (2).to_bytes(4, "little"), 0xFFFFFFFF, SLOT[:3])
-fatal = block(128, 16, SLOT[:3] + [(tag(ATTR, 0, 4), deadline)])[0]
-refused("compact-coincidence", "compact", 128, 16, (fatal, erased), [], b"", -204)
+renewed = (2).to_bytes(4, "little")
+fatal = SLOT[:3] + [(tag(ATTR, 0, 4), coincidence(128, 16, 4, renewed, 0xFFFFFFFF, SLOT[:3]))]
+refused("compact-coincidence", "compact", 128, 16, (block(128, 16, fatal)[0], erased), [], b"", -204)
+held = SLOT[:3] + [(tag(ATTR, 0, 4), coincidence(128, 16, 4, renewed, 0xFFFFFFFF, SLOT[:3], forward=False))]
+accepted_compaction("compact-coincidence-but-for-the-forward-check", 128, 16, held, held, 1)
 # none of the reasons for which there is no room is any matter here
-new, _, stop, this = compacted(128, 32, 2, SLOT, None, erased)
+new, *written = compacted(128, 32, 2, SLOT, None, erased)
 for name, first in (("byte", dirty), ("top-bit", flipped), ("all-three-reasons", flipped[:127] + b"\x00")):
-    case(f"compact-misaligned-{name}", "compact", 128, 32, (first, erased), [], b"",
-         f"end {stop} tag {this:08x} count 1 rev 2", (first, new))
+    accepted(f"compact-misaligned-{name}", "compact", 32, (first, erased), [], b"", (first, new), written, 1, 2)
 
 # ---- littlefs's rule
 def laid(log):
@@ -234,17 +254,16 @@ def taken(name, op, images, entries, data, added=0, **more):
     number, log = fetched(b"".join(images), 16)
     limit, size, revision = more.get("limit"), len(log.block), log.revision
     if op == "commit":
-        image, made, stop, this = appended(log.block, 16, log.ends, log.last, entries, data, limit)
+        image, *written = appended(log.block, 16, log.ends, log.last, entries, data, limit)
         assert not log.block[log.ends:].strip(b"\xff"), name
     else:
         number, revision = 1 - number, (revision + 1) % 2 ** 32
-        image, made, stop, this = compacted(size, 16, revision, laid(log), limit, images[number])
+        image, *written = compacted(size, 16, revision, laid(log), limit, images[number])
         # what is laid is regular by document 01 and holds the same
         assert limit is not None or Log(image).slots(DOCUMENT_01) == log.slots(LITTLEFS), name
-    assert len(image) == size and stop <= size, name
-    answer = f"end {stop} tag {this:08x} count {log.count + added} rev {revision}"
+    assert len(image) == size and written[1] <= size, name
     after = (image, images[1]) if number == 0 else (images[0], image)
-    case(name, op, size, 16, images, entries, data, answer if limit is None else f"made {made}", after, **more)
+    accepted(name, op, 16, images, entries, data, after, written, log.count + added, revision, **more)
 
 
 def by_both_rules(name, images, entries, data, added=0, limits=(), **more):
@@ -290,7 +309,8 @@ refused("commit-name-at-the-count", "commit", 128, 16, two, [*DEADLINE, (FILE, 2
 behind = block(128, 16, SLOT + [(tag(FILE, 1, 1), b"b")])[0]
 refused("commit-raised-behind-a-create", "commit", 128, 16, (behind, erased), DEADLINE, SECONDS, -202, rules=LITTLEFS)
 refused("compact-raised-behind-a-create", "compact", 128, 16, (behind, erased), [], b"", -202, rules=LITTLEFS)
-# the creates need room: with them 4 + 12 * 4 + 11 * 5 + (4 + 9) + 8 = 128, and one byte more is a unit past
+# the creates need room: with them 4 + 12 * 4 + 11 * 5 + (4 + 9) + 8 = 128, and one byte more is a unit past; a forward
+# check, which has none here, is left out
 taken("compact-creates-just-fit", "compact", names_alone(*[b"a"] * 11, b"a" * 9), [], b"", rules=LITTLEFS)
 crowd = names_alone(*[b"a"] * 11, b"a" * 10)
 for name, limit in (("", None), ("-limited", 3)):
@@ -306,6 +326,62 @@ unerased = next(at for at in range(log.ends, 512) if log.block[at] != 0xFF)
 refused("commit-real-torn-littlefs", "commit", 512, 16, images, [(ATTR, 1, 0, 4)], SECONDS, -213, unerased,
         numbers=numbers, rules=LITTLEFS)
 taken("compact-real-torn-littlefs", "compact", images, [], b"", numbers=numbers, rules=LITTLEFS)
+
+# ---- the forward check
+def filling(length, kinds=1):
+    """Entries of slot 0 that take exactly so many bytes of a log, over data of one byte again and again: attributes of
+    types that rise up to so many."""
+    entries, types = [], iter(range(0x300, 0x300 + kinds))
+    while length:
+        taken = length if length <= 1026 else min(1026, length - 4)
+        entries.append((next(types, 0x300), 0, 0, taken - 4))
+        length -= taken
+    return entries
+
+
+# from `end` on entries, forward check, check, and to the byte the unit behind them; then a byte or a unit less or more
+PAYLOAD = b"p" * 1022
+for size, prog in ((128, 4), (130, 5), (128, 16), (512, 16), (765, 255), (1536, 512), (32768, 4), (32768, 512)):
+    end = block(size, prog, SLOT)[1]
+    for name, more in (("just-fits", 0), ("a-byte-less", -1), ("a-byte-more", 1), ("a-unit-less", -prog),
+                       ("a-unit-more", prog)):
+        fits, length = f"{size}-{prog}-forward-check-{name}", size - 12 - 8 - prog + more
+        if length - end > 4:
+            accepted_commit(f"commit-{fits}", size, prog, SLOT, filling(length - end), PAYLOAD, 1)
+        held = SLOT[:1] + entry_tags(filling(length - 8, 256), PAYLOAD)  # behind the revision and the create
+        accepted_compaction(f"compact-{fits}", size, prog, held, held, 1)
+# a block of one unit, and of two: nothing, or no unit, is left behind
+accepted_compaction("compact-one-unit", 512, 512, SLOT, SLOT, 1)
+accepted_commit("commit-second-of-two-units", 1024, 512, SLOT, DEADLINE, SECONDS, 1)
+# the smallest fresh pair that others take as unerased: the log ends at 16 and then at 112, and the unit behind it is
+# erased; but with a forward check the log would end at 128
+accepted_commit("commit-fresh-unerased", 128, 16, SLOT[:1], [(ATTR, 0, 0, 84)], PAYLOAD, 1)
+accepted_commit("commit-fresh-erased", 128, 16, SLOT[:1], [(ATTR, 0, 0, 72)], PAYLOAD, 1)
+# stopped before it, inside it, behind it, and behind all: 8 + 12 + 8 stores, and of a compaction 1 + 4 + 27 + 12 + 8
+for limit in (8, 9, 12, 16, 19, 20, 21, 27, 28, 29):
+    accepted_commit(f"commit-forward-check-stores-{limit}", 128, 16, SLOT, DEADLINE, SECONDS, 1, limit)
+for limit in (32, 33, 36, 43, 44, 45, 51, 52, 53):
+    accepted_compaction(f"compact-forward-check-stores-{limit}", 128, 16, SLOT, SLOT, 1, limit)
+# forward checks of others in the old log, of erased bytes or not: the commit's own is the last one, where it carries
+# one; where it doesn't, the old one is, and says whether the 16 bytes behind 112 are erased
+FOREIGN = {"of-16": forward_check(16), "of-4": forward_check(4), "of-0": forward_check(0), "past": forward_check(17),
+           "far-past": forward_check(2 ** 32 - 1, 0), "of-another-sum": forward_check(16, 0x12345678)}
+for name, check in FOREIGN.items():
+    for where, entries in (("", DEADLINE), ("-and-none", [(ATTR, 0, 0, 36)])):
+        accepted_commit(f"commit-foreign-forward-check-{name}{where}", 128, 16, SLOT + [check], entries, PAYLOAD, 1)
+    accepted_compaction(f"compact-foreign-forward-check-{name}", 128, 16, SLOT + [check], SLOT, 1)
+# the last of several, in an earlier commit too
+several = SLOT + [forward_check(4), (tag(ATTR, 0, 0), b""), forward_check(16, 0)]
+accepted_commit("commit-last-of-several-forward-checks", 256, 16, several, filling(150), PAYLOAD, 1)
+# one that is not committed, behind the check: no room, and a compaction does not take it for the log's
+uncommitted = appended(image, 16, block(128, 16, SLOT)[1], last, DEADLINE, SECONDS, 20)[0]
+refused("commit-uncommitted-forward-check", "commit", 128, 16, (uncommitted, erased), DEADLINE, SECONDS, -213, 48)
+new, *written = compacted(128, 16, 2, SLOT, None, erased)
+accepted("compact-uncommitted-forward-check", "compact", 16, (uncommitted, erased), [], b"", (uncommitted, new),
+         written, 1, 2)
+# a caller's own is no entry of a commit, wherever one would be carried
+refused("commit-forward-check-given", "commit", 128, 16, (image, erased), [*DEADLINE, (FORWARD, 1023, 0, 8)],
+        SECONDS + SECONDS, -201, 1)
 
 os.makedirs(HERE, exist_ok=True)
 for name, lines in (("cases", CASES), ("expected", EXPECTED)):

@@ -5,9 +5,9 @@ The scripts beside it work out with it what a pair holds.
 """
 import zlib
 
-from writer import CREATE, CTZ, DELETE, FILE, HARD, INLINE, MOVE, SOFT
+from writer import CREATE, CTZ, DELETE, FILE, FORWARD, HARD, INLINE, MOVE, SOFT
 
-DIR, SUPER, DIR_STRUCT, CHECK, FORWARD, NO_SLOT = 0x002, 0x0FF, 0x200, 0x500, 0x5FF, 1023
+DIR, SUPER, DIR_STRUCT, CHECK, NO_SLOT = 0x002, 0x0FF, 0x200, 0x500, 1023
 # which logs are regular: the rule by its number
 DOCUMENT_01, LITTLEFS = 0, 1
 

@@ -57,6 +57,13 @@ static uint32_t sum(const uint8_t *image, size_t n) {
     return h;
 }
 
+static void print_record(lanolin_mdir dir) {
+    printf("end %u tag %08x count %u rev %u erased %s forward ", dir.off, dir.etag, dir.count, dir.rev,
+           dir.erased ? "yes" : "no");
+    if (dir.forward) printf("%u %08x", dir.forward_size, dir.forward_sum);
+    else printf(dir.forward_size || dir.forward_sum ? "none, and not 0" : "none");
+}
+
 static void run(char *line) {
     char *field[14];
     for (int i = 0; i < 14; i++) {
@@ -83,7 +90,7 @@ static void run(char *line) {
         lanolin_committed c =
             commit ? lanolin_commit(g, b0, l0, b1, l1, n0, n1, count, seed, rules, entries, e, data, d)
                    : lanolin_compact(g, b0, l0, b1, l1, n0, n1, count, seed, rules);
-        if (c.result == 0) printf("end %u tag %08x count %u rev %u", c.dir.off, c.dir.etag, c.dir.count, c.dir.rev);
+        if (c.result == 0) print_record(c.dir);
         else printf("refused %d index %u", c.result, c.index);
     }
     printf(" images %08x %08x\n", sum(b0, l0), sum(b1, l1));

@@ -1,19 +1,28 @@
-// The room that a commit is written to: where it ends, what stands against an append, and whether the check tag's
-// checksums coincide.
+// The room that a commit is written to: where it ends, whether it carries a forward check, what stands against an
+// append, and whether the check tag's checksums coincide.
 ghost use mathlib.Core.Path.{_≡_};
 ghost use Prim.Native.Nat.{_≤_, _<_};
 ghost use lib.ListN.{length};
+ghost use Rattle.format.specs.Word.{allOnes};
+ghost use Rattle.format.specs.Crc.{crc};
 ghost use Rattle.format.specs.Commit.{checkTag};
+ghost use Rattle.format.specs.Stores.{erased};
 ghost use Rattle.format.specs.Room.{firstUnerased, roomOf};
-ghost use Rattle.format.specs.Writer.{roundedEnd, checkSize};
+ghost use Rattle.format.specs.Writer.{roundedEnd, checkSize, carriedFor};
 ghost use Rattle.commit_room.specs.Tests.{Prog, meets};
+use format::LfsFcrc;
 use format::Refusal;
 use format::Room;
+use format::types::CRC_START;
 
 // Tag and checksum of a check.
 const CHECK_LENGTH: usize = 8;
 // "a check tag 0x500, id 1,023", of size 0.
 const LFS_CHECK_TAG: u32 = 0x500f_fc00;
+// "a forward check: tag 0x5ff, id 1,023, size 8".
+pub const LFS_FORWARD_TAG: u32 = 0x5fff_fc08;
+// Its tag and data.
+const FORWARD_LENGTH: usize = 12;
 // Four bytes of erased room, read as the checksum behind a check tag that was cut short.
 const ERASED: u32 = 0xffff_ffff;
 
@@ -34,6 +43,39 @@ pub fn check_tag(prog: u32, at: usize) -> u32
 {
     let size = rounded_end(prog, at) - (at + 4);
     LFS_CHECK_TAG + (size as u32)
+}
+
+// The checksum of an erased program unit.
+fn unit_sum(prog: u32) -> u32
+    ensures { λ r. ⌜ r ≡ crc allOnes (erased prog) ⌝ }
+{
+    let mut sum = CRC_START;
+    let mut i = 0;
+    while i < prog {
+        sum = crc::lfs_crc_byte(sum, 0xff);
+        i += 1;
+    }
+    sum
+}
+
+// The forward check of a commit whose entries end at `at`: it is carried "when at least one whole program unit follows
+// the new end, counted with the added bytes".
+pub fn forward(prog: u32, block: usize, at: usize) -> LfsFcrc
+    requires { ⌜ Prog prog at ⌝ }
+    ensures { λ r. ⌜ r ≡ carriedFor prog block at ⌝ }
+{
+    if block < rounded_end(prog, at + FORWARD_LENGTH) + (prog as usize) {
+        return LfsFcrc {
+            seen: false,
+            size: 0,
+            sum: 0,
+        };
+    }
+    LfsFcrc {
+        seen: true,
+        size: prog,
+        sum: unit_sum(prog),
+    }
 }
 
 // The offset of the first byte from the old end on that isn't erased; where all are, the offset behind them.

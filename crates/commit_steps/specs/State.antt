@@ -12,9 +12,11 @@ use Rattle.format.specs.Fetch.{imagesFit, fetchOf}
 use Rattle.format.specs.Regular.{Regular, rulesOf}
 use Rattle.format.specs.Commit.{checkTag}
 use Rattle.format.specs.Room.{roomOf}
-use Rattle.format.specs.Writer.{roundedEnd, checkSize, commitFits, blockAt, isSecond, committedAs}
+use Rattle.format.specs.Writer.{roundedEnd, checkSize, forwardTag, forwardItem, carriedFor, commitFits, blockAt}
+use Rattle.format.specs.Writer.{isSecond, committedAs}
 use Rattle.format.specs.declared.Rules.{Rules}
 use Rattle.format.specs.declared.Geometry.{Geometry}
+use Rattle.format.specs.declared.LfsFcrc.{LfsFcrc}
 use Rattle.format.specs.declared.LfsMdir.{LfsMdir}
 use Rattle.format.specs.declared.Refusal.{Refusal}
 use Rattle.format.specs.declared.Refusal.the-variants.{Invalid, BadEntry, Irregular, NoSpace, Coincidence}
@@ -85,8 +87,9 @@ begunOf g b0 b1 n0 n1 count seed rules entries dat =
     (fetchedBy (rulesOf rules) (fetchOf g b0 b1 n0 n1 count seed) n0 b0 b1)
 
 -- ---- an entry: judged
-abbrev pub judgedTo : Judging → ℕ → ℕ → ℕ → Judging
-judgedTo j count t sum =
+-- behind an entry with the tag t and these bytes
+unfoldable pub summedOf : Judging → ℕ → ℕ → List ℕ → Judging
+summedOf j count t body =
     record {
       off = j .off;
       etag = j .etag;
@@ -94,26 +97,35 @@ judgedTo j count t sum =
       count = count;
       size = plus32 (j .size) (tagLength t);
       prev = t;
-      sum = sum;
+      sum = crc (j .sum) (toBe32 (xor t (j .prev)) ++ body);
     }
 
-abbrev pub judgedAs : Ruled → Bool → Judging → ℕ → ℕ → Phase
-judgedAs Bad inside j t sum = Refused (BadEntry (j .index))
-judgedAs (To count) inside j t sum = cond inside (Judge (judgedTo j count t sum)) (Refused (BadEntry (j .index)))
+abbrev pub judgedAs : Ruled → Bool → Judging → ℕ → List ℕ → Phase
+judgedAs Bad inside j t body = Refused (BadEntry (j .index))
+judgedAs (To count) inside j t body = cond inside (Judge (summedOf j count t body)) (Refused (BadEntry (j .index)))
 
 unfoldable pub judgedOf : Judging → List ℕ → ℕ → ℕ → ℕ → ℕ → Phase
 judgedOf j dat kind id off len =
     judgedAs (countedBy false kind (j .count) id len) (inBufferOf dat off len) j (mkTag kind id len)
-    (crc (j .sum) (toBe32 (xor (mkTag kind id len) (j .prev)) ++ bodyOf dat off len))
+    (bodyOf dat off len)
+
+-- behind the forward check
+unfoldable pub forwardSummed : Judging → LfsFcrc → Judging
+forwardSummed j f = cond (f .seen) (summedOf j (j .count) forwardTag (forwardItem f .body)) j
 
 -- ---- an entry: laid
 abbrev pub laidTo : Laying → ℕ → Laid → Onto
-laidTo l prev s = onto (record { run = s .run; prev = prev; word = l .word; sum = l .sum }) (s .block)
+laidTo l prev s = onto (record { run = s .run; prev = prev; fcrc = l .fcrc; word = l .word; sum = l .sum }) (s .block)
 
-unfoldable pub laidOf : Laying → List ℕ → List ℕ → ℕ → ℕ → ℕ → ℕ → Onto
-laidOf l b dat kind id off len =
-    laidTo l (mkTag kind id len)
-    (putsOf (laid (l .run) b) (toBe32 (xor (mkTag kind id len) (l .prev)) ++ bodyOf dat off len))
+unfoldable pub layOf : Laying → List ℕ → ℕ → List ℕ → Onto
+layOf l b t body = laidTo l t (putsOf (laid (l .run) b) (toBe32 (xor t (l .prev)) ++ body))
+
+abbrev pub laidOf : Laying → List ℕ → List ℕ → ℕ → ℕ → ℕ → ℕ → Onto
+laidOf l b dat kind id off len = layOf l b (mkTag kind id len) (bodyOf dat off len)
+
+-- the forward check, laid
+unfoldable pub forwardLaid : Laying → List ℕ → Onto
+forwardLaid l b = cond (l .fcrc .seen) (layOf l b forwardTag (forwardItem (l .fcrc) .body)) (onto l b)
 
 -- the block at a place, as it is laid onto
 abbrev pub into : Bool → List ℕ → List ℕ → Onto → Trio
@@ -130,11 +142,12 @@ unfoldable pub stepOf : State → List ℕ → List ℕ → List ℕ → ℕ →
 stepOf st dat b0 b1 kind id off len = steppedBy (st .phase) (st .second) dat b0 b1 kind id off len
 
 -- ---- between the passes
-abbrev pub layingFrom : Judging → ℕ → ℕ → Laying
-layingFrom j word stores =
+abbrev pub layingFrom : Judging → LfsFcrc → ℕ → ℕ → Laying
+layingFrom j f word stores =
     record {
       run = record { at = j .off; left = stores };
       prev = j .etag;
+      fcrc = f;
       word = word;
       sum = crc (j .sum) (toBe32 word);
     }
@@ -144,12 +157,18 @@ abbrev pub roomThenLaid : Room → Phase → Phase
 roomThenLaid (room.Refused r) p = Refused r
 roomThenLaid room.Clean p = p
 
-unfoldable pub placedOf : Judging → ℕ → List ℕ → ℕ → Phase
-placedOf j prog b stores =
+-- j is behind all entries, the forward check f included
+unfoldable pub testedOf : Judging → LfsFcrc → ℕ → List ℕ → ℕ → Phase
+testedOf j f prog b stores =
     cond (ltb (length b) (roundedEnd prog (j .off + j .size))) (Refused NoSpace)
     (roomThenLaid (roomOf prog b (j .off) (j .etag))
     (cond (meets (j .sum) (xor (checkTag (checkSize prog (j .off + j .size))) (j .prev))) (Refused Coincidence)
-    (Lay (layingFrom j (xor (checkTag (checkSize prog (j .off + j .size))) (j .prev)) stores))))
+    (Lay (layingFrom j f (xor (checkTag (checkSize prog (j .off + j .size))) (j .prev)) stores))))
+
+unfoldable pub placedOf : Judging → ℕ → List ℕ → ℕ → Phase
+placedOf j prog b stores =
+    let f : LfsFcrc = carriedFor prog (length b) (j .off + j .size) in
+    testedOf (forwardSummed j f) f prog b stores
 
 abbrev pub decidedBy : Phase → Bool → Geometry → List ℕ → List ℕ → ℕ → State
 decidedBy (Refused r) second g b0 b1 stores = state second (Refused r)
@@ -168,7 +187,9 @@ checkedOf l b = laidTo l (l .prev) (putsOf (laid (l .run) b) (toBe32 (l .word) +
 abbrev pub sealedBy : Phase → Bool → List ℕ → List ℕ → Trio
 sealedBy (Refused r) second b0 b1 = trio (state second (Refused r)) b0 b1
 sealedBy (Judge j) second b0 b1 = trio (state second (Judge j)) b0 b1
-sealedBy (Lay l) second b0 b1 = into second b0 b1 (checkedOf l (blockAt second b0 b1))
+sealedBy (Lay l) second b0 b1 =
+    let o : Onto = forwardLaid l (blockAt second b0 b1) in
+    into second b0 b1 (checkedOf (o .to) (o .block))
 
 unfoldable pub sealedOf : State → List ℕ → List ℕ → Trio
 sealedOf st b0 b1 = sealedBy (st .phase) (st .second) b0 b1

@@ -6,7 +6,9 @@ ghost use mathlib.Core.Path.{_≡_};
 ghost use Prim.Native.Nat.{_≤_, _<_};
 ghost use lib.ListN.{length};
 ghost use Rattle.commit_steps.specs.State.{trio, onto, refusedState, begunOf, startedOf, judgedOf, laidOf};
-ghost use Rattle.commit_steps.specs.State.{stepOf, placedOf, decidedOf, checkedOf, sealedOf, answeredOf, madeOf};
+ghost use Rattle.commit_lay.specs.Laid.{bodyOf};
+ghost use Rattle.commit_steps.specs.State.{summedOf, forwardSummed, layOf, forwardLaid, stepOf, testedOf, placedOf};
+ghost use Rattle.commit_steps.specs.State.{decidedOf, checkedOf, sealedOf, answeredOf, madeOf};
 ghost use Rattle.format.specs.Fetch.{fetchOf};
 ghost use Rattle.format.specs.Regular.{rulesOf};
 ghost use Rattle.format.specs.Writer.{unlimited};
@@ -16,6 +18,7 @@ use fetch::lfs_dir_fetch;
 use format::Committed;
 use format::Fetched;
 use format::Geometry;
+use format::LfsFcrc;
 use format::LfsMdir;
 use format::Refusal;
 use format::Room;
@@ -40,11 +43,12 @@ pub struct Judging {
     pub sum: u32,
 }
 
-// The second pass: the next store, the tag before it, and the check that comes last: its tag as it is stored, and the
-// checksum.
+// The second pass: the next store, the tag before it, the forward check that is carried behind the entries, or none, and
+// the check that comes last: its tag as it is stored, and the checksum.
 pub struct Laying {
     pub run: Run,
     pub prev: u32,
+    pub fcrc: LfsFcrc,
     pub word: u32,
     pub sum: u32,
 }
@@ -176,17 +180,35 @@ fn judge_entry(j: Judging, dat: &[u8], kind: u16, id: u16, off: u32, len: u32) -
                 return Phase::Refused(Refusal::BadEntry(j.index));
             }
             let tag = tag::lfs_mktag(kind as u32, id as u32, len);
-            Phase::Judge(Judging {
-                off: j.off,
-                etag: j.etag,
-                index: std::num::wrapping_add_u32(j.index, 1),
-                count,
-                size: std::num::wrapping_add_u32(j.size, tag::lfs_tag_dsize(tag)),
-                prev: tag,
-                sum: commit_lay::sum_entry(j.sum, tag ^ j.prev, dat, off, len),
-            })
+            Phase::Judge(sum_up(j, count, tag, dat, off, len))
         }
     }
+}
+
+// Behind a good entry: it is counted and summed.
+fn sum_up(j: Judging, count: u32, tag: u32, dat: &[u8], off: u32, len: u32) -> Judging
+    ensures { λ r. ⌜ r ≡ summedOf j count tag (bodyOf (now (dat .entry)) off len) ⌝ }
+{
+    Judging {
+        off: j.off,
+        etag: j.etag,
+        index: std::num::wrapping_add_u32(j.index, 1),
+        count,
+        size: std::num::wrapping_add_u32(j.size, tag::lfs_tag_dsize(tag)),
+        prev: tag,
+        sum: commit_lay::sum_entry(j.sum, tag ^ j.prev, dat, off, len),
+    }
+}
+
+// Behind the forward check, if it is carried: one entry more.
+fn sum_forward(j: Judging, fcrc: LfsFcrc) -> Judging
+    ensures { λ r. ⌜ r ≡ forwardSummed j fcrc ⌝ }
+{
+    if !fcrc.seen {
+        return j;
+    }
+    let dat = word::le_pair(fcrc.size, fcrc.sum);
+    sum_up(j, j.count, commit_room::LFS_FORWARD_TAG, &dat, 0, 8)
 }
 
 // "tags chained as above, data"
@@ -194,11 +216,19 @@ fn lay_entry(b: &mut [u8], l: Laying, dat: &[u8], kind: u16, id: u16, off: u32, 
     ensures { λ r. ⌜ onto r (now (b .exit)) ≡ laidOf l (now (b .entry)) (now (dat .entry)) kind id off len ⌝ }
 {
     let tag = tag::lfs_mktag(kind as u32, id as u32, len);
+    lay(b, l, tag, dat, off, len)
+}
+
+fn lay(b: &mut [u8], l: Laying, tag: u32, dat: &[u8], off: u32, len: u32) -> Laying
+    ensures { λ r. ⌜ onto r (now (b .exit)) ≡ layOf l (now (b .entry)) tag (bodyOf (now (dat .entry)) off len) ⌝ }
+{
     let from = l.run;
+    let fcrc = l.fcrc;
     let run = commit_lay::put_entry(b, from, tag ^ l.prev, dat, off, len);
     Laying {
         run,
         prev: tag,
+        fcrc,
         word: l.word,
         sum: l.sum,
     }
@@ -231,12 +261,24 @@ pub fn decide(st: State, g: Geometry, b0: &[u8], b1: &[u8], stores: u32) -> Stat
     }
 }
 
-// "-28, -203, -204": the rounded end, the room with its reasons, the coincidence. `stores` is the limit.
+// What is to be laid: the entries, and behind them the forward check if there is room for it. `stores` is the limit.
 fn place(j: Judging, prog: u32, b: &[u8], stores: u32) -> Phase
     requires { ⌜ 4 ≤ prog ⌝ }
     requires { ⌜ prog ≤ 512 ⌝ }
     requires { ⌜ length (now b) ≤ 32_768 ⌝ }
     ensures { λ r. ⌜ r ≡ placedOf j prog (now (b .entry)) stores ⌝ }
+{
+    let at = (j.off as usize) + (j.size as usize);
+    let fcrc = commit_room::forward(prog, b.len(), at);
+    test(sum_forward(j, fcrc), fcrc, prog, b, stores)
+}
+
+// "-28, -203, -204": the rounded end, the room with its reasons, the coincidence.
+fn test(j: Judging, fcrc: LfsFcrc, prog: u32, b: &[u8], stores: u32) -> Phase
+    requires { ⌜ 4 ≤ prog ⌝ }
+    requires { ⌜ prog ≤ 512 ⌝ }
+    requires { ⌜ length (now b) ≤ 32_768 ⌝ }
+    ensures { λ r. ⌜ r ≡ testedOf j fcrc prog (now (b .entry)) stores ⌝ }
 {
     let off = j.off as usize;
     let at = off + (j.size as usize);
@@ -257,6 +299,7 @@ fn place(j: Judging, prog: u32, b: &[u8], stores: u32) -> Phase
             Phase::Lay(Laying {
                 run,
                 prev: j.etag,
+                fcrc,
                 word,
                 sum: commit_lay::sum_be32(j.sum, word),
             })
@@ -264,7 +307,7 @@ fn place(j: Judging, prog: u32, b: &[u8], stores: u32) -> Phase
     }
 }
 
-// Behind the entries: "then a check tag 0x500, id 1,023, and the checksum little-endian".
+// Behind the entries: the forward check, "then a check tag 0x500, id 1,023, and the checksum little-endian".
 pub fn seal(st: State, b0: &mut [u8], b1: &mut [u8]) -> State
     ensures { λ r. ⌜ trio r (now (b0 .exit)) (now (b1 .exit)) ≡ sealedOf st (now (b0 .entry)) (now (b1 .entry)) ⌝ }
 {
@@ -275,28 +318,44 @@ pub fn seal(st: State, b0: &mut [u8], b1: &mut [u8]) -> State
         Phase::Judge(_) => st,
         Phase::Lay(l) => {
             if second {
+                let f = lay_forward(b1, l);
                 return State {
                     second,
-                    phase: Phase::Lay(lay_check(b1, l)),
+                    phase: Phase::Lay(lay_check(b1, f)),
                 };
             }
+            let f = lay_forward(b0, l);
             State {
                 second,
-                phase: Phase::Lay(lay_check(b0, l)),
+                phase: Phase::Lay(lay_check(b0, f)),
             }
         }
     }
+}
+
+// "before its check tag, a forward check entry"
+fn lay_forward(b: &mut [u8], l: Laying) -> Laying
+    ensures { λ r. ⌜ onto r (now (b .exit)) ≡ forwardLaid l (now (b .entry)) ⌝ }
+{
+    let fcrc = l.fcrc;
+    if !fcrc.seen {
+        return l;
+    }
+    let dat = word::le_pair(fcrc.size, fcrc.sum);
+    lay(b, l, commit_room::LFS_FORWARD_TAG, &dat, 0, 8)
 }
 
 fn lay_check(b: &mut [u8], l: Laying) -> Laying
     ensures { λ r. ⌜ onto r (now (b .exit)) ≡ checkedOf l (now (b .entry)) ⌝ }
 {
     let from = l.run;
+    let fcrc = l.fcrc;
     let behind = commit_lay::put_be32(b, from, l.word);
     let run = commit_lay::put_le32(b, behind, l.sum);
     Laying {
         run,
         prev: l.prev,
+        fcrc,
         word: l.word,
         sum: l.sum,
     }

@@ -11,8 +11,9 @@ use Rattle.format.specs.Log.{log, logEnd, logEndTag}
 use Rattle.format.specs.Record.{countOf, noTail, tailOf, splitOf}
 use Rattle.format.specs.Regular.{Regular}
 use Rattle.format.specs.declared.Rules.the-variants.{Littlefs}
+use Rattle.format.specs.Commit.{Item}
 use Rattle.format.specs.Stores.{compacting}
-use Rattle.format.specs.Writer.{checkLength}
+use Rattle.format.specs.Writer.{checkLength, withForward}
 use Rattle.format.specs.Compaction.{compactionItems, compactCheckAt, compactStores, compactedTo, CompactVerdict}
 use Rattle.format.specs.Compaction.{compactRefused, compactAccepted}
 use Rattle.format.specs.declared.LfsMdir.{LfsMdir}
@@ -34,6 +35,10 @@ pub record Recorded (b : List ℕ) (dir : LfsMdir) : Type 0 where
   pub split′ : dir .split ≡ splitOf false (log b)
   pub tail′ : dir .tail ≡ tailOf noTail (log b)
 
+-- what is laid: the entries of the log's compaction, and the forward check, or none
+abbrev pub renewedItems : ℕ → List ℕ → List Item
+renewedItems prog old = withForward prog (length old) 4 (compactionItems (log old))
+
 pub record Renewable (prog : ℕ) (old new : List ℕ) (dir : LfsMdir) : Type 0 where
   pub low : 4 ≤ prog
   pub high : prog ≤ 512
@@ -42,17 +47,18 @@ pub record Renewable (prog : ℕ) (old new : List ℕ) (dir : LfsMdir) : Type 0 
 
 -- and what the second pass asks: a log that is regular, by littlefs's rule, the wider one, and whose entries fit the
 -- other block
-pub record Writable (old new : List ℕ) (dir : LfsMdir) : Type 0 where
+pub record Writable (prog : ℕ) (old new : List ℕ) (dir : LfsMdir) : Type 0 where
+  pub low : 4 ≤ prog
+  pub high : prog ≤ 512
   pub recorded : Recorded old dir
   pub regular : Regular Littlefs (log old) ≡ true
-  pub room : compactCheckAt (compactionItems (log old)) + checkLength ≤ length new
+  pub room : compactCheckAt (renewedItems prog old) + checkLength ≤ length new
 
 -- the other block after the first n stores of the check tag ct
-abbrev pub writtenTo : List ℕ → List ℕ → ℕ → ℕ → ℕ → List ℕ
-writtenTo old new rev ct n =
-    compacting new rev (compactionItems (log old)) ct
-    (length new - (compactCheckAt (compactionItems (log old)) + checkLength))
-    (min n (compactStores (compactionItems (log old))))
+abbrev pub writtenTo : ℕ → List ℕ → List ℕ → ℕ → ℕ → ℕ → List ℕ
+writtenTo prog old new rev ct n =
+    compacting new rev (renewedItems prog old) ct (length new - (compactCheckAt (renewedItems prog old) + checkLength))
+    (min n (compactStores (renewedItems prog old)))
 
 -- the other block after the first n stores, by the verdict
 abbrev pub renewedTo : ℕ → List ℕ → CompactVerdict → List ℕ

@@ -10,8 +10,8 @@ ghost use Rattle.format.specs.Crc.{crc};
 ghost use Rattle.format.specs.Log.{log};
 ghost use Rattle.format.specs.Regular.{rulesOf};
 ghost use Rattle.format.specs.Stores.{erased};
-ghost use Rattle.format.specs.Compaction.{compactionItems, compactStores, compactable, compactMade};
-ghost use Rattle.compact_block.specs.Renewed.{begins, Writable, writtenTo, Renewable, renewedTo};
+ghost use Rattle.format.specs.Compaction.{compactStores, compactable, compactMade};
+ghost use Rattle.compact_block.specs.Renewed.{begins, renewedItems, Writable, writtenTo, Renewable, renewedTo};
 use commit_lay::Run;
 use compact_entries::Emit;
 use format::LfsMdir;
@@ -53,10 +53,10 @@ fn begin(rev: u32, run: Run) -> Emit
 }
 
 // The second pass: the erase counts as one store, and then single bytes rise, as many as are left.
-fn write(old: &[u8], new: &mut [u8], dir: LfsMdir, rev: u32, tag: u32, stores: u32) -> u32
-    requires { ⌜ Writable (now old) (now new) dir ⌝ }
-    ensures { λ r. ⌜ r ≡ min stores (compactStores (compactionItems (log (now (old .entry))))) ⌝ }
-    ensures { λ _. ⌜ now (new .exit) ≡ writtenTo (now (old .entry)) (now (new .entry)) rev tag stores ⌝ }
+fn write(prog: u32, old: &[u8], new: &mut [u8], dir: LfsMdir, rev: u32, tag: u32, stores: u32) -> u32
+    requires { ⌜ Writable prog (now old) (now new) dir ⌝ }
+    ensures { λ r. ⌜ r ≡ min stores (compactStores (renewedItems prog (now (old .entry)))) ⌝ }
+    ensures { λ _. ⌜ now (new .exit) ≡ writtenTo prog (now (old .entry)) (now (new .entry)) rev tag stores ⌝ }
 {
     if stores == 0 {
         return 0;
@@ -67,7 +67,7 @@ fn write(old: &[u8], new: &mut [u8], dir: LfsMdir, rev: u32, tag: u32, stores: u
         left: stores - 1,
     };
     let run = commit_lay::put_le32(new, first, rev);
-    let e = compact_entries::entries(old, new, begin(rev, run), dir);
+    let e = compact_entries::entries(prog, old, new, begin(rev, run), dir);
     let last = compact_entries::check(new, e, tag);
     1 + last.at as u32
 }
@@ -87,7 +87,7 @@ pub fn renew(prog: u32, rules: u32, old: &[u8], new: &mut [u8], dir: LfsMdir, st
     }
     let rev = std::num::wrapping_add_u32(dir.rev, 1);
     let none = Run { at: 0, left: 0 };
-    let e = compact_entries::entries(old, new, begin(rev, none), dir);
+    let e = compact_entries::entries(prog, old, new, begin(rev, none), dir);
     if old.len() < commit_room::rounded_end(prog, e.end) {
         return Stored::Refused(Refusal::NoSpace);
     }
@@ -95,5 +95,5 @@ pub fn renew(prog: u32, rules: u32, old: &[u8], new: &mut [u8], dir: LfsMdir, st
     if commit_room::coincides(e.sum, tag ^ e.prev) {
         return Stored::Refused(Refusal::Coincidence);
     }
-    Stored::Made(write(old, new, dir, rev, tag, stores))
+    Stored::Made(write(prog, old, new, dir, rev, tag, stores))
 }

@@ -12,13 +12,15 @@ ghost use Rattle.format.specs.Kind.{typeTail, typeHardTail};
 ghost use Rattle.format.specs.Crc.{crc};
 ghost use Rattle.format.specs.Directory.{classes, dirOf};
 ghost use Rattle.format.specs.Look.{HitIn};
+ghost use Rattle.format.specs.Writer.{forwardItems, withForward};
 ghost use Rattle.format.specs.Compaction.{slotItems, dirItems, tailItems, compactionItems};
 ghost use Rattle.commit_lay.specs.Laid.{laid, putsOf, bodyOf};
 ghost use Rattle.compact_slot.specs.Slots.{slotIn};
 ghost use Rattle.compact_entries.specs.Emitted.{standing, emitted, emits, createItem, hitItems, SlotSeated};
-ghost use Rattle.compact_entries.specs.Emitted.{Source, Read};
+ghost use Rattle.compact_entries.specs.Emitted.{Source, Read, Renewing};
 use commit_lay::Run;
 use format::Hit;
+use format::LfsFcrc;
 use format::LfsMdir;
 use format::LfsPair;
 use format::types::*;
@@ -118,9 +120,7 @@ fn tail(new: &mut [u8], e: Emit, split: bool, pair: LfsPair) -> Emit
     if !split & (n0 == LFS_BLOCK_NULL) & (n1 == LFS_BLOCK_NULL) {
         return e;
     }
-    let a = word::le_bytes(n0);
-    let b = word::le_bytes(n1);
-    let dat = [a[0], a[1], a[2], a[3], b[0], b[1], b[2], b[3]];
+    let dat = word::le_pair(n0, n1);
     entry(
         new,
         e,
@@ -131,8 +131,8 @@ fn tail(new: &mut [u8], e: Emit, split: bool, pair: LfsPair) -> Emit
     )
 }
 
-// All entries of the compaction of the block `old`, whose record is `dir`.
-pub fn entries(old: &[u8], new: &mut [u8], e: Emit, dir: LfsMdir) -> Emit
+// All that the block `old` holds, whose record is `dir`.
+fn held(old: &[u8], new: &mut [u8], e: Emit, dir: LfsMdir) -> Emit
     requires { ⌜ Read (now old) e dir ⌝ }
     ensures { λ r. ⌜ standing r (now (new .exit)) ≡ emits (standing e (now (new .entry)))
         (compactionItems (log (now (old .entry)))) ⌝ }
@@ -149,7 +149,30 @@ pub fn entries(old: &[u8], new: &mut [u8], e: Emit, dir: LfsMdir) -> Emit
     found_entry(old, new, w, h)
 }
 
-// The check behind the entries: its tag, and the checksum with it.
+// The forward check, if it is carried.
+fn forward(new: &mut [u8], e: Emit, fcrc: LfsFcrc) -> Emit
+    requires { ⌜ e .end < 2 ^ 32 ⌝ }
+    ensures { λ r. ⌜ standing r (now (new .exit)) ≡ emits (standing e (now (new .entry))) (forwardItems fcrc) ⌝ }
+{
+    if !fcrc.seen {
+        return e;
+    }
+    let dat = word::le_pair(fcrc.size, fcrc.sum);
+    entry(new, e, commit_room::LFS_FORWARD_TAG, &dat, 0, 8)
+}
+
+// All entries of the compaction of the block `old`, and the forward check behind them.
+pub fn entries(prog: u32, old: &[u8], new: &mut [u8], e: Emit, dir: LfsMdir) -> Emit
+    requires { ⌜ Renewing prog (now old) e dir ⌝ }
+    ensures { λ r. ⌜ standing r (now (new .exit)) ≡ emits (standing e (now (new .entry)))
+        (withForward prog (length (now (old .entry))) (e .end) (compactionItems (log (now (old .entry))))) ⌝ }
+{
+    let w = held(old, new, e, dir);
+    let fcrc = commit_room::forward(prog, old.len(), w.end);
+    forward(new, w, fcrc)
+}
+
+// The check behind them: its tag, and the checksum with it.
 pub fn check(new: &mut [u8], e: Emit, tag: u32) -> Run
     ensures { λ r. ⌜ laid r (now (new .exit)) ≡ putsOf (laid (e .run) (now (new .entry)))
         (toBe32 (xor tag (e .prev)) ++ toLe32 (crc (e .sum) (toBe32 (xor tag (e .prev))))) ⌝ }

@@ -11,12 +11,12 @@ use borrow.Author.Tests.{eq-eqb, ne-eqb, lt-ltb, le-ltb, le-leb, lt-leb}
 use Rattle.format.specs.Word.{le32, allOnes}
 use Rattle.format.specs.Crc.{crc}
 use Rattle.format.specs.Log.{log, logEnd}
-use Rattle.format.specs.Record.{Forward, noForward, forward, forwardOf, seedOf}
-use Rattle.format.specs.Fetch.{forwardFits, erasedOf, mdirOf, fewEnough}
+use Rattle.format.specs.Record.{seedOf}
+use Rattle.format.specs.Fetch.{erasedOf, mdirOf, fewEnough}
 use Rattle.format.specs.declared.LfsMdir.{LfsMdir}
 use Rattle.format.specs.declared.Refusal.the-variants.{TooMany}
 use Rattle.format.specs.declared.Fetched.the-variants.{Found, Refused}
-use Rattle.fetch_walk.specs.Block.{fcrcOf, walkedOf}
+use Rattle.fetch_walk.specs.Block.{walkedOf}
 use Rattle.fetch_walk.specs.declared.Walked.{Walked}
 use Rattle.fetch.specs.Read.{erasedBy, mdirBy, answerBy}
 
@@ -63,31 +63,7 @@ module _ (prog n m : ℕ) (b : List ℕ) (w : Walked) (k : LfsMdir) (e : k ≡ m
   few h = sym (ap (λ (d : LfsMdir). fewEnough d (w .taken .seed)) (sym e) ∙ rw (le-ltb 1_023 (k .count) h))
 
 -- ---- of the block's own walk
-forward-fits : (b : List ℕ) (end : ℕ) (f : Forward)
-    → fcrcOf f .seen && (leb (end + fcrcOf f .size) (length b) && eqb (crc allOnes (take (fcrcOf f .size) (drop end b)))
-    (fcrcOf f .sum)) ≡ forwardFits b end f
-forward-fits b end noForward = refl
-forward-fits b end (forward n s) = refl
-
-erased-is : (prog : ℕ) (b : List ℕ) (seed : ℕ) → erasedBy prog b (walkedOf b seed) ≡ erasedOf prog b (log b)
-unfolding erasedBy walkedOf erasedOf
-erased-is prog b seed = rw (forward-fits b (logEnd (log b)) (forwardOf noForward (log b)))
-
 pub answer-is : (prog n m : ℕ) (b : List ℕ) (seed : ℕ)
     → answerBy prog n m b (walkedOf b seed) ≡ fewEnough (mdirOf prog n m b (le32 b) (log b)) (seedOf seed (log b))
-unfolding answerBy mdirBy walkedOf mdirOf
-answer-is prog n m b seed = ap (λ (q : Bool). fewEnough (marked q) (seedOf seed (log b))) (erased-is prog b seed)
-  where
-    marked : Bool → LfsMdir
-    marked q =
-        let k = walkedOf b seed .taken in
-        record {
-          pair = record { n0 = n; n1 = m };
-          rev = le32 b;
-          off = k .off;
-          etag = k .etag;
-          count = k .dir .count;
-          erased = q;
-          split = k .dir .split;
-          tail = k .dir .tail;
-        }
+unfolding answerBy mdirBy walkedOf mdirOf erasedBy erasedOf
+answer-is prog n m b seed = refl

@@ -2,14 +2,13 @@
 -- Assumes nothing.
 use mathlib.Core.Bool.{Bool, false, _&&_}
 use mathlib.Core.List.{List}
-use Prim.Native.Nat.{ℕ, _+_, _%_, _<_, _≤_}
-use lib.Dec.{leb, eqb}
-use lib.ListN.{length, take, drop}
-use Rattle.format.specs.Word.{le32, allOnes}
-use Rattle.format.specs.Crc.{crc}
+use Prim.Native.Nat.{ℕ, _%_, _<_, _≤_}
+use lib.Dec.{eqb}
+use lib.ListN.{length}
+use Rattle.format.specs.Word.{le32}
 use Rattle.format.specs.Log.{log}
 use Rattle.format.specs.View.{rank}
-use Rattle.format.specs.Fetch.{fewEnough, viewed}
+use Rattle.format.specs.Fetch.{forwardFits, fewEnough, viewed}
 use Rattle.format.specs.declared.LfsMdir.{LfsMdir}
 use Rattle.format.specs.declared.Fetched.{Fetched}
 use Rattle.fetch_walk.specs.declared.Walked.{Walked}
@@ -32,9 +31,7 @@ pub record Readable (prog : ℕ) (b : List ℕ) (w : Walked) : Type 0 where
 unfoldable pub erasedBy : ℕ → List ℕ → Walked → Bool
 erasedBy prog b w =
     let k = w .taken in
-    let f = k .dir .fcrc in
-    w .straight && eqb (k .off % prog) 0
-    && (f .seen && (leb (k .off + f .size) (length b) && eqb (crc allOnes (take (f .size) (drop (k .off) b))) (f .sum)))
+    w .straight && eqb (k .off % prog) 0 && forwardFits b (k .off) (k .dir .fcrc)
 
 unfoldable pub mdirBy : ℕ → ℕ → ℕ → List ℕ → Walked → LfsMdir
 mdirBy prog n m b w =
@@ -48,6 +45,7 @@ mdirBy prog n m b w =
       erased = erasedBy prog b w;
       split = k .dir .split;
       tail = k .dir .tail;
+      fcrc = k .dir .fcrc;
     }
 
 unfoldable pub answerBy : ℕ → ℕ → ℕ → List ℕ → Walked → Fetched

@@ -55,6 +55,7 @@ fn mdir(prog: u32, n: u32, m: u32, b: &[u8], w: Walked) -> LfsMdir
 {
     let dir = w.taken.dir;
     let tail = dir.tail;
+    let fcrc = dir.fcrc;
     LfsMdir {
         pair: LfsPair { n0: n, n1: m },
         rev: word::within::le32(b, 0),
@@ -64,6 +65,7 @@ fn mdir(prog: u32, n: u32, m: u32, b: &[u8], w: Walked) -> LfsMdir
         erased: erased(prog, b, w),
         split: dir.split,
         tail,
+        fcrc,
     }
 }
 

@@ -15,9 +15,9 @@ use Rattle.format.specs.Crc.{crc}
 use Rattle.format.specs.Walk.{Event, ent, chk, inv, Class, past, invalid, check, entry, classOf, checked, stepOf}
 use Rattle.format.specs.Walk.{walkIn, walkFrom, walk}
 use Rattle.format.specs.Log.{keptBefore, committed, log, eventLength, span, tagAfter}
-use Rattle.format.specs.Record.{countOf, tailOf, splitOf, Forward, noForward, forward, forwardOf, seedOf}
+use Rattle.format.specs.Record.{countOf, tailOf, splitOf, forwardOf, seedOf}
 use Rattle.format.proofs.Classes.{check-says, entry-says}
-use Rattle.fetch_walk.specs.Block.{fcrcOf, takenOf}
+use Rattle.fetch_walk.specs.Block.{takenOf}
 use Rattle.fetch_walk.specs.Dir.{emptyDir, entered}
 use Rattle.fetch_walk.specs.State.{takenNone, step, settles}
 use Rattle.fetch_walk.specs.declared.Taken.{Taken}
@@ -58,62 +58,47 @@ same-start s (e ∷ es) = refl
 settles-steps : (s : Taken) (es : List Event) → settles s s es ≡ steps s (committed es)
 settles-steps s es = settles-after s s es ∙ same-start s (committed es)
 
--- ---- THE FOLDS: each part of the record goes its own way. f is what the record's forward check stands for
-abbrev foldsFrom : Taken → Forward → List Event → Taken
-foldsFrom k f es =
+-- ---- THE FOLDS: each part of the record goes its own way
+abbrev foldsFrom : Taken → List Event → Taken
+foldsFrom k es =
     record {
       dir = record {
         count = countOf (k .dir .count) es;
         split = splitOf (k .dir .split) es;
         tail = tailOf (k .dir .tail) es;
-        fcrc = fcrcOf (forwardOf f es);
+        fcrc = forwardOf (k .dir .fcrc) es;
       };
       off = k .off + span es;
       etag = tagAfter (k .etag) es;
       seed = seedOf (k .seed) es;
     }
 
--- a forward check read or kept, on both sides
-kept-forward : (q : Bool) (n s : ℕ) (f : Forward) → fcrcOf (cond q (forward n s) f)
-    ≡ cond q (fcrcOf (forward n s)) (fcrcOf f)
-kept-forward true n s f = refl
-kept-forward false n s f = refl
-
-moved : (k : Taken) (f : Forward) (es : List Event) (n : ℕ) → n ≡ k .off + span es
-    → record { dir = foldsFrom k f es .dir; off = n; etag = foldsFrom k f es .etag; seed = foldsFrom k f es .seed }
-    ≡ foldsFrom k f es
-moved k f es n e = λ i. record {
-  dir = foldsFrom k f es .dir;
+moved : (k : Taken) (es : List Event) (n : ℕ) → n ≡ k .off + span es
+    → record { dir = foldsFrom k es .dir; off = n; etag = foldsFrom k es .etag; seed = foldsFrom k es .seed }
+    ≡ foldsFrom k es
+moved k es n e = λ i. record {
+  dir = foldsFrom k es .dir;
   off = e i;
-  etag = foldsFrom k f es .etag;
-  seed = foldsFrom k f es .seed;
+  etag = foldsFrom k es .etag;
+  seed = foldsFrom k es .seed;
 }
 
-steps-folds : (k : Taken) (f : Forward) → k .dir .fcrc ≡ fcrcOf f → (es : List Event) → steps k es ≡ foldsFrom k f es
+steps-folds : (k : Taken) (es : List Event) → steps k es ≡ foldsFrom k es
 unfolding steps countOf tailOf splitOf forwardOf seedOf span eventLength tagAfter entered
-steps-folds k f e [] = λ i.
-    record {
-      dir = record { count = k .dir .count; split = k .dir .split; tail = k .dir .tail; fcrc = e i };
-      off = sym (add-zero (k .off)) i;
-      etag = k .etag;
-      seed = k .seed;
-    }
-steps-folds k f e (ent t x ∷ es) =
-    let g : Forward = cond (isForward t) (forward (le32 x) (le32 (drop 4 x))) f in
-    steps-folds (step (ent t x) k) g (ap (cond (isForward t) (fcrcOf (forward (le32 x) (le32 (drop 4 x))))) e
-    ∙ sym (kept-forward (isForward t) (le32 x) (le32 (drop 4 x)) f)) es
-    ∙ moved k f (ent t x ∷ es) (k .off + tagLength t + span es) (add-assoc (k .off) (tagLength t) (span es))
-steps-folds k f e (chk t x ∷ es) =
-    steps-folds (step (chk t x) k) f e es ∙ moved k f (chk t x ∷ es) (k .off + tagLength t + span es)
+steps-folds k [] = moved k [] (k .off) (sym (add-zero (k .off)))
+steps-folds k (ent t x ∷ es) =
+    steps-folds (step (ent t x) k) es ∙ moved k (ent t x ∷ es) (k .off + tagLength t + span es)
     (add-assoc (k .off) (tagLength t) (span es))
-steps-folds k f e (inv ∷ es) =
-    steps-folds k f e es ∙ moved k f (inv ∷ es) (k .off + span es)
-    (ap (λ (n : ℕ). k .off + n) (sym (zero-add (span es))))
+steps-folds k (chk t x ∷ es) =
+    steps-folds (step (chk t x) k) es ∙ moved k (chk t x ∷ es) (k .off + tagLength t + span es)
+    (add-assoc (k .off) (tagLength t) (span es))
+steps-folds k (inv ∷ es) =
+    steps-folds k es ∙ moved k (inv ∷ es) (k .off + span es) (ap (λ (n : ℕ). k .off + n) (sym (zero-add (span es))))
 
 -- the code's record over a log, from the start, is what format's folds say of the log
 pub steps-taken : (seed : ℕ) (es : List Event) → steps (takenNone seed) es ≡ takenOf seed es
 unfolding takenNone emptyDir
-steps-taken seed es = steps-folds (takenNone seed) noForward refl es
+steps-taken seed es = steps-folds (takenNone seed) es
 
 -- and what the loop leaves of a walk is what they say of what it committed
 pub settles-taken : (seed : ℕ) (es : List Event) → settles (takenNone seed) (takenNone seed) es

@@ -20,7 +20,6 @@ use Rattle.format.proofs.Parts.{le32-take, le32-take-second}
 use Rattle.format.proofs.Classes.{behind-wide}
 use Rattle.tag.specs.Splice.{fromLowest}
 use Rattle.tag.proofs.Splice.{splice-fits}
-use Rattle.fetch_walk.specs.Block.{fcrcOf}
 use Rattle.fetch_walk.specs.Dir.{withCount, named, spliced, tailed, forwarded, entered}
 use Rattle.fetch_walk.specs.declared.dir.DirState.{DirState}
 
@@ -86,7 +85,7 @@ stepped n s l f t x d =
           (cond s (countSpliced (d .count) (toZ w8 (tagChunk t))) (d .count));
       split = cond l (eqb (tagChunk t % 2) 1) (d .split);
       tail = cond l (pairIn x) (d .tail);
-      fcrc = cond f (fcrcOf (forward (le32 x) (le32 (drop 4 x)))) (d .fcrc);
+      fcrc = cond f (forwardIn x) (d .fcrc);
     }
 
 by-kind : (t : ℕ) (x : List ℕ) (d : DirState) {n s l f : Bool} → isName t ≡ n → isSplice t ≡ s → isTail t ≡ l

@@ -3,17 +3,14 @@ use mathlib.Core.Bool.{false, cond}
 use mathlib.Core.List.{List}
 use Prim.Native.Nat.{ℕ, _%_}
 use lib.Dec.{eqb}
-use lib.ListN.{drop}
-use Rattle.format.specs.Word.{le32}
 use Rattle.format.specs.Tag.{tagChunk, tagSplice, tagId}
 use Rattle.format.specs.Kind.{isTail, isForward}
 use Rattle.format.specs.Count.{countNamed, countSpliced}
-use Rattle.format.specs.Record.{counted, pairIn, noTail, noForward, forward}
+use Rattle.format.specs.Record.{counted, pairIn, noTail, forwardIn, noForward}
 use Rattle.fetch_walk.specs.declared.dir.DirState.{DirState}
-use Rattle.fetch_walk.specs.Block.{fcrcOf}
 
 unfoldable pub emptyDir : DirState
-emptyDir = record { count = 0; split = false; tail = noTail; fcrc = fcrcOf noForward }
+emptyDir = record { count = 0; split = false; tail = noTail; fcrc = noForward }
 
 abbrev pub withCount : ℕ → DirState → DirState
 withCount n d = record { count = n; split = d .split; tail = d .tail; fcrc = d .fcrc }
@@ -29,12 +26,7 @@ unfoldable pub tailed : ℕ → List ℕ → DirState → DirState
 tailed t x d = record { count = d .count; split = eqb (tagChunk t % 2) 1; tail = pairIn x; fcrc = d .fcrc }
 
 unfoldable pub forwarded : List ℕ → DirState → DirState
-forwarded x d = record {
-  count = d .count;
-  split = d .split;
-  tail = d .tail;
-  fcrc = fcrcOf (forward (le32 x) (le32 (drop 4 x)));
-}
+forwarded x d = record { count = d .count; split = d .split; tail = d .tail; fcrc = forwardIn x }
 
 -- any entry: each part as its own fold has it
 unfoldable pub entered : ℕ → List ℕ → DirState → DirState
@@ -43,5 +35,5 @@ entered t x d =
       count = counted (d .count) t;
       split = cond (isTail t) (eqb (tagChunk t % 2) 1) (d .split);
       tail = cond (isTail t) (pairIn x) (d .tail);
-      fcrc = cond (isForward t) (fcrcOf (forward (le32 x) (le32 (drop 4 x)))) (d .fcrc);
+      fcrc = cond (isForward t) (forwardIn x) (d .fcrc);
     }

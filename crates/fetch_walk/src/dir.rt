@@ -7,15 +7,9 @@ ghost use Rattle.format.specs.Tag.{tagSplice};
 ghost use Rattle.format.specs.Count.{countSpliced};
 ghost use Rattle.format.specs.Walk.{readBehind};
 ghost use Rattle.fetch_walk.specs.Dir.{emptyDir, named, spliced, tailed, forwarded, entered};
+use format::LfsFcrc;
 use format::LfsPair;
 use format::types::*;
-
-// The last forward check: whether one was seen, its length and its checksum.
-pub struct LfsFcrc {
-    pub seen: bool,
-    pub size: u32,
-    pub sum: u32,
-}
 
 pub struct DirState {
     pub count: u16,

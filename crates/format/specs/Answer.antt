@@ -52,6 +52,7 @@ zeroMdir =
       erased = false;
       split = false;
       tail = record { n0 = 0; n1 = 0 };
+      fcrc = record { seen = false; size = 0; sum = 0 };
     }
 
 abbrev pub refusalMdir : Refusal → LfsMdir

@@ -3,11 +3,11 @@ use mathlib.Core.Bool.{Bool, true, false, _&&_}
 use mathlib.Core.List.{List, [], _∷_, _++_}
 use Prim.Native.Nat.{ℕ}
 use Rattle.format.specs.Word.{toBe32, toLe32, xor}
-use Rattle.format.specs.Tag.{tagType3, tagId, tagSize, tagOf}
+use Rattle.format.specs.Tag.{tagId, tagSize, tagOf}
 use Rattle.format.specs.Kind.{typeCheck, noSlot}
 use Rattle.format.specs.Crc.{crc}
 use Rattle.format.specs.Walk.{Event, ent}
-use Rattle.format.specs.Regular.{ruleOf, ruleHolds, countAfter}
+use Rattle.format.specs.Regular.{loggedRule, ruleHolds, countAfter}
 
 -- "then a check tag 0x500, id 1,023", of a size that the padding decides
 abbrev pub checkTag : ℕ → ℕ
@@ -35,10 +35,10 @@ unfoldable pub written : List Item → List Event → List Event
 written [] es = es
 written (i ∷ is) es = ent (i .tag) (i .body) ∷ written is es
 
--- "Entries run against a count c, starting at the record's": each passes the rule of its type, at the count that the
--- ones before it leave.
+-- "Entries run against a count c, starting at the record's": each passes the rule of its type in a log, where forward
+-- checks are allowed, at the count that the ones before it leave.
 unfoldable pub itemsHold : ℕ → List Item → Bool
 itemsHold c [] = true
 itemsHold c (i ∷ is) =
-    ruleHolds (ruleOf false (tagType3 (i .tag))) c (tagId (i .tag)) (tagSize (i .tag))
-    && itemsHold (countAfter (ruleOf false (tagType3 (i .tag))) c) is
+    ruleHolds (loggedRule (i .tag)) c (tagId (i .tag)) (tagSize (i .tag))
+    && itemsHold (countAfter (loggedRule (i .tag)) c) is

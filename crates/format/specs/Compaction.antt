@@ -20,7 +20,7 @@ use Rattle.format.specs.Tag.{tagOf}
 use Rattle.format.specs.Commit.{Item, checkTag}
 use Rattle.format.specs.Stores.{entriesLength, coincides, compacting}
 use Rattle.format.specs.Writer.{checkLength, roundedEnd, checkSize, blockAt, isSecond, Images, images}
-use Rattle.format.specs.Writer.{committedAs}
+use Rattle.format.specs.Writer.{withForward, committedAs}
 use Rattle.format.specs.Writer.{unlimited}
 use Rattle.format.specs.declared.Geometry.{Geometry}
 use Rattle.format.specs.declared.LfsPair.{LfsPair}
@@ -87,11 +87,12 @@ placedAnew prog block second rev is =
     (compactRefused Coincidence)
     (compactAccepted second rev is (checkSize prog (compactCheckAt is))))
 
--- "-202 | the committed log isn't regular"; "revision plus one (wrapping)"
+-- "-202 | the committed log isn't regular"; "revision plus one (wrapping)"; the entries begin behind it, and the forward
+-- check stands behind them as in a commit: "compaction included"
 unfoldable pub compactable : Rules → ℕ → Bool → List ℕ → List Event → CompactVerdict
 compactable r prog second b es =
     cond (not (Regular r es)) (compactRefused Irregular)
-    (placedAnew prog (length b) second (plus32 (le32 b) 1) (compactionItems es))
+    (placedAnew prog (length b) second (plus32 (le32 b) 1) (withForward prog (length b) 4 (compactionItems es)))
 
 -- "Compaction: the same without -201 and -203": -22 of the sizes and numbers, and fetch's own refusals, come from fetch
 abbrev pub compactFetched : Rules → ℕ → List ℕ → List ℕ → ℕ → Fetched → CompactVerdict

@@ -9,9 +9,10 @@ use Rattle.format.specs.Word.{allOnes}
 use Rattle.format.specs.Crc.{crc}
 use Rattle.format.specs.Walk.{Event, walk}
 use Rattle.format.specs.Log.{logEnd, logEndTag, stoppedStraight}
-use Rattle.format.specs.Record.{countOf, noTail, tailOf, splitOf, Forward, noForward, forward, forwardOf, seedOf}
+use Rattle.format.specs.Record.{countOf, noTail, tailOf, splitOf, noForward, forwardOf, seedOf}
 use Rattle.format.specs.View.{View, none, at, view}
 use Rattle.format.specs.declared.Geometry.{Geometry}
+use Rattle.format.specs.declared.LfsFcrc.{LfsFcrc}
 use Rattle.format.specs.declared.LfsMdir.{LfsMdir}
 use Rattle.format.specs.declared.Refusal.the-variants.{Invalid, Corrupt, TooMany}
 use Rattle.format.specs.declared.Fetched.{Fetched}
@@ -37,9 +38,9 @@ tooHigh count n = not (eqb count 0) && leb count n
 
 -- "the last one's checksum from 0xffffffff over that many bytes from the end fits. Ours: a forward length past the
 -- block gives no."
-abbrev pub forwardFits : List ℕ → ℕ → Forward → Bool
-forwardFits b end noForward = false
-forwardFits b end (forward n sum) = leb (end + n) (length b) && eqb (crc allOnes (take n (drop end b))) sum
+abbrev pub forwardFits : List ℕ → ℕ → LfsFcrc → Bool
+forwardFits b end f = f .seen
+    && (leb (end + f .size) (length b) && eqb (crc allOnes (take (f .size) (drop end b))) (f .sum))
 
 -- "Erased is yes exactly if the walk stopped on an invalid tag straight after a commit, the end is a multiple of the
 -- program size, a forward check was seen in ANY commit so far, and the last one's checksum .. fits."
@@ -60,6 +61,7 @@ mdirOf prog n m b rev es =
       erased = erasedOf prog b es;
       split = splitOf false es;
       tail = tailOf noTail es;
+      fcrc = forwardOf noForward es;
     }
 
 -- "-2 | fetch: count above 1,023 | fetch: record and seed as read"

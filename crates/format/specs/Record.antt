@@ -1,6 +1,7 @@
 -- Document 01, Fetch: what a log says, each part as a fold over its events. "Then the record takes count, tail, split,
--- end and end tag; the seed takes the checksum's four bytes" (end and end tag stand in Log). Assumes nothing.
-use mathlib.Core.Bool.{Bool, cond}
+-- end and end tag; the seed takes the checksum's four bytes" (end and end tag stand in Log); and document 02, L5: "The
+-- record shall hold the last committed forward check, or none." Assumes nothing.
+use mathlib.Core.Bool.{Bool, true, false, cond}
 use mathlib.Core.List.{List, [], _∷_}
 use Prim.Native.Nat.{ℕ, _%_}
 use lib.ListN.{drop}
@@ -12,6 +13,7 @@ use Rattle.format.specs.Crc.{crc}
 use Rattle.format.specs.Walk.{Event, ent, chk, inv}
 use Rattle.format.specs.Count.{countNamed, countSpliced}
 use Rattle.format.specs.declared.LfsPair.{LfsPair}
+use Rattle.format.specs.declared.LfsFcrc.{LfsFcrc}
 
 -- "Name: count becomes at least id + 1. Splice (type1 0x400): count plus splice, raised to 0 if below, then modulo
 -- 65,536."
@@ -48,14 +50,17 @@ splitOf s (chk t x ∷ es) = splitOf s es
 splitOf s (inv ∷ es) = splitOf s es
 
 -- "Forward check: 8 bytes likewise, length and checksum."
-pub data Forward : Type 0 where
-  noForward : Forward
-  forward : ℕ → ℕ → Forward
+abbrev pub forwardIn : List ℕ → LfsFcrc
+forwardIn d = record { seen = true; size = le32 d; sum = le32 (drop 4 d) }
+
+-- none: all zero
+abbrev pub noForward : LfsFcrc
+noForward = record { seen = false; size = 0; sum = 0 }
 
 -- "a forward check was seen in ANY commit so far": the last one
-unfoldable pub forwardOf : Forward → List Event → Forward
+unfoldable pub forwardOf : LfsFcrc → List Event → LfsFcrc
 forwardOf f [] = f
-forwardOf f (ent t d ∷ es) = forwardOf (cond (isForward t) (forward (le32 d) (le32 (drop 4 d))) f) es
+forwardOf f (ent t d ∷ es) = forwardOf (cond (isForward t) (forwardIn d) f) es
 forwardOf f (chk t x ∷ es) = forwardOf f es
 forwardOf f (inv ∷ es) = forwardOf f es
 

@@ -44,6 +44,7 @@ unmarked m =
       erased = false;
       split = m .split;
       tail = m .tail;
+      fcrc = m .fcrc;
     }
 
 module _ (g : Geometry) (n0 n1 : ℕ) where

@@ -1,22 +1,26 @@
 -- Document 01, The added writer: which commits are accepted, what an accepted one stores, and what both calls answer
 -- and leave. Assumes nothing.
 use mathlib.Core.Bool.{Bool, true, false, not, cond, _&&_}
-use mathlib.Core.List.{List}
+use mathlib.Core.List.{List, [], _∷_, _++_}
 use Prim.Native.Nat.{ℕ, _+_, _-_, min}
 use lib.ListN.{length}
 use lib.Dec.{leb, ltb, eqb}
-use Rattle.format.specs.Word.{allOnes}
+use Rattle.format.specs.Word.{toLe32, allOnes}
+use Rattle.format.specs.Tag.{tagOf}
+use Rattle.format.specs.Kind.{typeForward, noSlot}
+use Rattle.format.specs.Crc.{crc}
 use Rattle.format.specs.Walk.{Event}
 use Rattle.format.specs.Log.{log, logEnd, logEndTag}
-use Rattle.format.specs.Record.{countOf}
+use Rattle.format.specs.Record.{countOf, noForward}
 use Rattle.format.specs.Arith.{downTo}
 use Rattle.format.specs.Fetch.{pairFits, fetchOf}
 use Rattle.format.specs.Regular.{Regular, rulesFit, rulesOf}
 use Rattle.format.specs.Commit.{Item, checkTag}
-use Rattle.format.specs.Stores.{entriesLength, appending, coincides}
+use Rattle.format.specs.Stores.{erased, entriesLength, appending, coincides}
 use Rattle.format.specs.Room.{roomOf}
 use Rattle.format.specs.Entries.{itemsOf, Judged, judge, bad, good}
 use Rattle.format.specs.declared.Geometry.{Geometry}
+use Rattle.format.specs.declared.LfsFcrc.{LfsFcrc}
 use Rattle.format.specs.declared.LfsMdir.{LfsMdir}
 use Rattle.format.specs.declared.Entry.{Entry}
 use Rattle.format.specs.declared.Rules.{Rules}
@@ -46,6 +50,40 @@ roundedEnd prog at = downTo (at + checkLength + (prog - 1)) prog
 unfoldable pub checkSize : ℕ → ℕ → ℕ
 checkSize prog at = roundedEnd prog at - (at + 4)
 
+-- ---- the forward check: document 02, L5
+-- "a forward check entry: program size and the checksum of that erased unit": its checksum is "from 0xffffffff over
+-- that many erased bytes".
+abbrev pub unitCheck : ℕ → LfsFcrc
+unitCheck prog = record { seen = true; size = prog; sum = crc allOnes (erased prog) }
+
+-- as an entry: "tag 0x5ff, id 1,023, size 8", and both numbers, little-endian
+abbrev pub forwardTag : ℕ
+forwardTag = tagOf typeForward noSlot 8
+
+abbrev pub forwardItem : LfsFcrc → Item
+forwardItem f = record { tag = forwardTag; body = toLe32 (f .size) ++ toLe32 (f .sum) }
+
+-- "Document 01's bytes and space rule change by these 12 bytes": tag and data
+abbrev pub forwardLength : ℕ
+forwardLength = 12
+
+-- "When at least one whole program unit follows the new end, counted with the added bytes": the rounded end with the
+-- twelve bytes, plus one program unit, is at most the block size. `at` is where the entries end.
+unfoldable pub carries : ℕ → ℕ → ℕ → Bool
+carries prog block at = leb (roundedEnd prog (at + forwardLength) + prog) block
+
+-- the forward check that a commit carries, or none
+unfoldable pub carriedFor : ℕ → ℕ → ℕ → LfsFcrc
+carriedFor prog block at = cond (carries prog block at) (unitCheck prog) noForward
+
+abbrev pub forwardItems : LfsFcrc → List Item
+forwardItems f = cond (f .seen) (forwardItem f ∷ []) []
+
+-- What is laid "before its check tag": the entries, which begin at `from`, and the forward check, or none.
+unfoldable pub withForward : ℕ → ℕ → ℕ → List Item → List Item
+withForward prog block from is = is ++ forwardItems (carriedFor prog block (from + entriesLength is))
+
+-- ---- where the check stands, and the stores
 -- where the check tag stands, of a commit of these entries behind the log es
 abbrev pub checkAt : List Event → List Item → ℕ
 checkAt es is = logEnd es + entriesLength is
@@ -67,8 +105,8 @@ unfoldable pub commitFits : Geometry → ℕ → ℕ → ℕ → ℕ → ℕ →
 commitFits g length0 length1 n0 n1 rules entries bytes = pairFits g length0 length1 n0 n1 && leb bytes mostData
     && leb entries mostEntries && rulesFit rules
 
--- A call is refused, or accepted: whether the second block answers, and so is appended to, the entries, and their
--- check's size.
+-- A call is refused, or accepted: whether the second block answers, and so is appended to, the entries that are laid,
+-- and their check's size.
 pub data Verdict : Type 0 where
   refused : Refusal → Verdict
   accepted : Bool → List Item → ℕ → Verdict
@@ -83,8 +121,8 @@ abbrev pub roomThen : Room → Verdict → Verdict
 roomThen (room.Refused r) v = refused r
 roomThen room.Clean v = v
 
--- The tests of good entries, in document 01's order: "-28, -203, -204", and for -203 the room's reasons. b is the block
--- that answers, es its log.
+-- The tests of what is to be laid, in document 01's order: "-28, -203, -204", and for -203 the room's reasons. b is the
+-- block that answers, es its log.
 unfoldable pub placed : ℕ → Bool → List ℕ → List Event → List Item → Verdict
 placed prog second b es is =
     cond (ltb (length b) (roundedEnd prog (checkAt es is))) (refused NoSpace)
@@ -102,7 +140,8 @@ judgedBy (good c) v = v
 unfoldable pub appended : Rules → ℕ → Bool → List ℕ → List Event → List Entry → List ℕ → Verdict
 appended r prog second b es entries dat =
     cond (not (Regular r es)) (refused Irregular)
-    (judgedBy (judge dat 0 (countOf 0 es) entries) (placed prog second b es (itemsOf dat entries)))
+    (judgedBy (judge dat 0 (countOf 0 es) entries)
+    (placed prog second b es (withForward prog (length b) (logEnd es) (itemsOf dat entries))))
 
 -- The record's pair has the answering block's number first.
 abbrev pub isSecond : ℕ → LfsMdir → Bool

@@ -18,9 +18,18 @@ pub struct LfsPair {
     pub n1: u32,
 }
 
+// A forward check (the Rust's `LfsFcrc`): whether there is one, of how many bytes behind the log's end, and their
+// checksum. All 0 where there is none.
+#[repr(C)]
+pub struct LfsFcrc {
+    pub seen: bool,
+    pub size: u32,
+    pub sum: u32,
+}
+
 // The record of a metadata pair, as fetch reads it: the answering block's number first, its revision, where its
 // committed log ends and the tag there, the number of slots, whether the room behind passed its forward check (which
-// does not say that it is empty), and the tail (hard where `split`).
+// does not say that it is empty), the tail (hard where `split`), and the last forward check that is committed.
 #[repr(C)]
 pub struct LfsMdir {
     pub pair: LfsPair,
@@ -31,6 +40,7 @@ pub struct LfsMdir {
     pub erased: bool,
     pub split: bool,
     pub tail: LfsPair,
+    pub fcrc: LfsFcrc,
 }
 
 // The global state: a tag and a pair.

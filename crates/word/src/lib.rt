@@ -2,6 +2,7 @@
 // cast is here a read or a store of four bytes at an offset of a slice. Any slice and offset; what passes the end is
 // refused, and a refused store alters nothing.
 ghost use mathlib.Core.Path.{_≡_};
+ghost use mathlib.Core.List.{_++_};
 ghost use Rattle.format.specs.Word.{toLe32, toBe32};
 ghost use Rattle.format.specs.Bytes.{inside, le32At, be32At, putAnswer, putLe32, putBe32};
 use format::Altered;
@@ -22,6 +23,15 @@ pub fn le_bytes(v: u32) -> [u8; 4]
         (v / 0x1_0000 % 0x100) as u8,
         (v / 0x100_0000) as u8,
     ]
+}
+
+// The eight bytes of two words, each lowest first.
+pub fn le_pair(a: u32, b: u32) -> [u8; 8]
+    ensures { λ r. ⌜ r ≡ toLe32 a ++ toLe32 b ⌝ }
+{
+    let x = le_bytes(a);
+    let y = le_bytes(b);
+    [x[0], x[1], x[2], x[3], y[0], y[1], y[2], y[3]]
 }
 
 // The four bytes of a word, highest first.

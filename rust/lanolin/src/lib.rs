@@ -67,7 +67,6 @@ pub struct Geometry {
 
 /// The record of a pair, as fetch reads it. A lookup reads `pair`, `off` and
 /// `etag` alone.
-#[repr(C)]
 #[derive(Clone, Copy, Debug, PartialEq, Eq)]
 pub struct Record {
     /// The answering block's number first.
@@ -87,6 +86,21 @@ pub struct Record {
     pub split: bool,
     /// Two [`BLOCK_NULL`]: none.
     pub tail: [u32; 2],
+    /// The last forward check that is committed, in whichever commit of the log;
+    /// it decides `erased`.
+    pub forward: Option<ForwardCheck>,
+}
+
+/// A forward check: what the bytes behind the end of a log were when it was
+/// written. A commit carries one of the program unit behind its end, which is
+/// erased, so that littlefs appends there; where with its 12 bytes no unit would
+/// follow in the block, it is left out.
+#[derive(Clone, Copy, Debug, PartialEq, Eq)]
+pub struct ForwardCheck {
+    /// Of how many bytes: the program size, as this library writes it.
+    pub size: u32,
+    /// Their checksum, CRC-32 from 0xffffffff without inversion at its end.
+    pub sum: u32,
 }
 
 /// The global state: three words that XOR. [`Gstate::default`] is no pending
@@ -217,7 +231,7 @@ impl Pair<'_> {
     /// ```
     pub fn fetch(&self, block_count: u32, seed: u32) -> Result<Fetched, Refusal> {
         let answer = raw::fetch(self, block_count, seed);
-        refusal::of_fetch(answer.result, 0, answer.record, answer.seed)
+        refusal::of_fetch(answer.result, 0, answer.dir.into(), answer.seed)
     }
 
     /// The newest entry that `key` matches under `mask`: its tag, length and
@@ -433,7 +447,7 @@ impl PairMut<'_> {
     /// One commit of all the entries, appended to the block that answers, whose
     /// log is regular by `rules`. Gives what a fetch of the finished pair from the
     /// same seed gives. At most [`ENTRIES_MAX`] entries and [`DATA_MAX`] bytes of
-    /// data.
+    /// data. Behind the entries stands a [`ForwardCheck`], where one fits.
     ///
     /// Proved: it is accepted exactly when document 01 and the rules say
     /// (`commit-accepted-exactly`), and lays down exactly its bytes; a refused
@@ -462,7 +476,9 @@ impl PairMut<'_> {
     ///     other => other?,
     /// }
     /// .record;
-    /// assert_eq!((record.rev, record.off), (1, 64));
+    /// assert_eq!((record.rev, record.off), (1, 80));
+    /// // littlefs sees that the 16 bytes behind it are erased.
+    /// assert_eq!((record.erased, record.forward.map(|check| check.size)), (true, Some(16)));
     /// # Ok::<(), lanolin::Refusal>(())
     /// ```
     pub fn commit(
@@ -474,13 +490,14 @@ impl PairMut<'_> {
         data: &[u8],
     ) -> Result<Fetched, Refusal> {
         let answer = raw::commit(self, block_count, seed, rules.number(), entries, data);
-        refusal::of_fetch(answer.result, answer.index, answer.record, answer.seed)
+        refusal::of_fetch(answer.result, answer.index, answer.dir.into(), answer.seed)
     }
 
     /// All that the pair holds, whose log is regular by `rules`, as one commit in
     /// the other block, which is erased first, under the next revision: of each
     /// slot a create, its name, its struct and its user attributes. Gives what a
-    /// fetch of the finished pair from the same seed gives.
+    /// fetch of the finished pair from the same seed gives. It carries a
+    /// [`ForwardCheck`] as a commit does.
     ///
     /// A full block that littlefs compacted has no creates, and may have no room
     /// for them: [`Refusal::NoSpace`].
@@ -509,6 +526,6 @@ impl PairMut<'_> {
         rules: Rules,
     ) -> Result<Fetched, Refusal> {
         let answer = raw::compact(self, block_count, seed, rules.number());
-        refusal::of_fetch(answer.result, answer.index, answer.record, answer.seed)
+        refusal::of_fetch(answer.result, answer.index, answer.dir.into(), answer.seed)
     }
 }

@@ -7,7 +7,7 @@
 /// The version of the header, major number.
 pub const VERSION_MAJOR: u32 = 0;
 /// The version of the header, minor number.
-pub const VERSION_MINOR: u32 = 5;
+pub const VERSION_MINOR: u32 = 6;
 /// Both: the major number in the upper half, the minor in the lower.
 pub const VERSION: u32 = VERSION_MAJOR << 16 | VERSION_MINOR;
 
@@ -62,7 +62,7 @@ pub const TYPE_DELETE: u32 = 0x4ff;
 /// The check that closes a commit, of whose type the upper four bits count. The
 /// commit makes it.
 pub const TYPE_CCRC: u32 = 0x500;
-/// The forward check of the room behind a commit. It is read, but not written.
+/// The forward check of the room behind a commit. The commit makes it.
 pub const TYPE_FCRC: u32 = 0x5ff;
 /// The class of tails: the two block numbers of the next pair.
 pub const TYPE_TAIL: u32 = 0x600;

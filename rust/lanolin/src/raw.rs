@@ -13,22 +13,80 @@
 //! names only. The tests' runs are what checks it; the sizes below are those that
 //! the header asserts.
 
-use crate::{Entry, Geometry, Gstate, Record};
+use crate::{Entry, ForwardCheck, Geometry, Gstate, Record};
 use core::mem::size_of;
 
 const _: () = {
-    assert!(size_of::<Geometry>() == 8 && size_of::<Record>() == 32);
+    assert!(size_of::<Geometry>() == 8 && size_of::<Mdir>() == 44);
     assert!(size_of::<Gstate>() == 12 && size_of::<Entry>() == 12);
-    assert!(size_of::<Fetched>() == 40 && size_of::<Committed>() == 44);
+    assert!(size_of::<Fetched>() == 52 && size_of::<Committed>() == 56);
     assert!(size_of::<Got>() == 16 && size_of::<Info>() == 268);
     assert!(size_of::<Named>() == 12);
 };
+
+/// `lanolin_mdir`.
+#[repr(C)]
+#[derive(Clone, Copy)]
+pub struct Mdir {
+    pub pair: [u32; 2],
+    pub rev: u32,
+    pub off: u32,
+    pub etag: u32,
+    pub count: u16,
+    pub erased: bool,
+    pub split: bool,
+    pub tail: [u32; 2],
+    pub forward: bool,
+    pub forward_size: u32,
+    pub forward_sum: u32,
+}
+
+impl From<Mdir> for Record {
+    fn from(dir: Mdir) -> Record {
+        let forward = ForwardCheck {
+            size: dir.forward_size,
+            sum: dir.forward_sum,
+        };
+        Record {
+            pair: dir.pair,
+            rev: dir.rev,
+            off: dir.off,
+            etag: dir.etag,
+            count: dir.count,
+            erased: dir.erased,
+            split: dir.split,
+            tail: dir.tail,
+            forward: dir.forward.then_some(forward),
+        }
+    }
+}
+
+impl From<Record> for Mdir {
+    fn from(record: Record) -> Mdir {
+        // Without a forward check both words are 0, as the archive has them.
+        let words = |check: ForwardCheck| (check.size, check.sum);
+        let (forward_size, forward_sum) = record.forward.map_or((0, 0), words);
+        Mdir {
+            pair: record.pair,
+            rev: record.rev,
+            off: record.off,
+            etag: record.etag,
+            count: record.count,
+            erased: record.erased,
+            split: record.split,
+            tail: record.tail,
+            forward: record.forward.is_some(),
+            forward_size,
+            forward_sum,
+        }
+    }
+}
 
 /// `lanolin_fetched`.
 #[repr(C)]
 pub struct Fetched {
     pub result: i32,
-    pub record: Record,
+    pub dir: Mdir,
     pub seed: u32,
 }
 
@@ -63,7 +121,7 @@ pub struct Named {
 pub struct Committed {
     pub result: i32,
     pub index: u32,
-    pub record: Record,
+    pub dir: Mdir,
     pub seed: u32,
 }
 
@@ -75,21 +133,21 @@ extern "C" {
     ) -> Fetched;
     fn lanolin_getslice(
         geometry: Geometry, b0: *const u8, b0_len: usize, b1: *const u8, b1_len: usize,
-        n0: u32, n1: u32, dir: Record, gdisk: Gstate,
+        n0: u32, n1: u32, dir: Mdir, gdisk: Gstate,
         gmask: u32, gtag: u32, goff: u32, buffer: *mut u8, gsize: usize,
     ) -> Got;
     fn lanolin_get(
         geometry: Geometry, b0: *const u8, b0_len: usize, b1: *const u8, b1_len: usize,
-        n0: u32, n1: u32, dir: Record, gdisk: Gstate,
+        n0: u32, n1: u32, dir: Mdir, gdisk: Gstate,
         gmask: u32, gtag: u32, buffer: *mut u8, gsize: usize,
     ) -> Got;
     fn lanolin_getinfo(
         geometry: Geometry, b0: *const u8, b0_len: usize, b1: *const u8, b1_len: usize,
-        n0: u32, n1: u32, dir: Record, gdisk: Gstate, name_max: u32, id: u32,
+        n0: u32, n1: u32, dir: Mdir, gdisk: Gstate, name_max: u32, id: u32,
     ) -> Info;
     fn lanolin_getgstate(
         geometry: Geometry, b0: *const u8, b0_len: usize, b1: *const u8, b1_len: usize,
-        n0: u32, n1: u32, dir: Record, gdisk: Gstate, gstate: *mut Gstate,
+        n0: u32, n1: u32, dir: Mdir, gdisk: Gstate, gstate: *mut Gstate,
     ) -> i32;
     fn lanolin_find(
         geometry: Geometry, b0: *const u8, b0_len: usize, b1: *const u8, b1_len: usize,
@@ -129,12 +187,12 @@ pub fn get_slice(
 ) -> Got {
     let (g, [b0, b1], [n0, n1]) = (pair.geometry, pair.images, pair.numbers);
     let (p0, l0, p1, l1) = (b0.as_ptr(), b0.len(), b1.as_ptr(), b1.len());
-    let (p, l) = (buffer.as_mut_ptr(), buffer.len());
+    let (p, l, dir) = (buffer.as_mut_ptr(), buffer.len(), record.into());
     // SAFETY: images and buffer are valid for their lengths, and the buffer is
     // lent exclusively.
     unsafe {
         lanolin_getslice(
-            g, p0, l0, p1, l1, n0, n1, record, gdisk, mask, key, offset, p, l,
+            g, p0, l0, p1, l1, n0, n1, dir, gdisk, mask, key, offset, p, l,
         )
     }
 }
@@ -149,24 +207,26 @@ pub fn get(
 ) -> Got {
     let (g, [b0, b1], [n0, n1]) = (pair.geometry, pair.images, pair.numbers);
     let (p0, l0, p1, l1) = (b0.as_ptr(), b0.len(), b1.as_ptr(), b1.len());
-    let (p, l) = (buffer.as_mut_ptr(), buffer.len());
+    let (p, l, dir) = (buffer.as_mut_ptr(), buffer.len(), record.into());
     // SAFETY: as for `get_slice`.
-    unsafe { lanolin_get(g, p0, l0, p1, l1, n0, n1, record, gdisk, mask, key, p, l) }
+    unsafe { lanolin_get(g, p0, l0, p1, l1, n0, n1, dir, gdisk, mask, key, p, l) }
 }
 
 pub fn get_info(pair: &crate::Pair, record: Record, gdisk: Gstate, name_max: u32, id: u32) -> Info {
     let (g, [b0, b1], [n0, n1]) = (pair.geometry, pair.images, pair.numbers);
     let (p0, l0, p1, l1) = (b0.as_ptr(), b0.len(), b1.as_ptr(), b1.len());
+    let dir = record.into();
     // SAFETY: the images are valid for their lengths; any number is answered.
-    unsafe { lanolin_getinfo(g, p0, l0, p1, l1, n0, n1, record, gdisk, name_max, id) }
+    unsafe { lanolin_getinfo(g, p0, l0, p1, l1, n0, n1, dir, gdisk, name_max, id) }
 }
 
 pub fn get_gstate(pair: &crate::Pair, record: Record, gdisk: Gstate, state: &mut Gstate) -> i32 {
     let (g, [b0, b1], [n0, n1]) = (pair.geometry, pair.images, pair.numbers);
     let (p0, l0, p1, l1) = (b0.as_ptr(), b0.len(), b1.as_ptr(), b1.len());
+    let dir = record.into();
     // SAFETY: the images are valid for their lengths; the state is lent
     // exclusively.
-    unsafe { lanolin_getgstate(g, p0, l0, p1, l1, n0, n1, record, gdisk, state) }
+    unsafe { lanolin_getgstate(g, p0, l0, p1, l1, n0, n1, dir, gdisk, state) }
 }
 
 pub fn find(
@@ -242,6 +302,7 @@ mod tests {
         erased: false,
         split: false,
         tail: [0; 2],
+        forward: None,
     };
 
     /// A number that is no rule, which [`Rules`](crate::Rules) can't give: -22,
@@ -266,7 +327,9 @@ mod tests {
                 ];
                 for answer in answers {
                     assert_eq!((answer.result, answer.index), (ERR_INVAL, 0));
-                    assert_eq!((answer.record, answer.seed), (NOTHING, 7));
+                    assert_eq!((Record::from(answer.dir), answer.seed), (NOTHING, 7));
+                    // The two words are 0 too, which the record does not show.
+                    assert_eq!((answer.dir.forward_size, answer.dir.forward_sum), (0, 0));
                 }
                 let named = find(&pair.as_pair(), 0, 7, rules, b"q212", TYPE_REG);
                 let answer = (named.result, named.found, named.id);

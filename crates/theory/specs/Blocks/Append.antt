@@ -76,7 +76,7 @@ pub record AppendOk (b : List ℕ) (es : List Event) (is : List Item) (ct : ℕ)
   pub top : logEndTag es < 2 ^ 31
   pub lucky : NoCoincidence allOnes (logEndTag es) is ct
 
-appends : (b : List ℕ) (es : List Event) (is : List Item) (ct : ℕ) → AppendOk b es is ct
+pub appends : (b : List ℕ) (es : List Event) (is : List Item) (ct : ℕ) → AppendOk b es is ct
     → Appends (take (logEnd es) b) (length b - (logEnd es)) es is ct (length b - (logEnd es) - (entriesLength is + 8))
 appends b es is ct a =
     record {
@@ -111,7 +111,7 @@ as-room b es is ct k a h =
     (ap (λ z. take e b ++ z) (sym (fill-take k N (length b - (logEnd es) - (entriesLength is + 8))
     (length b - (logEnd es) - k) (omega arith) (omega arith))))
 
-as-filled : (b : List ℕ) (es : List Event) (is : List Item) (ct : ℕ) → AppendOk b es is ct
+pub as-filled : (b : List ℕ) (es : List Event) (is : List Item) (ct : ℕ) → AppendOk b es is ct
     → appending b es is ct (entriesLength is + 8) ≡ take (logEnd es) b ++ filled allOnes (logEndTag es) is ct
     (length b - (logEnd es) - (entriesLength is + 8))
 unfolding room filled

@@ -1,6 +1,7 @@
 -- An accepted verdict of a commit is the acceptance that demand 3 rests on (Acceptance.antt): of the block that
--- answers, its log, the entries' items and the check's size. Assumes nothing.
-use mathlib.Core.Path.{_≡_, refl, _∙_}
+-- answers, its log, what is laid (the entries' items and the forward check, or none) and the check's size. Assumes
+-- nothing.
+use mathlib.Core.Path.{_≡_, refl, sym, _∙_}
 use mathlib.Core.Logic.{_≢_}
 use mathlib.Core.Bool.{Bool, true, false, not, cond, _&&_}
 use mathlib.Core.List.{List, []}
@@ -28,7 +29,7 @@ use Rattle.format.specs.Entries.{itemsOf, Judged, judge, bad, good}
 use Rattle.format.specs.Room.{roomClean, roomOf}
 use Rattle.format.specs.Writer.{checkLength, roundedEnd, checkSize, checkAt, mostData, mostEntries, commitFits}
 use Rattle.format.specs.Writer.{Verdict, blockAt, roomThen, placed, judgedBy, appended, fetchedThen, verdictOf}
-use Rattle.format.specs.Writer.{refused, accepted}
+use Rattle.format.specs.Writer.{withForward, refused, accepted}
 use Rattle.format.specs.declared.Geometry.{Geometry}
 use Rattle.format.specs.declared.LfsMdir.{LfsMdir}
 use Rattle.format.specs.declared.Entry.{Entry}
@@ -46,6 +47,7 @@ use Rattle.theory.specs.Log.TwoBlocks.{viewAt, view-log}
 use Rattle.format.specs.Directory.{acts}
 use Rattle.theory.specs.Lookup.SlotCount.{slotsAfterAll}
 use Rattle.theory.specs.Commit.Tested.{regular-count}
+use Rattle.theory.specs.Commit.ForwardCheck.{with-made, with-hold}
 use Rattle.theory.specs.Rules.FetchCount.{regular-slots}
 use Rattle.theory.specs.Commit.Acceptance.{Accepts}
 use Rattle.theory.specs.Fetch.FoundRecord.{found-answers}
@@ -153,12 +155,15 @@ module _ (g : Geometry) (l0 l1 n0 n1 rules e d : ℕ) (fits : commitFits g l0 l1
 module _ (prog : ℕ) (some : 4 ≤ prog) (most : prog ≤ 512) (b : List ℕ) (es : List Event) (old : log b ≡ es)
     (nonempty : es ≢ []) (regular : Regular Littlefs es ≡ true) (dat : List ℕ) (entries : List Entry) (c : ℕ)
     (all : judge dat 0 (countOf 0 es) entries ≡ good c) where
-  placed-accepts : (second w : Bool) (is : List Item) (size : ℕ)
-      → placed prog second b es (itemsOf dat entries) ≡ accepted w is size
-      → (w ≡ second) × (is ≡ itemsOf dat entries) × Accepts b es (itemsOf dat entries) size
+  -- what is laid
+  abbrev L : List Item
+  L = withForward prog (length b) (logEnd es) (itemsOf dat entries)
+
+  placed-accepts : (second w : Bool) (is : List Item) (size : ℕ) → placed prog second b es L ≡ accepted w is size
+      → (w ≡ second) × (is ≡ L) × (size ≡ checkSize prog (checkAt es is)) × Accepts b es is size
   unfolding placed roomClean
   placed-accepts second w is size h =
-      let I : List Item = itemsOf dat entries in
+      let I : List Item = withForward prog (length b) (logEnd es) (itemsOf dat entries) in
       let p = past (ltb (length b) (roundedEnd prog (checkAt es I))) NoSpace _ w is size h in
       let q = past-room (roomOf prog b (logEnd es) (logEndTag es)) _ w is size (p .1) in
       let r = past (coincides allOnes (logEndTag es) I (checkTag (checkSize prog (checkAt es I)))) Coincidence _ w is
@@ -170,15 +175,17 @@ module _ (prog : ℕ) (some : 4 ≤ prog) (most : prog ≤ 512) (b : List ℕ) (
       let g = judged-good dat entries 0 (slotsAfterAll 0 (acts es)) c (regular-count b es old regular)
       (rw (← slots) all) in
       let k = check-size prog (checkAt es I) some most in
-      let same : checkSize prog (checkAt es I) ≡ size = cc in (
+      let same : checkSize prog (checkAt es I) ≡ size = cc in
+      let items : I ≡ is = cc in (
         cc,
-        cc,
-        rw (← same) (record {
+        sym items,
+        rw (← same, ← items) refl,
+        rw (← same, ← items) (record {
           old = old;
           nonempty = nonempty;
           regular = regular;
-          made = g .made;
-          hold = g .hold;
+          made = with-made prog (length b) (logEnd es) (itemsOf dat entries) (g .made);
+          hold = with-hold prog (length b) (logEnd es) (itemsOf dat entries) (slotsAfterAll 0 (acts es)) (g .hold);
           check = rw (
             le-leb 4 (checkSize prog (checkAt es I)) (k .0),
             le-leb (checkSize prog (checkAt es I)) 1_022 (k .1),
@@ -198,20 +205,23 @@ module _ (prog : ℕ) (some : 4 ≤ prog) (most : prog ≤ 512) (b : List ℕ) (
 
 -- ---- the verdict
 -- what an accepted commit appends to: the block at place `second` of the two, which answers, with the revision rev
-pub record AppendsTo (r : Rules) (b0 b1 : List ℕ) (entries : List Entry) (dat : List ℕ) (second : Bool) (is : List Item)
-    (size : ℕ) : Type 0 where
+pub record AppendsTo (r : Rules) (prog : ℕ) (b0 b1 : List ℕ) (entries : List Entry) (dat : List ℕ) (second : Bool)
+    (is : List Item) (size : ℕ) : Type 0 where
   pub rev : ℕ
-  pub items : is ≡ itemsOf dat entries
+  pub sized : (4 ≤ prog) × (prog ≤ 512)
+  pub items : is ≡ withForward prog (length (blockAt second b0 b1)) (logEnd (log (blockAt second b0 b1)))
+      (itemsOf dat entries)
+  pub rounded′ : size ≡ checkSize prog (checkAt (log (blockAt second b0 b1)) is)
   pub answers : viewAt second (blockAt second b0 b1) (blockAt (not second) b0 b1)
       ≡ at second rev (log (blockAt second b0 b1))
   pub ruled : Regular r (log (blockAt second b0 b1)) ≡ true
-  pub accepts : Accepts (blockAt second b0 b1) (log (blockAt second b0 b1)) (itemsOf dat entries) size
+  pub accepts : Accepts (blockAt second b0 b1) (log (blockAt second b0 b1)) is size
 
 module _ (g : Geometry) (b0 b1 : List ℕ) (n0 n1 count seed rules : ℕ) (entries : List Entry) (dat : List ℕ)
     (second : Bool)
     (is : List Item) (size : ℕ) where
   pub accepted-commit : verdictOf g b0 b1 n0 n1 count seed rules entries dat ≡ accepted second is size
-      → AppendsTo (rulesOf rules) b0 b1 entries dat second is size
+      → AppendsTo (rulesOf rules) (g .«prog_size») b0 b1 entries dat second is size
   unfolding verdictOf appended
   accepted-commit h =
       let p = past (not (commitFits g (length b0) (length b1) n0 n1 rules (length entries) (length dat))) Invalid _
@@ -232,8 +242,10 @@ module _ (g : Geometry) (b0 b1 : List ℕ) (n0 n1 count seed rules : ℕ) (entri
       (j .then) in
       rw (k .0) (record {
         rev = a .rev;
+        sized = prog;
         items = k .1;
+        rounded′ = k .2;
         answers = a .answers;
         ruled = not-false _ (q .0);
-        accepts = k .2;
+        accepts = k .3;
       })

@@ -5,14 +5,13 @@ use mathlib.Core.Bool.{Bool, true, false}
 use mathlib.Core.List.{List, [], _∷_, _++_}
 use Prim.Native.Nat.{ℕ, _≤_}
 use native.Mathlib.Omega.{arith}
-use lib.Dec.{leb, eqb}
-use borrow.Author.Tests.{leb-true, eqb-true}
+use lib.Dec.{leb}
+use borrow.Author.Tests.{leb-true}
 use Rattle.format.specs.Tag.{tagType3, tagId, tagSize, tagLength}
-use Rattle.format.specs.Kind.{typeSuperblock, typeForward}
 use Rattle.format.specs.Walk.{Event, ent, chk, inv}
 use Rattle.format.specs.Log.{log}
 use Rattle.format.specs.Regular.{Rule, ruleOf, between, ruleHolds, countAfter, grows, growsAfter, countRaised}
-use Rattle.format.specs.Regular.{regularFrom, Regular}
+use Rattle.format.specs.Regular.{loggedRule, regularFrom, Regular}
 use Rattle.format.specs.declared.Rules.{Rules}
 use Rattle.format.specs.declared.Rules.the-variants.{Littlefs}
 use Rattle.format.specs.Commit.{Item, commitSum, written, itemsHold}
@@ -125,9 +124,9 @@ pub items-ok : (is : List Item) (c : ℕ) → AllMade is → c ≤ mostSlots →
 unfolding itemsHold itemActs
 items-ok [] c m low h = record { good = tt; shapes = tt; rules = tt; few = tt }
 items-ok (i ∷ is) c m low h =
-    let R : Rule = ruleOf false (tagType3 (i .tag)) in
+    let R : Rule = loggedRule (i .tag) in
     let r = both-true (ruleHolds R c (tagId (i .tag)) (tagSize (i .tag))) (itemsHold (countAfter R c) is) h in
-    let u = ruled-entry R c (i .tag) (i .body) (rule-says (tagType3 (i .tag)) false) (r .0) in
+    let u = ruled-entry R c (i .tag) (i .body) (rule-says (tagType3 (i .tag)) true) (r .0) in
     let ih = items-ok is (countAfter R c) (m .1) (u .few low) (r .1) in
     record {
       good = (
@@ -145,21 +144,6 @@ items-ok (i ∷ is) c m low h =
     }
 
 -- ---- and the log that is finished is regular again
--- a rule that an entry of a commit passes is its rule in a log too
-rule-logged : (type c id size : ℕ) → ruleHolds (ruleOf false type) c id size ≡ true
-    → ruleOf true type ≡ ruleOf false type
-unfolding ruleOf ruleHolds
-rule-logged type c id size h = go (eqb type typeSuperblock) refl (eqb type typeForward) refl
-  where
-    no : ruleHolds (ruleOf false type) c id size ≡ false → ⊥
-    no k = let z : _≡_ {A = ℕ} 0 1 = cc in omega arith
-
-    go : (s : Bool) → eqb type typeSuperblock ≡ s → (f : Bool) → eqb type typeForward ≡ f
-        → ruleOf true type ≡ ruleOf false type
-    go true e f k = absurd (no (let q : type ≡ typeSuperblock = eqb-true type typeSuperblock e in rw q))
-    go false e true k = absurd (no (let q : type ≡ typeForward = eqb-true type typeForward k in rw q))
-    go false e false k = rw (e, k)
-
 -- the count that the rules leave is the number of slots; what follows makes none by names
 regular-app : (es more : List Event) (g : Bool) (c : ℕ) → regularFrom g c es ≡ true
     → regularFrom false (slotsAfterAll c (acts es)) more ≡ true → regularFrom g c (es ++ more) ≡ true
@@ -182,11 +166,9 @@ pub items-regular : (is : List Item) (c ct x : ℕ) → itemsHold c is ≡ true 
 unfolding itemsHold regularFrom written
 items-regular [] c ct x h k = rw k
 items-regular (i ∷ is) c ct x h k =
-    let R : Rule = ruleOf false (tagType3 (i .tag)) in
+    let R : Rule = loggedRule (i .tag) in
     let r = both-true (ruleHolds R c (tagId (i .tag)) (tagSize (i .tag))) (itemsHold (countAfter R c) is) h in
-    let same : ruleOf true (tagType3 (i .tag)) ≡ ruleOf false (tagType3 (i .tag)) =
-    rule-logged (tagType3 (i .tag)) c (tagId (i .tag)) (tagSize (i .tag)) (r .0) in
-    rw (same, raised-never R c (tagId (i .tag)), grows-never R, r .0) (items-regular is (countAfter R c) ct x (r .1) k)
+    rw (raised-never R c (tagId (i .tag)), grows-never R, r .0) (items-regular is (countAfter R c) ct x (r .1) k)
 
 pub regular-again : (r : Rules) (es : List Event) (sum p : ℕ) (is : List Item) (ct : ℕ) → Regular r es ≡ true
     → itemsHold (slotsAfterAll 0 (acts es)) is ≡ true

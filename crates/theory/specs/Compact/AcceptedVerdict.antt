@@ -3,7 +3,7 @@
 use mathlib.Core.Path.{_≡_, refl, sym, ap, subst, _∙_}
 use mathlib.Core.Bool.{Bool, true, false, not, cond}
 use mathlib.Core.Option as option
-use mathlib.Core.List.{List, _++_}
+use mathlib.Core.List.{List, [], _++_, append-assoc, map, reverse}
 use Prim.Native.Nat.{ℕ, _+_, _-_, _^_, _≤_, _<_, min}
 use native.Mathlib.Omega.{arith}
 use lib.ListN.{length, length-append}
@@ -22,9 +22,12 @@ use Rattle.format.specs.Regular.{Regular, rulesFit, rulesOf}
 use Rattle.format.specs.declared.Rules.{Rules}
 use Rattle.format.specs.declared.Rules.the-variants.{Littlefs}
 use Rattle.format.specs.Directory.{dirOf, moveOf}
-use Rattle.format.specs.Commit.{Item, commitBytes, checkTag}
+use Rattle.format.specs.Commit.{Item, commitBytes, checkTag, written}
 use Rattle.format.specs.Stores.{erased, entriesLength, coincides, compactBytes, compacted, compacting}
-use Rattle.format.specs.Writer.{checkLength, roundedEnd, checkSize, blockAt, Images}
+use Rattle.format.specs.Writer.{checkLength, roundedEnd, checkSize, carriedFor, forwardItems, withForward, blockAt}
+use Rattle.format.specs.Writer.{Images}
+use Rattle.format.specs.Machine.{Machine, machineOf, ran}
+use Rattle.format.specs.declared.LfsFcrc.{LfsFcrc}
 use Rattle.format.specs.Compaction.{compactionItems, compactCheckAt, CompactVerdict, compactRefused, compactAccepted}
 use Rattle.format.specs.Compaction.{placedAnew, compactable, compactFetched, compactVerdict, compactStores, compactedTo}
 use Rattle.format.specs.Compaction.{compactImagesAfter, compactImages}
@@ -51,10 +54,14 @@ use Rattle.theory.specs.Walk.ReadBack.{AllGood}
 use Rattle.theory.specs.Compact.MoveCarried.{MoveOk, regular-move}
 use Rattle.theory.specs.Compact.Acceptance.{Compacts, compact-fits, compact-stopped}
 use Rattle.theory.specs.Compact.EntriesListed.{listed}
-use Rattle.theory.specs.Compact.BehindSlots.{behindItems, behind-loose, loose-made, loose-hold, loose-still}
-use Rattle.theory.specs.Compact.BehindSlots.{move-kept, tail-kept}
+use Rattle.theory.specs.Compact.BehindSlots.{behindItems, behind-loose, move-kept, tail-kept}
+use Rattle.theory.specs.Rules.LooseEntry.{AllLoose, loose-app, loose-made, loose-hold, loose-still}
 use Rattle.theory.specs.Fetch.FoundRecord.{found-answers}
 use Rattle.theory.specs.Commit.AcceptedVerdict.{check-size}
+use Rattle.theory.specs.Directory.Rebuild.{rebuild}
+use Rattle.theory.specs.Blocks.ActItems.{toItem}
+use Rattle.theory.specs.Commit.MachineAfter.{commit-ran}
+use Rattle.theory.specs.Commit.ForwardCheck.{silent-loose, forward-none, with-ran}
 use Rattle.theory.specs.Fetch.FoundBlock.{Sized, found-sized, view-rev}
 
 -- ---- the tests, passed
@@ -73,6 +80,19 @@ pub compaction-items : (es : List Event) → compactionItems es ≡ compactItems
 unfolding compactionItems
 compaction-items es = sym (listed (dirOf es) (behindOf es))
 
+-- all that is laid behind the slots of the block x: the forward check, or none, comes last
+abbrev pub laidBehind : ℕ → List ℕ → List Item
+laidBehind prog x = behindOf (log x)
+    ++ forwardItems (carriedFor prog (length x) (compactCheckAt (compactionItems (log x))))
+
+pub laid-items : (prog : ℕ) (x : List ℕ)
+    → withForward prog (length x) 4 (compactionItems (log x)) ≡ compactItems (dirOf (log x)) (laidBehind prog x)
+unfolding withForward compactItems
+laid-items prog x =
+    let F : List Item = forwardItems (carriedFor prog (length x) (compactCheckAt (compactionItems (log x)))) in
+    ap (λ (l : List Item). l ++ F) (compaction-items (log x))
+    ∙ append-assoc (map toItem (reverse (rebuild 0 (dirOf (log x)) []))) (behindOf (log x)) F
+
 -- of a block whose log is regular, by littlefs's rule, the wider one: its slots are counted, and the entries are well
 -- made
 module _ (x : List ℕ) (regular : Regular Littlefs (log x) ≡ true) where
@@ -87,14 +107,21 @@ module _ (x : List ℕ) (regular : Regular Littlefs (log x) ≡ true) where
   slots-few = rw (length-dirOf (log x) (regular-log x (log x) refl regular .base .rules))
       (regular-count x (log x) refl regular)
 
-  pub compaction-good : AllGood (compactionItems (log x))
-  compaction-good =
-      let es : List Event = log x in
-      let loose = behind-loose (splitOf false es) (tailOf noTail es) (moveOf option.none es)
-      (regular-move x es refl regular) in
-      let ok = items-ok (behindOf es) (length (dirOf es)) (loose-made (behindOf es) loose) slots-few
-      (loose-hold (behindOf es) (length (dirOf es)) loose) in
-      rw (compaction-items es) (compact-good (dirOf es) (behindOf es) slots-ok (omega (arith, slots-few)) (ok .good))
+  module _ (prog : ℕ) where
+    laid-loose : AllLoose (laidBehind prog x)
+    laid-loose =
+        let F : LfsFcrc = carriedFor prog (length x) (compactCheckAt (compactionItems (log x))) in
+        loose-app (behindOf (log x)) (forwardItems F)
+        (behind-loose (splitOf false (log x)) (tailOf noTail (log x)) (moveOf option.none (log x))
+        (regular-move x (log x) refl regular))
+        (silent-loose (forwardItems F) (forward-none F))
+
+    pub compaction-good : AllGood (withForward prog (length x) 4 (compactionItems (log x)))
+    compaction-good =
+        let ts : List Item = laidBehind prog x in
+        let ok = items-ok ts (length (dirOf (log x))) (loose-made ts laid-loose) slots-few
+        (loose-hold ts (length (dirOf (log x))) laid-loose) in
+        rw (laid-items prog x) (compact-good (dirOf (log x)) ts slots-ok (omega (arith, slots-few)) (ok .good))
 
 -- the block x answers, o is the other; both are one block long
 module _ (r : Rules) (prog : ℕ) (some : 4 ≤ prog) (most : prog ≤ 512) (x o : List ℕ) (long : length o ≡ length x) where
@@ -102,24 +129,26 @@ module _ (r : Rules) (prog : ℕ) (some : 4 ≤ prog) (most : prog ≤ 512) (x o
   pub record Placed (second : Bool) (rev : ℕ) (is : List Item) (size : ℕ) (w : Bool) : Type 0 where
     pub place : second ≡ w
     pub next : rev ≡ plus32 (le32 x) 1
-    pub items : is ≡ compactItems (dirOf (log x)) (behindOf (log x))
+    pub items : is ≡ compactItems (dirOf (log x)) (laidBehind prog x)
+    pub laid : is ≡ withForward prog (length x) 4 (compactionItems (log x))
+    pub rounded′ : size ≡ checkSize prog (compactCheckAt is)
     pub room : compactCheckAt is + checkLength ≤ length o
     pub ruled : Regular r (log x) ≡ true
-    pub compacts : Compacts x (le32 x) (log x) (behindOf (log x)) size (length o - (compactCheckAt is + checkLength))
+    pub compacts : Compacts x (le32 x) (log x) (laidBehind prog x) size (length o - (compactCheckAt is + checkLength))
 
   pub placed : (second w : Bool) (rev : ℕ) (is : List Item) (size : ℕ)
       → compactable r prog second x (log x) ≡ compactAccepted w rev is size → Placed second rev is size w
   unfolding compactable placedAnew
   placed second w rev is size h =
       let es : List Event = log x in
-      let I : List Item = compactionItems es in
+      let ts : List Item = laidBehind prog x in
+      let I : List Item = withForward prog (length x) 4 (compactionItems es) in
       let p = past (not (Regular r es)) Irregular _ w rev is size h in
       let q = past (ltb (length x) (roundedEnd prog (compactCheckAt I))) NoSpace _ w rev is size (p .1) in
       let c = past (coincides (crc allOnes (toLe32 (plus32 (le32 x) 1))) allOnes I
       (checkTag (checkSize prog (compactCheckAt I)))) Coincidence _ w rev is size (q .1) in
       let regular : Regular Littlefs es ≡ true = widest r es (not-false _ (p .0)) in
-      let loose = behind-loose (splitOf false es) (tailOf noTail es) (moveOf option.none es)
-      (regular-move x es refl regular) in
+      let loose = laid-loose x regular prog in
       let k = check-size prog (compactCheckAt I) some most in
       let fits : roundedEnd prog (compactCheckAt I) ≤ length o =
       rw long (ltb-false (length x) (roundedEnd prog (compactCheckAt I)) (q .0)) in
@@ -128,7 +157,9 @@ module _ (r : Rules) (prog : ℕ) (some : 4 ≤ prog) (most : prog ≤ 512) (x o
       record {
         place = cc;
         next = cc;
-        items = sym same ∙ compaction-items es;
+        items = sym same ∙ laid-items prog x;
+        laid = sym same;
+        rounded′ = rw (← sized, ← same) refl;
         room = rw (← same) (omega (arith, fits, k .2, k .0));
         ruled = not-false _ (p .0);
         compacts =
@@ -136,9 +167,9 @@ module _ (r : Rules) (prog : ℕ) (some : 4 ≤ prog) (most : prog ≤ 512) (x o
             (record {
               old = refl;
               regular = regular;
-              made = loose-made (behindOf es) loose;
-              hold = loose-hold (behindOf es) (length (dirOf es)) loose;
-              still = loose-still (behindOf es) loose;
+              made = loose-made ts loose;
+              hold = loose-hold ts (length (dirOf es)) loose;
+              still = loose-still ts loose;
               check = rw (
                 le-leb 4 (checkSize prog (compactCheckAt I)) (k .0),
                 le-leb (checkSize prog (compactCheckAt I)) 1_022 (k .1),
@@ -154,7 +185,7 @@ module _ (r : Rules) (prog : ℕ) (some : 4 ≤ prog) (most : prog ≤ 512) (x o
                         (arith, k .1)),
                   ));
               lucky = ap (λ (l : List Item). coincides (crc allOnes (toLe32 (plus32 (le32 x) 1))) allOnes l
-                  (checkTag (checkSize prog (compactCheckAt I)))) (sym (compaction-items es))
+                  (checkTag (checkSize prog (compactCheckAt I)))) (sym (laid-items prog x))
                   ∙ c .0;
             });
       }
@@ -172,11 +203,14 @@ pub record CompactsTo (r : Rules) (g : Geometry) (b0 b1 : List ℕ) (w : Bool) (
   pub answers : viewAt w (blockAt w b0 b1) (blockAt (not w) b0 b1) ≡ at w (le32 (blockAt w b0 b1))
       (log (blockAt w b0 b1))
   pub next : rev ≡ plus32 (le32 (blockAt w b0 b1)) 1
-  pub items : is ≡ compactItems (dirOf (log (blockAt w b0 b1))) (behindOf (log (blockAt w b0 b1)))
+  pub sized : (4 ≤ g .«prog_size») × (g .«prog_size» ≤ 512)
+  pub items : is ≡ compactItems (dirOf (log (blockAt w b0 b1))) (laidBehind (g .«prog_size») (blockAt w b0 b1))
+  pub laid : is ≡ withForward (g .«prog_size») (length (blockAt w b0 b1)) 4 (compactionItems (log (blockAt w b0 b1)))
+  pub rounded′ : size ≡ checkSize (g .«prog_size») (compactCheckAt is)
   pub room : compactCheckAt is + checkLength ≤ length (blockAt (not w) b0 b1)
   pub ruled : Regular r (log (blockAt w b0 b1)) ≡ true
   pub compacts : Compacts (blockAt w b0 b1) (le32 (blockAt w b0 b1)) (log (blockAt w b0 b1))
-      (behindOf (log (blockAt w b0 b1))) size
+      (laidBehind (g .«prog_size») (blockAt w b0 b1)) size
       (length (blockAt (not w) b0 b1) - (compactCheckAt is + checkLength))
 
 module _ (g : Geometry) (b0 b1 : List ℕ) (n0 n1 count seed rules : ℕ) (w : Bool) (rev : ℕ) (is : List Item) (size : ℕ)
@@ -200,7 +234,10 @@ module _ (g : Geometry) (b0 b1 : List ℕ) (n0 n1 count seed rules : ℕ) (w : B
         answers = a .answers ∙ ap (λ (v : ℕ). at (a .w) v (log (blockAt (a .w) b0 b1)))
             (view-rev (a .w) (blockAt (a .w) b0 b1) (blockAt (not (a .w)) b0 b1) (a .rev) _ (a .answers));
         next = p .next;
+        sized = z .prog;
         items = p .items;
+        laid = p .laid;
+        rounded′ = p .rounded′;
         room = p .room;
         ruled = p .ruled;
         compacts = p .compacts;
@@ -247,7 +284,7 @@ module _ (g : Geometry) (b0 b1 : List ℕ) (n0 n1 count seed rules : ℕ) (w : B
   unfolding compacted compactBytes
   compaction-length =
       let a = accepted-compaction in
-      let good = compact-fits x (le32 x) (log x) (behindOf (log x)) size rest (a .compacts) .items in
+      let good = compact-fits x (le32 x) (log x) (laidBehind (g .«prog_size») x) size rest (a .compacts) .items in
       let sum : ℕ = crc allOnes (toLe32 rev) in
       let n : length (commitBytes sum allOnes is (checkTag size)) ≡ entriesLength is + 8 =
       length-commit is sum allOnes (checkTag size) (rw (a .items) good) in
@@ -272,8 +309,8 @@ module _ (g : Geometry) (b0 b1 : List ℕ) (n0 n1 count seed rules : ℕ) (w : B
       (subst (λ (l : List Item). AfterCompact w x (le32 x) (log x) l (checkTag size)
       (compacting o (plus32 (le32 x) 1) l (checkTag size) rest k)
       (compacted (plus32 (le32 x) 1) l (checkTag size) rest))
-      (sym (a .items)) (compact-stopped x (le32 x) (log x) (behindOf (log x)) size rest (a .compacts) w o (a .answers)
-      word k))
+      (sym (a .items)) (compact-stopped x (le32 x) (log x) (laidBehind (g .«prog_size») x) size rest (a .compacts) w o
+      (a .answers) word k))
 
   -- the finished record's tail, split mark and move state are the old ones
   pub compaction-keeps : (tailOf noTail finishedLog ≡ tailOf noTail (log x))
@@ -286,11 +323,19 @@ module _ (g : Geometry) (b0 b1 : List ℕ) (n0 n1 count seed rules : ℕ) (w : B
       let ok : OkSlots (dirOf es) = slots-ok x regular in
       let few : length (dirOf es) ≤ mostSlots = slots-few x regular in
       let mv : MoveOk (moveOf option.none es) = regular-move x es refl regular in
-      let t = tail-kept (dirOf es) (splitOf false es) (tailOf noTail es) (moveOf option.none es)
-      (crc allOnes (toLe32 rev)) allOnes (checkTag size) ok few mv in
-      rw (a .items) (
-        t .0,
-        t .1,
-        move-kept (dirOf es) (splitOf false es) (tailOf noTail es) (moveOf option.none es) (crc
-            allOnes (toLe32 rev)) allOnes (checkTag size) ok few mv,
+      let s : ℕ = crc allOnes (toLe32 rev) in
+      let ct : ℕ = checkTag size in
+      let I : List Item = compactItems (dirOf es) (behindOf es) in
+      let bare : machineOf (commitEvents s allOnes is ct) ≡ machineOf (commitEvents s allOnes I ct) =
+      commit-ran [] s allOnes is ct
+      ∙ ap (λ (l : List Item). ran (machineOf []) (written l [])) (a .laid)
+      ∙ with-ran (g .«prog_size») (length x) 4 (compactionItems es) (machineOf [])
+      ∙ ap (λ (l : List Item). ran (machineOf []) (written l [])) (compaction-items es)
+      ∙ sym (commit-ran [] s allOnes I ct) in
+      let t = tail-kept (dirOf es) (splitOf false es) (tailOf noTail es) (moveOf option.none es) s allOnes ct ok few mv in
+      (
+        ap (λ (M : Machine). M .tail) bare ∙ t .0,
+        ap (λ (M : Machine). M .split) bare ∙ t .1,
+        ap (λ (M : Machine). M .move) bare
+            ∙ move-kept (dirOf es) (splitOf false es) (tailOf noTail es) (moveOf option.none es) s allOnes ct ok few mv,
       )

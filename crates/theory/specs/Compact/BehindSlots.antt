@@ -4,90 +4,33 @@
 use mathlib.Core.Path.{_≡_, refl, sym, ap, ap₂, _∙_}
 use mathlib.Core.Bool.{Bool, true, false, cond}
 use mathlib.Core.Option.{Option, none, some}
-use mathlib.Core.List.{List, [], _∷_, _++_, append-nil, map, reverse}
-use Prim.Native.Nat.{ℕ, _+_, _*_, _/_, _%_, _^_, _≤_, _<_}
+use mathlib.Core.List.{List, [], _∷_, _++_, map, reverse}
+use Prim.Native.Nat.{ℕ, _*_, _/_, _%_, _^_, _≤_, _<_}
 use native.Mathlib.Omega.{arith}
-use lib.ListN.{length, drop, length-append}
-use lib.Seq.{drop-at}
+use lib.ListN.{length}
 use lib.Dec.{eqb}
 use borrow.Author.Tests.{eqb-true, ne-eqb}
-use Rattle.format.specs.Word.{le32, toLe32, allOnes}
-use Rattle.format.specs.Tag.{tagType3, tagChunk, tagId, tagSize, removalSize, tagOf}
+use Rattle.format.specs.Word.{allOnes}
+use Rattle.format.specs.Tag.{tagChunk, removalSize, tagOf}
 use Rattle.format.specs.Kind.{typeCreate, typeTail, typeHardTail, typeMove, noSlot, isTail}
 use Rattle.format.specs.Walk.{Event, chk}
 use Rattle.format.specs.Record.{pairIn, noTail, tailOf, splitOf}
 use Rattle.format.specs.Regular.{ruleOf, ruleHolds, countAfter}
-use Rattle.format.specs.Commit.{Item, commitSum, written, itemsHold}
-use Rattle.format.specs.Directory.{Act, mk, rm, put, skip, Load, Slot, act, moveOf}
+use Rattle.format.specs.Commit.{Item, commitSum, written}
+use Rattle.format.specs.Directory.{Act, mk, rm, put, skip, Load, Slot, moveOf}
 use Rattle.format.specs.Compaction.{isNoTail, tailItems, moveItems}
 use Rattle.format.specs.declared.LfsPair.{LfsPair}
-use Rattle.format.proofs.Words.{le32-toLe32, length-toLe32}
-use Rattle.format.proofs.Tags.{of-type1, of-type3, of-id, of-size, of-chunk}
+use Rattle.format.proofs.Tags.{of-type1, of-type3, of-chunk}
 use Rattle.theory.specs.Walk.Step.{both-true}
 use Rattle.theory.specs.Log.Stores.{commitEvents}
 use Rattle.theory.specs.Directory.Machine.{mostSlots}
 use Rattle.theory.specs.Directory.Rebuild.{rebuild}
 use Rattle.theory.specs.Blocks.ActItems.{toItem, OkAct, AllOk, type-low, ok-rev}
 use Rattle.theory.specs.Blocks.SlotItems.{OkSlots, rebuild-ok}
-use Rattle.theory.specs.Blocks.Compact.{Still, compactItems}
-use Rattle.theory.specs.Blocks.OtherItems.{act-high}
-use Rattle.theory.specs.Rules.MadeItem.{Made, AllMade, item-made}
+use Rattle.theory.specs.Blocks.Compact.{compactItems}
 use Rattle.theory.specs.Compact.RegularAgain.{written-app}
 use Rattle.theory.specs.Compact.MoveCarried.{MoveOk, NoMove, carried, compact-moves}
-
--- ---- entries that pass their rule at every count, leave the count, and touch no slot
-pub record Loose (i : Item) : Type 0 where
-  pub made : Made i
-  pub hold : (c : ℕ) → ruleHolds (ruleOf false (tagType3 (i .tag))) c (tagId (i .tag)) (tagSize (i .tag)) ≡ true
-  pub stays : (c : ℕ) → countAfter (ruleOf false (tagType3 (i .tag))) c ≡ c
-  pub still : act (i .tag) (i .body) ≡ skip
-
-abbrev pub AllLoose : List Item → Type 0
-AllLoose [] = Unit {0}
-AllLoose (i ∷ is) = Loose i × AllLoose is
-
-loose-app : (is js : List Item) → AllLoose is → AllLoose js → AllLoose (is ++ js)
-loose-app [] js h k = k
-loose-app (i ∷ is) js h k = (h .0, loose-app is js (h .1) k)
-
-pub loose-made : (is : List Item) → AllLoose is → AllMade is
-loose-made [] h = tt
-loose-made (i ∷ is) h = (h .0 .made, loose-made is (h .1))
-
-pub loose-hold : (is : List Item) (c : ℕ) → AllLoose is → itemsHold c is ≡ true
-unfolding itemsHold
-loose-hold [] c h = refl
-loose-hold (i ∷ is) c h = rw (h .0 .hold c, h .0 .stays c) (loose-hold is c (h .1))
-
-pub loose-still : (is : List Item) → AllLoose is → Still is
-loose-still [] h = tt
-loose-still (i ∷ is) h = (h .0 .still, loose-still is (h .1))
-
--- ---- an entry of no slot, whose type's rule asks only id and size
-loose-item : (T : ℕ) (d : List ℕ) → 0x500 ≤ T → T < 2 ^ 11 → length d < removalSize
-    → ((c : ℕ) → (ruleHolds (ruleOf false T) c noSlot (length d) ≡ true) × (countAfter (ruleOf false T) c ≡ c))
-    → Loose (record { tag = tagOf T noSlot (length d); body = d })
-loose-item T d high low short rule =
-    let is : tagType3 (tagOf T noSlot (length d)) ≡ T = of-type3 T noSlot (length d) low (omega arith) (omega arith) in
-    record {
-      made = item-made T noSlot (length d) d (record { type′ = low; id′ = omega arith; size′ = omega arith })
-          (rw (ne-eqb (length d) removalSize (λ q. omega arith)));
-      hold = λ c. rw (
-        is,
-        of-id T noSlot (length d) (omega arith) (omega arith),
-        of-size T noSlot (length d) (omega arith),
-      ) (rule c .0);
-      stays = λ c. rw is (rule c .1);
-      still = act-high T noSlot (length d) d high low (omega arith) (omega arith);
-    }
-
--- the eight bytes of a tail
-abbrev tailBody : LfsPair → List ℕ
-tailBody p = toLe32 (p .n0) ++ toLe32 (p .n1)
-
-tail-eight : (p : LfsPair) → length (tailBody p) ≡ 8
-tail-eight p = length-append (toLe32 (p .n0)) (toLe32 (p .n1)) ∙ ap₂ (λ (x y : ℕ). x + y) (length-toLe32 (p .n0))
-    (length-toLe32 (p .n1))
+use Rattle.theory.specs.Rules.LooseEntry.{AllLoose, Loose, loose-app, loose-item, tailBody, tail-eight, pair-back}
 
 loose-tail : (split : Bool) (p : LfsPair) → AllLoose (tailItems split p)
 unfolding ruleOf ruleHolds countAfter
@@ -185,14 +128,6 @@ move-no-tail none h = tt
 move-no-tail (some v) h =
     let is : v .type ≡ typeMove = h .0 in
     (rw (of-type1 (v .type) noSlot (length (v .bytes)) (omega arith) (omega arith) (omega (arith, h .1)), is), tt)
-
--- a pair in eight bytes reads back
-pair-back : (p : LfsPair) → pairIn (tailBody p) ≡ p
-pair-back p =
-    let second : le32 (drop 4 (tailBody p)) ≡ p .n1
-    = ap le32 (drop-at (toLe32 (p .n0)) (toLe32 (p .n1)) 4 (length-toLe32 (p .n0)) ∙ sym (append-nil (toLe32 (p .n1))))
-    ∙ le32-toLe32 (p .n1) [] in
-    ap₂ (λ (x y : ℕ). record { n0 = x; n1 = y }) (le32-toLe32 (p .n0) (toLe32 (p .n1))) second
 
 soft-null : (split : Bool) (p : LfsPair) → isNoTail split p ≡ true → (noTail ≡ p) × (false ≡ split)
 soft-null true p h = (cc, cc)

@@ -60,26 +60,32 @@ committed-done sum p is ct m f =
     (walkFrom allOnes (tagFlipped ct) (drop (tagLength ct - 8) (erased m))) (tail-none ct m (f .plain)))
 
 -- ---- append: `pre` is the block up to the old end, M erased bytes follow
-pub reach : (pre : List ℕ) (M : ℕ) (es : List Event) → log (pre ++ erased M) ≡ es → es ≢ [] → AllContained es
-    → length pre ≡ logEnd es
-    → (y : List ℕ) → length y ≡ M → log (pre ++ y) ≡ es ++ committed (walkFrom allOnes (logEndTag es) y)
-unfolding log walk
-reach pre M es h nonempty reg end y len =
-    let four : 4 ≤ length pre = omega arith in
-    let h′ : committed (walkFrom (crc allOnes (take 4 pre)) allOnes (drop 4 pre ++ erased M)) ≡ es =
-    rw (take-append-le 4 pre (erased M) four, drop-append-le 4 pre (erased M) four) at h in
-    let whole : committed es ≡ es =
-    rw h′ at (committed-twice (walkFrom (crc allOnes (take 4 pre)) allOnes (drop 4 pre ++ erased M))) in
-    let r = committed-split (walkFrom (crc allOnes (take 4 pre)) allOnes (drop 4 pre ++ erased M)) in
-    let l = local es (r .0) (crc allOnes (take 4 pre)) allOnes (drop 4 pre) (erased M) y (rw h′ at (r .1)) reg
-    (omega (arith, length-drop 4 pre)) (length-erased M ∙ sym len) in
-    rw (
-      take-append-le 4 pre y four,
-      drop-append-le 4 pre y four,
-      l .1,
-      sum-restarts es (crc allOnes (take 4 pre)) (drop 4 pre) whole (λ q. absurd (nonempty q)),
-    )
-    (committed-app es (walkFrom allOnes (logEndTag es) y) whole)
+module _ (pre : List ℕ) (M : ℕ) (es : List Event) (h : log (pre ++ erased M) ≡ es) (nonempty : es ≢ [])
+    (reg : AllContained es) (end : length pre ≡ logEnd es) (y : List ℕ) (len : length y ≡ M) where
+  whole : committed es ≡ es
+  unfolding log
+  whole = rw h at (committed-twice (walk (pre ++ erased M)))
+
+  -- whatever stands behind the old end, the walk comes to it as it did
+  pub reach-walk : walk (pre ++ y) ≡ es ++ walkFrom allOnes (logEndTag es) y
+  unfolding log walk
+  reach-walk =
+      let four : 4 ≤ length pre = omega arith in
+      let h′ : committed (walkFrom (crc allOnes (take 4 pre)) allOnes (drop 4 pre ++ erased M)) ≡ es =
+      rw (take-append-le 4 pre (erased M) four, drop-append-le 4 pre (erased M) four) at h in
+      let r = committed-split (walkFrom (crc allOnes (take 4 pre)) allOnes (drop 4 pre ++ erased M)) in
+      let l = local es (r .0) (crc allOnes (take 4 pre)) allOnes (drop 4 pre) (erased M) y (rw h′ at (r .1)) reg
+      (omega (arith, length-drop 4 pre)) (length-erased M ∙ sym len) in
+      rw (
+        take-append-le 4 pre y four,
+        drop-append-le 4 pre y four,
+        l .1,
+        sum-restarts es (crc allOnes (take 4 pre)) (drop 4 pre) whole (λ q. absurd (nonempty q)),
+      )
+
+  pub reach : log (pre ++ y) ≡ es ++ committed (walkFrom allOnes (logEndTag es) y)
+  unfolding log
+  reach = rw reach-walk (committed-app es (walkFrom allOnes (logEndTag es) y) whole)
 
 -- what is asked of an append: `pre` is the old block up to its end, M erased bytes follow; the new bytes and m erased
 -- ones fit there
@@ -180,17 +186,26 @@ compact-cut rev is ct m k f = go (leb k 4) refl
         fin (inl q) = inl (ap (λ z. R ++ z) q)
         fin (inr n) = inr (committed-none (walkFrom (crc allOnes R) allOnes (fill (k - 4) N ++ erased m)) n)
 
-pub compact-done : (rev : ℕ) (is : List Item) (ct m : ℕ) → CommitFits (crc allOnes (toLe32 rev)) allOnes is ct m
-    → log (compacted rev is ct m) ≡ commitEvents (crc allOnes (toLe32 rev)) allOnes is ct
-unfolding log walk compactBytes compacted
-compact-done rev is ct m f =
+-- the walk of a compacted block
+pub compact-walk : (rev : ℕ) (is : List Item) (ct m : ℕ)
+    → (drop 4 (compacted rev is ct m) ≡ commitBytes (crc allOnes (toLe32 rev)) allOnes is ct ++ erased m)
+    × (walk (compacted rev is ct m) ≡ walkFrom (crc allOnes (toLe32 rev)) allOnes
+    (commitBytes (crc allOnes (toLe32 rev)) allOnes is ct ++ erased m))
+unfolding walk compactBytes compacted
+compact-walk rev is ct m =
     let R : List ℕ = toLe32 rev in
     let N : List ℕ = commitBytes (crc allOnes R) allOnes is ct in
     rw (
       append-assoc R N (erased m),
       take-at R (N ++ erased m) 4 (length-toLe32 rev),
       drop-at R (N ++ erased m) 4 (length-toLe32 rev),
-    ) (committed-done (crc allOnes R) allOnes is ct m f)
+    ) (refl, refl)
+
+pub compact-done : (rev : ℕ) (is : List Item) (ct m : ℕ) → CommitFits (crc allOnes (toLe32 rev)) allOnes is ct m
+    → log (compacted rev is ct m) ≡ commitEvents (crc allOnes (toLe32 rev)) allOnes is ct
+unfolding log
+compact-done rev is ct m f =
+    rw (compact-walk rev is ct m .1) (committed-done (crc allOnes (toLe32 rev)) allOnes is ct m f)
 
 -- an erased block has no log
 pub erased-log : (n : ℕ) → log (erased n) ≡ []

@@ -1,15 +1,16 @@
 -- Entries that a commit's judging finds good, and the items that they make: as long as their tags say, each passing its
 -- rule. Assumes nothing.
-use mathlib.Core.Path.{_≡_, refl}
+use mathlib.Core.Path.{_≡_, refl, ap, _∙_}
 use mathlib.Core.Bool.{Bool, true, false, cond, _||_}
 use mathlib.Core.List.{List, [], _∷_}
 use Prim.Native.Nat.{ℕ, suc, _+_, _≤_}
 use native.Mathlib.Omega.{arith}
 use lib.ListN.{length, take, drop, length-take, length-drop}
-use lib.Dec.{leb}
-use borrow.Author.Tests.{leb-true}
+use lib.Dec.{leb, eqb}
+use borrow.Author.Tests.{leb-true, eqb-true}
 use Rattle.format.specs.Tag.{tagType3, tagId, tagSize, tagOf}
-use Rattle.format.specs.Regular.{ruleOf, ruleHolds, countAfter}
+use Rattle.format.specs.Kind.{typeSuperblock, typeForward}
+use Rattle.format.specs.Regular.{ruleOf, ruleHolds, countAfter, loggedRule}
 use Rattle.format.specs.Commit.{itemsHold}
 use Rattle.format.specs.Entries.{isRemoval, entryBody, itemsOf, entryItem, entryRule, inBuffer, entryHolds, judge, bad}
 use Rattle.format.specs.Entries.{good}
@@ -36,10 +37,25 @@ body-length dat e h = go (isRemoval e) h
 pub record GoodEntry (dat : List ℕ) (c : ℕ) (e : Entry) : Type 0 where
   pub fields : Fields (e .kind) (e .id) (e .len)
   pub made : Made (entryItem dat e)
-  pub type′ : tagType3 (tagOf (e .kind) (e .id) (e .len)) ≡ e .kind
-  pub holds : ruleHolds (ruleOf false (tagType3 (tagOf (e .kind) (e .id) (e .len)))) c
+  pub rule : loggedRule (tagOf (e .kind) (e .id) (e .len)) ≡ entryRule e
+  pub holds : ruleHolds (loggedRule (tagOf (e .kind) (e .id) (e .len))) c
       (tagId (tagOf (e .kind) (e .id) (e .len))) (tagSize (tagOf (e .kind) (e .id) (e .len))) ≡ true
   pub few : countAfter (entryRule e) c ≤ mostSlots
+
+-- a rule that an entry of a commit passes is its rule in a log too
+rule-logged : (type c id size : ℕ) → ruleHolds (ruleOf false type) c id size ≡ true
+    → ruleOf true type ≡ ruleOf false type
+unfolding ruleOf ruleHolds
+rule-logged type c id size h = go (eqb type typeSuperblock) refl (eqb type typeForward) refl
+  where
+    no : ruleHolds (ruleOf false type) c id size ≡ false → ⊥
+    no k = let z : _≡_ {A = ℕ} 0 1 = cc in omega arith
+
+    go : (s : Bool) → eqb type typeSuperblock ≡ s → (f : Bool) → eqb type typeForward ≡ f
+        → ruleOf true type ≡ ruleOf false type
+    go true e f k = absurd (no (let q : type ≡ typeSuperblock = eqb-true type typeSuperblock e in rw q))
+    go false e true k = absurd (no (let q : type ≡ typeForward = eqb-true type typeForward k in rw q))
+    go false e false k = rw (e, k)
 
 pub good-entry : (dat : List ℕ) (c : ℕ) (e : Entry) → c ≤ mostSlots → entryHolds dat c e ≡ true → GoodEntry dat c e
 good-entry dat c e low h =
@@ -49,12 +65,14 @@ good-entry dat c e low h =
     let is : tagType3 (tagOf (e .kind) (e .id) (e .len)) ≡ e .kind =
     of-type3 (e .kind) (e .id) (e .len) (f .type′) (f .id′) (f .size′) in
     let k = made-holds false (e .kind) c (e .id) (e .len) low (r .0) in
+    let same : ruleOf true (tagType3 t) ≡ ruleOf false (tagType3 t) =
+    rule-logged (tagType3 t) c (tagId t) (tagSize t) k in
     let u = ruled-entry (ruleOf false (tagType3 t)) c t (entryBody dat e) (rule-says (tagType3 t) false) k in
     record {
       fields = f;
       made = item-made (e .kind) (e .id) (e .len) (entryBody dat e) f (body-length dat e (r .1));
-      type′ = is;
-      holds = k;
+      rule = same ∙ ap (ruleOf false) is;
+      holds = rw same k;
       few = rw is at (u .few low);
     }
 
@@ -82,4 +100,4 @@ judged-good dat (e ∷ es) i c c′ low h = go (entryHolds dat c e) refl h
     go true k h on =
         let g = good-entry dat c e low k in
         let ih = on (g .few) h in
-        record { made = (g .made, ih .made); hold = rw (g .holds, g .type′) (ih .hold) }
+        record { made = (g .made, ih .made); hold = rw (g .holds, g .rule) (ih .hold) }

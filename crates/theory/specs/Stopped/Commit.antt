@@ -39,6 +39,7 @@ use Rattle.theory.specs.Fetch.Places.{same-place, both-blocks, lengths, 
 use Rattle.theory.specs.Stopped.Shown.{found-tested, shows}
 use Rattle.theory.specs.Stopped.ReadsAsBefore.{reads-as, refound, refound-place}
 use Rattle.theory.specs.Commit.MachineAfter.{commit-ran}
+use Rattle.theory.specs.Commit.ForwardCheck.{with-ran}
 
 -- ---- a commit
 module _ (g : Geometry) (b0 b1 : List ℕ) (n0 n1 count seed rules : ℕ) (entries : List Entry) (dat : List ℕ) (w : Bool)
@@ -58,11 +59,11 @@ module _ (g : Geometry) (b0 b1 : List ℕ) (n0 n1 count seed rules : ℕ) (entri
       .1) in
       (f .m, f .s, f .found)
 
-  appends : AppendsTo (rulesOf rules) b0 b1 entries dat w is size
+  pub appends : AppendsTo (rulesOf rules) (g .«prog_size») b0 b1 entries dat w is size
   appends = accepted-commit g b0 b1 n0 n1 count seed rules entries dat w is size h
 
   pub takes : Accepts (blockAt w b0 b1) (log (blockAt w b0 b1)) is size
-  takes = rw (appends .items) (appends .accepts)
+  takes = appends .accepts
 
   place : isSecond n0 (commit-found .0) ≡ w
   place =
@@ -176,7 +177,8 @@ module _ (g : Geometry) (b0 b1 : List ℕ) (n0 n1 count seed rules : ℕ) (entri
       let s = shows g (f .b0) (f .b1) n0 n1 count seed _ _ k (rulesOf rules) w p (rw finished-log regular-finished) in
       let e : machineOf (log (blockAt w (f .b0) (f .b1))) ≡ ran (machineOf (log x)) (written (itemsOf dat entries) [])
       = ap machineOf finished-log ∙ commit-ran (log x) allOnes (logEndTag (log x)) is (checkTag size)
-      ∙ ap (λ (l : List Item). ran (machineOf (log x)) (written l [])) (appends .items) in
+      ∙ ap (λ (l : List Item). ran (machineOf (log x)) (written l [])) (appends .items)
+      ∙ with-ran (g .«prog_size») (length x) (logEnd (log x)) (itemsOf dat entries) (machineOf (log x)) in
       subst (λ (M : Machine). Shows g n0 n1 (rulesOf rules) (f .b0) (f .b1) M) e s
 
   -- the call's own fetch of it

@@ -34,7 +34,7 @@ use Rattle.theory.specs.Blocks.Compact.{AfterCompact}
 use Rattle.theory.specs.Compact.Acceptance.{compacted-regular}
 use Rattle.theory.specs.Fetch.FoundRecord.{found-answers}
 use Rattle.theory.specs.Fetch.FoundBlock.{found-sized}
-use Rattle.theory.specs.Compact.AcceptedVerdict.{found-then, behindOf, CompactsTo, accepted-compaction}
+use Rattle.theory.specs.Compact.AcceptedVerdict.{found-then, laidBehind, CompactsTo, accepted-compaction}
 use Rattle.theory.specs.Compact.AcceptedVerdict.{compaction-written, compaction-length, compaction-stopped}
 use Rattle.theory.specs.Compact.AcceptedVerdict.{past, compaction-keeps}
 use Rattle.format.specs.Machine.{Machine, machineOf}
@@ -83,7 +83,7 @@ module _ (g : Geometry) (b0 b1 : List ℕ) (n0 n1 count seed rules : ℕ) (w : B
   compact-found = found-then (rulesOf rules) (g .«prog_size») b0 b1 n0 (fetchOf g b0 b1 n0 n1 count seed) w rev is size
       (past (not (rulesFit rules)) Invalid _ w rev is size h .1)
 
-  compacts : CompactsTo (rulesOf rules) g b0 b1 w rev is size
+  pub compacts : CompactsTo (rulesOf rules) g b0 b1 w rev is size
   compacts = accepted-compaction g b0 b1 n0 n1 count seed rules w rev is size h
 
   place : isSecond n0 (compact-found .0) ≡ w
@@ -167,7 +167,7 @@ module _ (g : Geometry) (b0 b1 : List ℕ) (n0 n1 count seed rules : ℕ) (w : B
 
   regular-finished : Regular Document finishedLog ≡ true
   regular-finished = rw (compacts .next, compacts .items)
-      (compacted-regular x (le32 x) (log x) (behindOf (log x)) size rest (compacts .compacts))
+      (compacted-regular x (le32 x) (log x) (laidBehind (g .«prog_size») x) size rest (compacts .compacts))
 
   same-machine : machineOf finishedLog ≡ machineOf (log x)
   same-machine =

@@ -83,20 +83,24 @@ erased-le32 (suc (suc (suc (suc n)))) h = refl
 short : (sum p : ℕ) (l : List ℕ) → length l < 4 → NoCheck (walkFrom sum p l)
 short sum p l h = rw (walk-step sum p l, class-short (xor (be32 l) p) (length l) h) tt
 
--- erased bytes behind a tag with bit 31 clear
-pub blank : (sum p n : ℕ) → p < 2 ^ 31 → NoCheck (walkFrom sum p (erased n))
-blank sum p zero h = short sum p (erased zero) (omega arith)
-blank sum p (suc zero) h = short sum p (erased 1) (omega arith)
-blank sum p (suc (suc zero)) h = short sum p (erased 2) (omega arith)
-blank sum p (suc (suc (suc zero))) h = short sum p (erased 3) (omega arith)
-blank sum p (suc (suc (suc (suc n)))) h =
+-- four erased bytes or more behind a tag with bit 31 clear: the walk stops on an invalid tag
+pub blank-stop : (sum p n : ℕ) → p < 2 ^ 31 → walkFrom sum p (erased (suc (suc (suc (suc n))))) ≡ inv ∷ []
+blank-stop sum p n h =
     let N : ℕ = suc (suc (suc (suc n))) in
     rw (
       walk-step sum p (erased N),
       erased-be32 n,
       class-invalid (xor allOnes p) (length (erased N)) (omega
           (arith, length-erased N)) (allOnes-invalid p h),
-    ) tt
+    ) refl
+
+-- erased bytes behind a tag with bit 31 clear
+pub blank : (sum p n : ℕ) → p < 2 ^ 31 → NoCheck (walkFrom sum p (erased n))
+blank sum p zero h = short sum p (erased zero) (omega arith)
+blank sum p (suc zero) h = short sum p (erased 1) (omega arith)
+blank sum p (suc (suc zero)) h = short sum p (erased 2) (omega arith)
+blank sum p (suc (suc (suc zero))) h = short sum p (erased 3) (omega arith)
+blank sum p (suc (suc (suc (suc n)))) h = rw (blank-stop sum p n h) tt
 
 -- four bytes and then erased ones: no commit, unless they are a check and the checksum so far is 0xffffffff
 pub stub : (sum p : ℕ) (b : List ℕ) (n : ℕ) → length b ≡ 4 → xor (be32 (b ++ erased n)) p < 2 ^ 31
