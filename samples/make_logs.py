@@ -267,6 +267,28 @@ pair("check-501", block(256, [SLOT, [entry(0x374, 0, b"\x01")]], check=0x501))
 pair("check-57f", block(256, [SLOT], check=0x57F))
 pair("commits", block(512, [[]] * 20))
 
+# forward checks as the library lays them: of the 16 erased bytes behind each commit; and a second commit stopped behind
+# its own, which no check follows
+forward = entry(0x5FF, NO_SLOT, (16).to_bytes(4, "little") + summed(0xFFFFFFFF, b"\xff" * 16).to_bytes(4, "little"))
+carried = block(128, [SLOT + [forward], [entry(0x374, 0, b"\x10\x0e\x00\x00"), forward]])
+CARRIED = Q212[:Q212.index("0000001f")] + """\
+0000001f: 5ffffc08  5ff  fcrc           .    8  10 00 00 00 e5 39 4c c0  .....9L.
+0000002b: 500ffc11  500  ccrc           .   17  checksum fe088cb1 fits
+00000040: 37400004  374  userattr       0    4  10 0e 00 00              ....
+00000048: 5ffffc08  5ff  fcrc           .    8  10 00 00 00 e5 39 4c c0  .....9L.
+"""
+pair("forward-checks", carried, None, CARRIED + """\
+00000054: 500ffc08  500  ccrc           .    8  checksum f6e17053 fits
+stops at 00000060: no valid tag, the word there is ffffffff
+committed up to 00000060
+
+""" + ERASED + "block 0 answers\n")
+pair("forward-check-torn", carried[:84] + b"\xff" * 44, None, CARRIED + """\
+stops at 00000054: no valid tag, the word there is ffffffff
+committed up to 00000040
+
+""" + ERASED + "block 0 answers\n")
+
 # the end of a block: a commit that fills it, entries that reach it, reads that pass it, less than a tag's room
 pair("ends-full", block(128, [[entry(0x201, 0, bytes(104))]], sizes=(8,)))
 for left in range(0, 14):

@@ -1,8 +1,8 @@
 -- DEMAND 3, COMMIT: an accepted call, stopped after any number of its stores. Assumes nothing.
 use mathlib.Core.Path.{_≡_, refl, sym, ap, subst, _∙_}
 use mathlib.Core.Logic.{_⊎_, inl, inr}
-use mathlib.Core.Bool.{Bool, true, false, not}
-use mathlib.Core.List.{List, [], _++_, append-assoc}
+use mathlib.Core.Bool.{Bool, true, false, not, cond}
+use mathlib.Core.List.{List, [], _∷_, _++_, append-assoc}
 use Prim.Native.Nat.{ℕ, _+_, _≤_, min}
 use native.Mathlib.Omega.{arith}
 use native.Mathlib.Nat.{min-eq-right, min-le-right, le-refl}
@@ -12,13 +12,14 @@ use Rattle.format.specs.Word.{allOnes}
 use Rattle.format.specs.Walk.{Event}
 use Rattle.format.specs.Log.{log, logEnd, logEndTag}
 use Rattle.format.specs.View.{at}
-use Rattle.format.specs.Fetch.{fetchOf}
+use Rattle.format.specs.Record.{noForward, forwardOf, seedOf}
+use Rattle.format.specs.Fetch.{erasedOf, mdirOf, fetchOf}
 use Rattle.format.specs.Regular.{Regular, rulesOf}
 use Rattle.format.specs.Commit.{Item, checkTag, commitBytes, written}
-use Rattle.format.specs.Stores.{appending}
+use Rattle.format.specs.Stores.{entriesLength, appending}
 use Rattle.format.specs.Entries.{itemsOf}
 use Rattle.format.specs.Writer.{accepted, commitFits, blockAt, isSecond, verdictOf, Images, storedTo, imagesAfter}
-use Rattle.format.specs.Writer.{allStores, unlimited, commitImages}
+use Rattle.format.specs.Writer.{unitCheck, forwardItem, carries, allStores, unlimited, commitImages}
 use Rattle.format.specs.declared.Geometry.{Geometry}
 use Rattle.format.specs.declared.LfsMdir.{LfsMdir}
 use Rattle.format.specs.declared.Entry.{Entry}
@@ -38,6 +39,8 @@ use Rattle.format.specs.Stopped.{Shows, ReadsAs, CommitStopped}
 use Rattle.theory.specs.Fetch.Places.{same-place, both-blocks, lengths, few-slots, block-length}
 use Rattle.theory.specs.Stopped.Shown.{found-tested, shows}
 use Rattle.theory.specs.Stopped.ReadsAsBefore.{reads-as, refound, refound-place}
+use Rattle.theory.specs.Stopped.ErasedBehind.{forward-held, append-erased, carried-items, carried-aligned}
+use Rattle.theory.specs.Stopped.ErasedBehind.{carried-unit}
 use Rattle.theory.specs.Commit.MachineAfter.{commit-ran}
 use Rattle.theory.specs.Commit.ForwardCheck.{with-ran}
 
@@ -164,17 +167,23 @@ module _ (g : Geometry) (b0 b1 : List ℕ) (n0 n1 count seed rules : ℕ) (entri
   regular-finished : Regular (rulesOf rules) finishedLog ≡ true
   regular-finished = finished-regular x (log x) is size takes (rulesOf rules) (appends .ruled)
 
+  pub commit-found-again : fetchOf g (f .b0) (f .b1) n0 n1 count seed
+      ≡ fetched.Found (mdirOf (g .«prog_size») (cond w n1 n0) (cond w n0 n1) (blockAt w (f .b0) (f .b1)) (appends .rev)
+      finishedLog) (seedOf seed finishedLog)
+  commit-found-again =
+      let L = image-lengths unlimited in
+      refound g n0 n1 count seed b0 b1 (f .b0) (f .b1) (L .0) (L .1) (commit-found .0) (commit-found .1)
+      (commit-found .2) (appends .rev) finishedLog
+      (few-slots (blockAt w (f .b0) (f .b1)) finishedLog finished-log
+      (widest (rulesOf rules) finishedLog regular-finished)) w finished-view
+
   pub commit-finished : Shows g n0 n1 (rulesOf rules) (f .b0) (f .b1)
       (ran (machineOf (log x)) (written (itemsOf dat entries) []))
   commit-finished =
-      let few = few-slots (blockAt w (f .b0) (f .b1)) finishedLog finished-log
-      (widest (rulesOf rules) finishedLog regular-finished) in
       let L = image-lengths unlimited in
-      let k = refound g n0 n1 count seed b0 b1 (f .b0) (f .b1) (L .0) (L .1) (commit-found .0) (commit-found .1)
-      (commit-found .2) (appends .rev) finishedLog few w finished-view in
       let p = refound-place g n0 n1 count seed b0 b1 (f .b0) (f .b1) (L .0) (L .1) (commit-found .0) (commit-found .1)
       (commit-found .2) (appends .rev) finishedLog w in
-      let s = shows g (f .b0) (f .b1) n0 n1 count seed _ _ k (rulesOf rules) w p (rw finished-log regular-finished) in
+      let s = shows g (f .b0) (f .b1) n0 n1 count seed _ _ commit-found-again (rulesOf rules) w p (rw finished-log regular-finished) in
       let e : machineOf (log (blockAt w (f .b0) (f .b1))) ≡ ran (machineOf (log x)) (written (itemsOf dat entries) [])
       = ap machineOf finished-log ∙ commit-ran (log x) allOnes (logEndTag (log x)) is (checkTag size)
       ∙ ap (λ (l : List Item). ran (machineOf (log x)) (written l [])) (appends .items)
@@ -186,6 +195,29 @@ module _ (g : Geometry) (b0 b1 : List ℕ) (n0 n1 count seed rules : ℕ) (entri
   commit-refetched =
       let low = found-tested g b0 b1 n0 n1 count seed (commit-found .0) (commit-found .1) (commit-found .2) .low in
       (commit-finished .dir, commit-finished .read seed, commit-finished .fetched count seed low)
+
+  -- behind a commit that carried a forward check the mark is yes, and the record holds the check
+  module _ (carried : carries (g .«prog_size») (length x) (logEnd (log x) + entriesLength (itemsOf dat entries))
+      ≡ true) where
+    abbrev prog : ℕ
+    prog = g .«prog_size»
+
+    laid-is : is ≡ itemsOf dat entries ++ (forwardItem (unitCheck prog) ∷ [])
+    laid-is = carried-items prog (length x) (logEnd (log x)) (itemsOf dat entries) is size (appends .sized .0)
+        (appends .sized .1) (appends .items) (appends .rounded′) carried
+
+    pub commit-held : forwardOf noForward finishedLog ≡ unitCheck prog
+    commit-held = rw laid-is (forward-held (log x) allOnes (logEndTag (log x)) (itemsOf dat entries) (checkTag size) prog)
+
+    pub commit-erased : erasedOf prog (blockAt w (f .b0) (f .b1)) finishedLog ≡ true
+    commit-erased =
+        rw finished-block
+        (append-erased prog (appends .sized .0) x (log x) is (checkTag size) ok
+        (carried-aligned prog (length x) (logEnd (log x)) (itemsOf dat entries) is size (appends .sized .0)
+        (appends .sized .1) (appends .items) (appends .rounded′) carried)
+        (carried-unit prog (length x) (logEnd (log x)) (itemsOf dat entries) is size (appends .sized .0)
+        (appends .sized .1) (appends .items) (appends .rounded′) carried)
+        commit-held)
 
   pub commit-before : Shows g n0 n1 (rulesOf rules) b0 b1 (machineOf (log x))
   commit-before = shows g b0 b1 n0 n1 count seed (commit-found .0) (commit-found .1) (commit-found .2)

@@ -1,8 +1,8 @@
 -- DEMAND 3, COMPACTION: an accepted call, stopped after any number of its stores. Assumes nothing.
 use mathlib.Core.Path.{_≡_, refl, sym, ap, subst, _∙_}
 use mathlib.Core.Logic.{_⊎_, inl, inr}
-use mathlib.Core.Bool.{Bool, true, false, not}
-use mathlib.Core.List.{List, _++_}
+use mathlib.Core.Bool.{Bool, true, false, not, cond}
+use mathlib.Core.List.{List, [], _∷_, _++_}
 use Prim.Native.Nat.{ℕ, zero, suc, _+_, _-_, _^_, _<_, min}
 use native.Mathlib.Omega.{arith}
 use native.Mathlib.Nat.{min-eq-right}
@@ -12,14 +12,15 @@ use Rattle.format.specs.Crc.{crc}
 use Rattle.format.specs.Walk.{Event}
 use Rattle.format.specs.Log.{log, logEnd}
 use Rattle.format.specs.View.{at}
-use Rattle.format.specs.Fetch.{fetchOf}
+use Rattle.format.specs.Record.{noForward, forwardOf, seedOf}
+use Rattle.format.specs.Fetch.{erasedOf, mdirOf, fetchOf}
 use Rattle.format.specs.Regular.{Regular, rulesFit, rulesOf}
 use Rattle.format.specs.Directory.{dirOf}
 use Rattle.format.specs.Commit.{Item, checkTag}
 use Rattle.format.specs.Stores.{erased, fill, compactBytes, compacted, compacting}
-use Rattle.format.specs.Writer.{checkLength, blockAt, isSecond, Images, unlimited}
+use Rattle.format.specs.Writer.{checkLength, unitCheck, forwardItem, carries, blockAt, isSecond, Images, unlimited}
 use Rattle.format.specs.Compaction.{compactAccepted, compactCheckAt, compactStores, compactedTo, compactVerdict}
-use Rattle.format.specs.Compaction.{compactImages}
+use Rattle.format.specs.Compaction.{compactionItems, compactImages}
 use Rattle.format.specs.declared.Geometry.{Geometry}
 use Rattle.format.specs.declared.Rules.the-variants.{Document}
 use Rattle.format.specs.declared.LfsMdir.{LfsMdir}
@@ -28,10 +29,10 @@ use Rattle.format.specs.declared.Fetched.the-variants as fetched
 use Rattle.format.proofs.Growing.{widest}
 use Rattle.theory.specs.Walk.Erased.{length-fill, length-erased}
 use Rattle.theory.specs.Log.TwoBlocks.{viewAt, view-log}
-use Rattle.theory.specs.Log.Stores.{commitEvents}
+use Rattle.theory.specs.Log.Stores.{CommitFits, commitEvents}
 use Rattle.theory.specs.Blocks.Append.{fill-all}
 use Rattle.theory.specs.Blocks.Compact.{AfterCompact}
-use Rattle.theory.specs.Compact.Acceptance.{compacted-regular}
+use Rattle.theory.specs.Compact.Acceptance.{compact-fits, compacted-regular}
 use Rattle.theory.specs.Fetch.FoundRecord.{found-answers}
 use Rattle.theory.specs.Fetch.FoundBlock.{found-sized}
 use Rattle.theory.specs.Compact.AcceptedVerdict.{found-then, laidBehind, CompactsTo, accepted-compaction}
@@ -41,6 +42,8 @@ use Rattle.format.specs.Machine.{Machine, machineOf}
 use Rattle.format.specs.Stopped.{Bytes, Shows, ReadsAs, CompactStopped}
 use Rattle.theory.specs.Stopped.Shown.{found-tested, shows}
 use Rattle.theory.specs.Stopped.ReadsAsBefore.{reads-as, refound, refound-place}
+use Rattle.theory.specs.Stopped.ErasedBehind.{forward-held, carried-items, carried-aligned, carried-unit}
+use Rattle.theory.specs.Stopped.ErasedBehind as behind
 use Rattle.theory.specs.Fetch.Places.{same-place, both-blocks, lengths, few-slots, block-length}
 
 word-fits : (b : List ℕ) → Bytes b → le32 b < 2 ^ 32
@@ -175,16 +178,22 @@ module _ (g : Geometry) (b0 b1 : List ℕ) (n0 n1 count seed rules : ℕ) (w : B
       let d : dirOf finishedLog ≡ dirOf (log x) = rw (compacts .next) (after 0 .same) in
       rw (d, k .0, k .1, k .2)
 
+  pub compact-found-again : fetchOf g (f .b0) (f .b1) n0 n1 count seed
+      ≡ fetched.Found (mdirOf (g .«prog_size») (cond (not w) n1 n0) (cond (not w) n0 n1)
+      (blockAt (not w) (f .b0) (f .b1)) rev finishedLog) (seedOf seed finishedLog)
+  compact-found-again =
+      let L = image-lengths unlimited in
+      refound g n0 n1 count seed b0 b1 (f .b0) (f .b1) (L .0) (L .1) (compact-found .0) (compact-found .1)
+      (compact-found .2) rev finishedLog
+      (few-slots (blockAt (not w) (f .b0) (f .b1)) finishedLog finished-log
+      (widest Document finishedLog regular-finished)) (not w) finished-view
+
   pub compact-finished : Shows g n0 n1 Document (f .b0) (f .b1) (machineOf (log x))
   compact-finished =
-      let few = few-slots (blockAt (not w) (f .b0) (f .b1)) finishedLog finished-log
-      (widest Document finishedLog regular-finished) in
       let L = image-lengths unlimited in
-      let k = refound g n0 n1 count seed b0 b1 (f .b0) (f .b1) (L .0) (L .1) (compact-found .0) (compact-found .1)
-      (compact-found .2) rev finishedLog few (not w) finished-view in
       let p = refound-place g n0 n1 count seed b0 b1 (f .b0) (f .b1) (L .0) (L .1) (compact-found .0) (compact-found .1)
       (compact-found .2) rev finishedLog (not w) in
-      let s = shows g (f .b0) (f .b1) n0 n1 count seed _ _ k Document (not w) p (rw finished-log regular-finished) in
+      let s = shows g (f .b0) (f .b1) n0 n1 count seed _ _ compact-found-again Document (not w) p (rw finished-log regular-finished) in
       subst (λ (M : Machine). Shows g n0 n1 Document (f .b0) (f .b1) M) (ap machineOf finished-log ∙ same-machine) s
 
   -- the call's own fetch of it
@@ -192,6 +201,39 @@ module _ (g : Geometry) (b0 b1 : List ℕ) (n0 n1 count seed rules : ℕ) (w : B
   compact-refetched =
       let low = found-tested g b0 b1 n0 n1 count seed (compact-found .0) (compact-found .1) (compact-found .2) .low in
       (compact-finished .dir, compact-finished .read seed, compact-finished .fetched count seed low)
+
+  -- behind a compaction that carried a forward check the mark is yes, and the record holds the check
+  module _ (carried : carries (g .«prog_size») (length x) (compactCheckAt (compactionItems (log x))) ≡ true) where
+    abbrev prog : ℕ
+    prog = g .«prog_size»
+
+    abbrev I : List Item
+    I = compactionItems (log x)
+
+    laid-is : is ≡ I ++ (forwardItem (unitCheck prog) ∷ [])
+    laid-is = carried-items prog (length x) 4 I is size (compacts .sized .0) (compacts .sized .1) (compacts .laid)
+        (compacts .rounded′) carried
+
+    pub compact-held : forwardOf noForward finishedLog ≡ unitCheck prog
+    compact-held = rw laid-is (forward-held [] (crc allOnes (toLe32 rev)) allOnes I (checkTag size) prog)
+
+    pub compact-erased : erasedOf prog (blockAt (not w) (f .b0) (f .b1)) finishedLog ≡ true
+    compact-erased =
+        let unit = carried-unit prog (length x) 4 I is size (compacts .sized .0) (compacts .sized .1) (compacts .laid)
+        (compacts .rounded′) carried in
+        let fits = compact-fits x (le32 x) (log x) (laidBehind prog x) size rest (compacts .compacts) in
+        rw finished-block
+        (behind.compact-erased prog (compacts .sized .0) rev is (checkTag size) rest
+        (subst (λ (l : List Item). CommitFits (crc allOnes (toLe32 rev)) allOnes l (checkTag size) rest)
+        (sym (compacts .items)) (rw (compacts .next) fits))
+        (carried-aligned prog (length x) 4 I is size (compacts .sized .0) (compacts .sized .1) (compacts .laid)
+        (compacts .rounded′) carried)
+        (omega (arith, unit, compacts .room, long)) compact-held)
+      where
+        long : length o ≡ length x
+        long =
+            let z = found-sized g b0 b1 n0 n1 count seed (compact-found .0) (compact-found .1) (compact-found .2) in
+            block-length g b0 b1 (not w) z ∙ sym (block-length g b0 b1 w z)
 
   pub compact-before : Shows g n0 n1 (rulesOf rules) b0 b1 (machineOf (log x))
   compact-before = shows g b0 b1 n0 n1 count seed (compact-found .0) (compact-found .1) (compact-found .2)

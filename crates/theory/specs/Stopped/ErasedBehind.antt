@@ -10,24 +10,26 @@ use lib.Seq.{drop-drop, drop-append-add, drop-at, length-take-le}
 use borrow.Author.Tests.{eq-eqb, le-leb}
 use Rattle.format.specs.Word.{toLe32, allOnes}
 use Rattle.format.specs.Tag.{tagLength, tagFlipped}
-use Rattle.format.specs.Kind.{typeForward, noSlot, isForward}
+use Rattle.format.specs.Kind.{typeCheck, typeForward, noSlot, isForward}
 use Rattle.format.specs.Crc.{crc}
 use Rattle.format.specs.Walk.{Event, ent, chk, inv, walk, walkFrom}
 use Rattle.format.specs.Log.{log, eventLength, span, logEnd, logEndTag, stoppedStraight}
 use Rattle.format.specs.Record.{forwardIn, noForward, forwardOf}
 use Rattle.format.specs.Fetch.{forwardFits, erasedOf}
-use Rattle.format.specs.Commit.{Item, commitBytes, commitSum, written}
+use Rattle.format.specs.Commit.{Item, checkTag, commitBytes, commitSum, written}
 use Rattle.format.specs.Stores.{erased, entriesLength, appending, compacted}
-use Rattle.format.specs.Writer.{unitCheck, forwardItem}
+use Rattle.format.specs.Writer.{roundedEnd, checkSize, unitCheck, forwardItem, carries, carriedFor, withForward}
 use Rattle.format.specs.declared.LfsFcrc.{LfsFcrc}
 use Rattle.format.specs.declared.LfsPair.{LfsPair}
-use Rattle.format.proofs.Tags.{of-type3}
+use Rattle.format.proofs.Tags.{of-type3, of-length}
 use Rattle.theory.specs.Walk.Erased.{length-erased, blank-stop}
 use Rattle.theory.specs.Walk.ReadBack.{AllGood, GoodCheck, decode}
 use Rattle.theory.specs.Log.Stores.{CommitFits, Appends, commitEvents, reach-walk, compact-walk, filled}
 use Rattle.theory.specs.Back.EventBytes.{Stands, log-stands}
 use Rattle.theory.specs.Blocks.Append.{length-commit, drop-erased-is, AppendOk, appends, as-filled}
 use Rattle.theory.specs.Rules.LooseEntry.{pair-back}
+use Rattle.theory.specs.Commit.ForwardCheck.{carried-end}
+use Rattle.theory.specs.Commit.AcceptedVerdict.{check-size, check-ends}
 
 -- ---- the walk stops straight after the commit
 straight-written : (is : List Item) (a : Bool) (t c : ℕ) → stoppedStraight a (written is (chk t c ∷ inv ∷ [])) ≡ true
@@ -184,3 +186,27 @@ compact-erased prog some rev is ct m fits aligned unit held =
     let w = compact-walk rev is ct m in
     erased-behind prog some (compacted rev is ct m) [] (crc allOnes (toLe32 rev)) allOnes is ct m tt (w .1) (w .0)
     (fits .items) (fits .check) (fits .plain) unit aligned held
+
+-- ---- what is laid of entries that begin at `from`, with the forward check: `size` is that of its check
+module _ (prog block from : ℕ) (is js : List Item) (size : ℕ) (some : 4 ≤ prog) (most : prog ≤ 512)
+    (laid : js ≡ withForward prog block from is) (sized : size ≡ checkSize prog (from + entriesLength js))
+    (carried : carries prog block (from + entriesLength is) ≡ true) where
+  pub carried-items : js ≡ is ++ (forwardItem (unitCheck prog) ∷ [])
+  unfolding withForward carriedFor
+  carried-items = laid ∙ rw carried
+
+  ends : from + (entriesLength js + tagLength (checkTag size)) ≡ from + entriesLength js + 4
+      + checkSize prog (from + entriesLength js)
+  ends =
+      let k = check-size prog (from + entriesLength js) some most in
+      omega (arith, sized, k .1, of-length typeCheck noSlot size (omega (arith, sized, k .1)))
+
+  pub carried-aligned : (from + (entriesLength js + tagLength (checkTag size))) % prog ≡ 0
+  carried-aligned = rw ends (check-ends prog (from + entriesLength js) some)
+
+  pub carried-unit : from + (entriesLength js + tagLength (checkTag size)) + prog ≤ block
+  carried-unit =
+      let k = check-size prog (from + entriesLength js) some most in
+      let r : roundedEnd prog (from + entriesLength js) + prog ≤ block =
+      rw (← laid) at (carried-end prog block from is some carried .1) in
+      omega (arith, ends, k .2)
