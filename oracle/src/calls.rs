@@ -2,7 +2,7 @@
 //! out, and who can be asked. Those that write are in `write`, the one that finds a
 //! name is in `find`.
 //!
-//! The structs with `repr(C)` are those of `include/lanolin.h`. The two marks of
+//! The structs with `repr(C)` are those of `include/lanolin.h`. The three marks of
 //! a record are bytes here, not `bool`: any byte that the archive hands back is
 //! then a value that can be compared, and one that is neither 0 nor 1 is seen.
 //!
@@ -38,6 +38,21 @@ pub struct Mdir {
     pub erased: u8,
     pub split: u8,
     pub tail: [u32; 2],
+    pub forward: u8,
+    pub forward_size: u32,
+    pub forward_sum: u32,
+}
+
+impl Mdir {
+    /// The record that the Rust has: it keeps no forward check.
+    pub fn without_forward(self) -> Mdir {
+        Mdir {
+            forward: 0,
+            forward_size: 0,
+            forward_sum: 0,
+            ..self
+        }
+    }
 }
 
 /// `lanolin_gstate`.
@@ -144,7 +159,12 @@ impl Debug for Mdir {
             "end tag {etag:#010x}, count {count}, erased {}, ",
             self.erased
         )?;
-        write!(f, "split {}, tail {:x?}", self.split, self.tail)
+        write!(f, "split {}, tail {:x?}, ", self.split, self.tail)?;
+        write!(
+            f,
+            "forward {} of {} with {:#010x}",
+            self.forward, self.forward_size, self.forward_sum
+        )
     }
 }
 

@@ -213,6 +213,7 @@ fn as_rust(dir: &Mdir) -> LfsMdir {
     }
 }
 
+/// The Rust keeps no forward check.
 fn as_ours(dir: &LfsMdir) -> Mdir {
     Mdir {
         pair: dir.pair,
@@ -223,5 +224,6 @@ fn as_ours(dir: &LfsMdir) -> Mdir {
         erased: dir.erased.into(),
         split: dir.split.into(),
         tail: dir.tail,
+        ..Mdir::default()
     }
 }

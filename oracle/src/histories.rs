@@ -7,6 +7,7 @@
 //! Assumes what `device` assumes of the Rust.
 
 pub mod ask;
+pub mod carried;
 mod cuts;
 pub mod history;
 pub mod lists;
@@ -84,7 +85,12 @@ pub fn compare(voice: &impl Writes, parts: u64) -> Vec<Subject> {
         calls.add(check);
     }
     let mut read = Subject::new("writing: what the Rust reads afterwards");
-    for check in [all.reads.fetches, all.reads.lookups, all.reads.cuts] {
+    for check in [
+        all.reads.fetches,
+        all.reads.forwards,
+        all.reads.lookups,
+        all.reads.cuts,
+    ] {
         read.add(check);
     }
     vec![calls, read]

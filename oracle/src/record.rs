@@ -10,7 +10,7 @@ use crate::calls::{Blocks, Fetch, Gstate, Info, Lookup, Mdir, Query, CORRUPT, NO
 use crate::device::{Rust, FILL};
 use crate::dirs::inputs::{self, Question};
 use crate::dirs::truth::{FetchTruth, GstateTruth, InfoTruth, SliceTruth, Slicer, Truth};
-use crate::dirs::truth::{MARGIN, PLACE};
+use crate::dirs::truth::{FORWARD_CHECK, MARGIN, PLACE};
 use crate::generate::Sizes;
 use crate::model::NO_SLOT;
 use std::io::{self, Write};
@@ -136,9 +136,11 @@ fn entry(rust: &mut Rust, question: &Question) -> Option<Entry> {
 fn fetch(rust: &mut Rust, input: &Fetch) -> Option<Entry> {
     let truth = FetchTruth::of(rust, input);
     let answer = *truth.rust()?;
+    // The forward check of the record is not recorded.
+    let decided = matches!(truth.ours(), None | Some(FORWARD_CHECK));
     let (share, dir) = match answer.result {
         CORRUPT => ("fetch -84", Mdir::default()),
-        _ if truth.ours().is_some() => return None,
+        _ if !decided => return None,
         NOENT => ("fetch -2", answer.dir),
         _ => ("fetch 0", answer.dir),
     };

@@ -14,7 +14,7 @@ mod call;
 mod machine;
 mod next;
 
-use crate::calls::write::{Answer, Committed, Stored, Task, Work, Writes, DOCUMENT};
+use crate::calls::write::{Answer, Committed, Stored, Task, Writes, DOCUMENT};
 use crate::calls::{Fetched, Mdir, Voice};
 use crate::histories::ask::{text, Outcome, Step};
 use crate::histories::{history, real};
@@ -41,8 +41,11 @@ pub struct Stopped {
     calls: u64,
     /// Those on a log that isn't regular by document 01.
     wider: u64,
+    /// Those that carry a forward check.
+    carried: u64,
     stops: u64,
     stores: Check,
+    forward: Check,
     finished: Check,
     finished_lookups: Check,
     before_lookups: Check,
@@ -56,8 +59,10 @@ impl Default for Stopped {
         Stopped {
             calls: 0,
             wider: 0,
+            carried: 0,
             stops: 0,
             stores: Check::ours("stores: single bytes, rising"),
+            forward: Check::ours("finished: forward check"),
             finished: Check::ours("finished: record and seed"),
             finished_lookups: Check::ours("finished: directory"),
             before_lookups: Check::ours("before the call: directory"),
@@ -88,10 +93,12 @@ pub fn compare<W: Writes, R: Voice>(asked: &Asked<W, R>, parts: u64) -> (Subject
         subject.add(check.clone());
     }
     let line = format!(
-        "stopped: {} pairs, {} accepted calls, {} of them on wider logs, {} stops, {} comparisons",
+        "stopped: {} pairs, {} accepted calls, {} of them on wider logs, {} with a forward check, \
+         {} stops, {} comparisons",
         grouped(pairs),
         grouped(stopped.calls),
         grouped(stopped.wider),
+        grouped(stopped.carried),
         grouped(stopped.stops),
         grouped(subject.totals().ours)
     );
@@ -104,9 +111,10 @@ pub fn run(number: u64, tell: history::Tell) {
 }
 
 impl Stopped {
-    fn checks(&self) -> [&Check; 7] {
+    fn checks(&self) -> [&Check; 8] {
         [
             &self.stores,
+            &self.forward,
             &self.finished,
             &self.finished_lookups,
             &self.before_lookups,
@@ -144,11 +152,33 @@ impl Stopped {
         self.calls += 1;
         self.wider += u64::from(wider(step));
         let call = Call::of(asked, step, answer, whole.images(), every_type);
+        self.carried += u64::from(call.forward.carried);
+        self.forward(&call);
         self.ends(asked, &call);
         for limit in 0..=call.all + 1 {
             self.stops += 1;
             self.stop(asked, &call, limit);
         }
+    }
+
+    /// The answered forward check is the last one of the log; the call's own says
+    /// that the room behind the new end is erased.
+    fn forward(&mut self, call: &Call) {
+        let (dir, forward) = (call.answer.dir, &call.forward);
+        let said = (dir.forward, dir.forward_size, dir.forward_sum);
+        let erased = if forward.carried { 1 } else { dir.erased };
+        let (weight, say) = (|| call.weight(call.all), || text(call.step));
+        let known = (forward.last, erased);
+        self.forward
+            .same_by_weight(&known, &(said, dir.erased), weight, say);
+        let kind = match (forward.carried, call.before.fetched.dir.forward) {
+            (true, 0) => "carried, the first of its pair",
+            (true, _) => "carried, the old log has one",
+            (false, 0) => "not carried, nor has the old log one",
+            (false, _) => "not carried, the old log has one",
+        };
+        self.forward.outcome_of(call.kind(), kind);
+        self.forward.outcome_of("room for it", forward.room());
     }
 
     /// What is compared once: the directory before the call, the record and the
@@ -243,13 +273,8 @@ impl Stopped {
             (0, 1) => "erased mark new",
             _ => "same erased mark",
         });
-        self.old.outcome_of(
-            "of",
-            match call.step.task.work {
-                Work::Commit { .. } => "commits",
-                Work::Compact => "compactions",
-            },
-        );
+        self.old.outcome_of("of", call.kind());
+        self.old.outcome_of("stopped in", call.part(limit));
         for (before, now) in call.before.answers.iter().zip(&state.answers) {
             self.old_lookups.same_by_weight(before, now, weight, say);
         }

@@ -1,14 +1,14 @@
 // The room that a commit is written to: where it ends, whether it carries a forward check, what stands against an
 // append, and whether the check tag's checksums coincide.
 ghost use mathlib.Core.Path.{_≡_};
-ghost use Prim.Native.Nat.{_≤_, _<_};
+ghost use Prim.Native.Nat.{_+_, _≤_, _<_};
 ghost use lib.ListN.{length};
 ghost use Rattle.format.specs.Word.{allOnes};
 ghost use Rattle.format.specs.Crc.{crc};
 ghost use Rattle.format.specs.Commit.{checkTag};
 ghost use Rattle.format.specs.Stores.{erased};
 ghost use Rattle.format.specs.Room.{firstUnerased, roomOf};
-ghost use Rattle.format.specs.Writer.{roundedEnd, checkSize, carriedFor};
+ghost use Rattle.format.specs.Writer.{roundedEnd, checkSize, forwardLength, carriedFor};
 ghost use Rattle.commit_room.specs.Tests.{Prog, meets};
 use format::LfsFcrc;
 use format::Refusal;
@@ -61,7 +61,7 @@ fn unit_sum(prog: u32) -> u32
 // The forward check of a commit whose entries end at `at`: it is carried "when at least one whole program unit follows
 // the new end, counted with the added bytes".
 pub fn forward(prog: u32, block: usize, at: usize) -> LfsFcrc
-    requires { ⌜ Prog prog at ⌝ }
+    requires { ⌜ Prog prog (at + forwardLength) ⌝ }
     ensures { λ r. ⌜ r ≡ carriedFor prog block at ⌝ }
 {
     if block < rounded_end(prog, at + FORWARD_LENGTH) + (prog as usize) {

@@ -1,4 +1,5 @@
--- An entry, judged or laid: one law for each way out of `step`, `judge_entry` and `lay_entry`. Assumes nothing.
+-- An entry, judged or laid, the forward check and the check: one law for each way out of `step` and `seal`, and of what
+-- they call. Assumes nothing.
 use mathlib.Core.Path.{_≡_, refl, sym, ap, _∙_}
 use mathlib.Core.Bool.{Bool, true, false, not}
 use mathlib.Core.List.{List, _++_}
@@ -6,8 +7,10 @@ use Prim.Native.Nat.{ℕ}
 use lib.Bits.{bitXor}
 use borrow.Author.Tests.{not-true, not-false}
 use Rattle.format.specs.Word.{toBe32, toLe32, xor, plus32}
-use Rattle.format.specs.Tag.{tagLength, mkTag}
+use Rattle.format.specs.Tag.{tagLength, mkTag, tagOf}
 use Rattle.format.specs.Crc.{crc}
+use Rattle.format.specs.Writer.{forwardItem}
+use Rattle.format.specs.declared.LfsFcrc.{LfsFcrc}
 use Rattle.format.specs.declared.Refusal.{Refusal}
 use Rattle.format.specs.declared.Refusal.the-variants.{BadEntry}
 use Rattle.commit_rules.specs.Rules.{countedBy}
@@ -15,8 +18,8 @@ use Rattle.commit_rules.specs.declared.Ruled.the-variants.{Bad, To}
 use Rattle.commit_lay.specs.Laid.{Laid, laid, putsOf, bodyOf, inBufferOf}
 use Rattle.commit_lay.specs.declared.Run.{Run}
 use Rattle.commit_lay.proofs.Puts.{puts-app}
-use Rattle.commit_steps.specs.State.{trio, onto, state, judgedOf, laidTo, laidOf, into, steppedBy, stepOf}
-use Rattle.commit_steps.specs.State.{checkedOf, sealedBy, sealedOf}
+use Rattle.commit_steps.specs.State.{trio, Onto, onto, state, summedOf, judgedOf, forwardSummed, laidTo, layOf}
+use Rattle.commit_steps.specs.State.{laidOf, forwardLaid, into, steppedBy, stepOf, checkedOf, sealedBy, sealedOf}
 use Rattle.commit_steps.specs.declared.Judging.{Judging}
 use Rattle.commit_steps.specs.declared.Laying.{Laying}
 use Rattle.commit_steps.specs.declared.Phase.{Phase}
@@ -37,43 +40,79 @@ module _ (j : Judging) (dat : List ℕ) (kind id off len : ℕ) where
     unfolding judgedOf
     judged-outside h = rw (e, ← is, not-true x h)
 
-    -- t, i, d, z and s are what the calls answer
-    pub judged-good : (t i d z s : ℕ) → not x ≡ false → t ≡ mkTag kind id len → i ≡ plus32 (j .index) 1
-        → d ≡ tagLength t → z ≡ plus32 (j .size) d
-        → s ≡ crc (j .sum) (toBe32 (bitXor t (j .prev)) ++ bodyOf dat off len)
-        → Judge (record { off = j .off; etag = j .etag; index = i; count = n; size = z; prev = t; sum = s })
-        ≡ judgedOf j dat kind id off len
-    unfolding judgedOf xor
-    judged-good t i d z s h et ei ed ez es =
-        let size : z ≡ plus32 (j .size) (tagLength (mkTag kind id len)) =
-        ez ∙ ap (plus32 (j .size)) (ed ∙ ap tagLength et) in
-        let sum : s ≡ crc (j .sum) (toBe32 (bitXor (mkTag kind id len) (j .prev)) ++ bodyOf dat off len) =
-        es ∙ ap (λ (u : ℕ). crc (j .sum) (toBe32 (bitXor u (j .prev)) ++ bodyOf dat off len)) et in
-        (λ k. Judge (record {
-          off = j .off;
-          etag = j .etag;
-          index = ei k;
-          count = n;
-          size = size k;
-          prev = et k;
-          sum = sum k;
-        })) ∙ rw (e, ← is, not-false x h)
+    -- t and k are what `lfs_mktag` and `sum_up` answer
+    pub judged-good : (t : ℕ) (k : Judging) → not x ≡ false → t ≡ mkTag kind id len
+        → k ≡ summedOf j n t (bodyOf dat off len) → Judge k ≡ judgedOf j dat kind id off len
+    unfolding judgedOf
+    judged-good t k h et ek =
+        ap Judge (ek ∙ ap (λ (u : ℕ). summedOf j n u (bodyOf dat off len)) et) ∙ rw (e, ← is, not-false x h)
 
--- ---- `lay_entry` and `lay_check`
+-- ---- `sum_up`: i, d, z and s are what the calls answer
+pub summed : (j : Judging) (n t : ℕ) (body : List ℕ) (i d z s : ℕ) → i ≡ plus32 (j .index) 1 → d ≡ tagLength t
+    → z ≡ plus32 (j .size) d → s ≡ crc (j .sum) (toBe32 (bitXor t (j .prev)) ++ body)
+    → record { off = j .off; etag = j .etag; index = i; count = n; size = z; prev = t; sum = s }
+    ≡ summedOf j n t body
+unfolding summedOf xor
+summed j n t body i d z s ei ed ez es = λ k. record {
+  off = j .off;
+  etag = j .etag;
+  index = ei k;
+  count = n;
+  size = (ez ∙ ap (plus32 (j .size)) ed) k;
+  prev = t;
+  sum = es k;
+}
+
+-- ---- `sum_forward` and `lay_forward`: v is what `le_pair` answers
+abbrev forwardTagWord : ℕ
+forwardTagWord = 0x5fff_fc08
+
+forward-body : (f : LfsFcrc) (v : List ℕ) → v ≡ toLe32 (f .size) ++ toLe32 (f .sum)
+    → bodyOf v 0 8 ≡ forwardItem f .body
+unfolding bodyOf toLe32
+forward-body f v e = rw e
+
+module _ (j : Judging) (f : LfsFcrc) where
+  pub forward-unsummed : not (f .seen) ≡ true → j ≡ forwardSummed j f
+  unfolding forwardSummed
+  forward-unsummed h = rw (not-true (f .seen) h)
+
+  pub forward-summed : not (f .seen) ≡ false → (v : List ℕ) → v ≡ toLe32 (f .size) ++ toLe32 (f .sum) → (k : Judging)
+      → k ≡ summedOf j (j .count) forwardTagWord (bodyOf v 0 8) → k ≡ forwardSummed j f
+  unfolding forwardSummed tagOf
+  forward-summed h v ev k ek =
+      ek ∙ ap (summedOf j (j .count) forwardTagWord) (forward-body f v ev) ∙ rw (not-false (f .seen) h)
+
 module _ (l : Laying) (b : List ℕ) where
-  -- t and w are what `lfs_mktag` and `put_entry` answer
-  pub laid-entry : (dat : List ℕ) (kind id off len t : ℕ) (w : Run) (c : List ℕ) → t ≡ mkTag kind id len
-      → laid w c ≡ putsOf (laid (l .run) b) (toBe32 (bitXor t (l .prev)) ++ bodyOf dat off len)
-      → onto (record { run = w; prev = t; word = l .word; sum = l .sum }) c ≡ laidOf l b dat kind id off len
-  unfolding laidOf xor
-  laid-entry dat kind id off len t w c et e =
-      ap (laidTo l t) e ∙ ap (λ (u : ℕ). laidTo l u
-      (putsOf (laid (l .run) b) (toBe32 (bitXor u (l .prev)) ++ bodyOf dat off len))) et
+  pub forward-unlaid : not (l .fcrc .seen) ≡ true → onto l b ≡ forwardLaid l b
+  unfolding forwardLaid
+  forward-unlaid h = rw (not-true (l .fcrc .seen) h)
+
+  pub forward-laid : not (l .fcrc .seen) ≡ false → (v : List ℕ) → v ≡ toLe32 (l .fcrc .size) ++ toLe32 (l .fcrc .sum)
+      → (o : Onto) → o ≡ layOf l b forwardTagWord (bodyOf v 0 8) → o ≡ forwardLaid l b
+  unfolding forwardLaid tagOf
+  forward-laid h v ev o eo =
+      eo ∙ ap (layOf l b forwardTagWord) (forward-body (l .fcrc) v ev) ∙ rw (not-false (l .fcrc .seen) h)
+
+-- ---- `lay`, `lay_entry` and `lay_check`
+module _ (l : Laying) (b : List ℕ) where
+  -- w is what `put_entry` answers
+  pub laid-any : (t : ℕ) (body : List ℕ) (w : Run) (c : List ℕ)
+      → laid w c ≡ putsOf (laid (l .run) b) (toBe32 (bitXor t (l .prev)) ++ body)
+      → onto (record { run = w; prev = t; fcrc = l .fcrc; word = l .word; sum = l .sum }) c ≡ layOf l b t body
+  unfolding layOf xor
+  laid-any t body w c e = ap (laidTo l t) e
+
+  -- t and o are what `lfs_mktag` and `lay` answer
+  pub laid-entry : (dat : List ℕ) (kind id off len t : ℕ) (o : Onto) → t ≡ mkTag kind id len
+      → o ≡ layOf l b t (bodyOf dat off len) → o ≡ laidOf l b dat kind id off len
+  unfolding laidOf
+  laid-entry dat kind id off len t o et e = e ∙ ap (λ (u : ℕ). layOf l b u (bodyOf dat off len)) et
 
   -- v and w are what `put_be32` and `put_le32` answer
   pub laid-check : (v w : Run) (c d : List ℕ) → laid v c ≡ putsOf (laid (l .run) b) (toBe32 (l .word))
       → laid w d ≡ putsOf (laid v c) (toLe32 (l .sum))
-      → onto (record { run = w; prev = l .prev; word = l .word; sum = l .sum }) d ≡ checkedOf l b
+      → onto (record { run = w; prev = l .prev; fcrc = l .fcrc; word = l .word; sum = l .sum }) d ≡ checkedOf l b
   unfolding checkedOf
   laid-check v w c d e f =
       ap (laidTo l (l .prev)) (f ∙ ap (λ (s : Laid). putsOf s (toLe32 (l .sum))) e
@@ -118,13 +157,14 @@ module _ (st : State) (b0 b1 : List ℕ) where
   pub seal-judge : (j : Judging) → st .phase ≡ Judge j → trio st b0 b1 ≡ sealedOf st b0 b1
   seal-judge j e = ap (λ (q : Phase). trio (state (st .second) q) b0 b1) e ∙ sealed (Judge j) (st .second) e refl
 
-  module _ (l m : Laying) (c : List ℕ) (e : st .phase ≡ Lay l) where
-    pub seal-first : st .second ≡ false → onto m c ≡ checkedOf l b0
+  -- f and d are what `lay_forward` leaves, m and c what `lay_check` does
+  module _ (l f m : Laying) (d c : List ℕ) (e : st .phase ≡ Lay l) where
+    pub seal-first : st .second ≡ false → onto f d ≡ forwardLaid l b0 → onto m c ≡ checkedOf f d
         → trio (state (st .second) (Lay m)) c b1 ≡ sealedOf st b0 b1
-    seal-first w f = ap (λ (v : Bool). trio (state v (Lay m)) c b1) w ∙ ap (into false b0 b1) f
-        ∙ sealed (Lay l) false e w
+    seal-first w g h = ap (λ (v : Bool). trio (state v (Lay m)) c b1) w
+        ∙ ap (into false b0 b1) (h ∙ ap (λ (o : Onto). checkedOf (o .to) (o .block)) g) ∙ sealed (Lay l) false e w
 
-    pub seal-second : st .second ≡ true → onto m c ≡ checkedOf l b1
+    pub seal-second : st .second ≡ true → onto f d ≡ forwardLaid l b1 → onto m c ≡ checkedOf f d
         → trio (state (st .second) (Lay m)) b0 c ≡ sealedOf st b0 b1
-    seal-second w f = ap (λ (v : Bool). trio (state v (Lay m)) b0 c) w ∙ ap (into true b0 b1) f
-        ∙ sealed (Lay l) true e w
+    seal-second w g h = ap (λ (v : Bool). trio (state v (Lay m)) b0 c) w
+        ∙ ap (into true b0 b1) (h ∙ ap (λ (o : Onto). checkedOf (o .to) (o .block)) g) ∙ sealed (Lay l) true e w

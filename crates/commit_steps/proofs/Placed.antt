@@ -1,4 +1,4 @@
--- Between the passes: one law for each way out of `decide` and `place`. Assumes nothing.
+-- Between the passes: one law for each way out of `decide`, `place` and `test`. Assumes nothing.
 use mathlib.Core.Path.{_≡_, refl, sym, ap, _∙_}
 use mathlib.Core.Bool.{Bool, true, false, not}
 use mathlib.Core.List.{List}
@@ -11,30 +11,32 @@ use Rattle.format.specs.Crc.{crc}
 use Rattle.format.specs.Fetch.{imagesFit}
 use Rattle.format.specs.Commit.{checkTag}
 use Rattle.format.specs.Room.{roomOf}
-use Rattle.format.specs.Writer.{roundedEnd, checkSize}
+use Rattle.format.specs.Writer.{roundedEnd, checkSize, carriedFor}
+use Rattle.format.specs.declared.LfsFcrc.{LfsFcrc}
 use Rattle.format.specs.declared.Geometry.{Geometry}
 use Rattle.format.specs.declared.Refusal.{Refusal}
 use Rattle.format.specs.declared.Refusal.the-variants.{Invalid, NoSpace, Coincidence}
 use Rattle.format.specs.declared.Room.{Room}
 use Rattle.format.specs.declared.Room.the-variants as room
 use Rattle.commit_room.specs.Tests.{meets}
-use Rattle.commit_steps.specs.State.{state, refusedState, placedOf, decidedBy, decidedOf}
+use Rattle.commit_steps.specs.State.{state, refusedState, forwardSummed, testedOf, placedOf, decidedBy, decidedOf}
 use Rattle.commit_steps.specs.declared.Judging.{Judging}
 use Rattle.commit_steps.specs.declared.Laying.{Laying}
 use Rattle.commit_steps.specs.declared.Phase.{Phase}
 use Rattle.commit_steps.specs.declared.Phase.the-variants.{Refused, Judge, Lay}
 use Rattle.commit_steps.specs.declared.State.{State}
 
--- ---- `place`: e, x, t and y are what `rounded_end`, `room`, `check_tag` and `coincides` answer
-module _ (j : Judging) (prog : ℕ) (b : List ℕ) (stores e : ℕ) (ee : e ≡ roundedEnd prog (j .off + j .size)) where
-  pub placed-full : length b < e → Refused NoSpace ≡ placedOf j prog b stores
-  unfolding placedOf
-  placed-full h = rw (← ee, lt-ltb (length b) e h)
+-- ---- `test`: e, x, t and y are what `rounded_end`, `room`, `check_tag` and `coincides` answer
+module _ (j : Judging) (f : LfsFcrc) (prog : ℕ) (b : List ℕ) (stores e : ℕ)
+    (ee : e ≡ roundedEnd prog (j .off + j .size)) where
+  pub tested-full : length b < e → Refused NoSpace ≡ testedOf j f prog b stores
+  unfolding testedOf
+  tested-full h = rw (← ee, lt-ltb (length b) e h)
 
   module _ (h : e ≤ length b) (x : Room) (ex : x ≡ roomOf prog b (j .off) (j .etag)) where
-    pub placed-no-room : (r : Refusal) → x ≡ room.Refused r → Refused r ≡ placedOf j prog b stores
-    unfolding placedOf
-    placed-no-room r k = rw (← ee, le-ltb (length b) e h, ← ex, k)
+    pub tested-no-room : (r : Refusal) → x ≡ room.Refused r → Refused r ≡ testedOf j f prog b stores
+    unfolding testedOf
+    tested-no-room r k = rw (← ee, le-ltb (length b) e h, ← ex, k)
 
     module _ (k : x ≡ room.Clean) (t : ℕ) (et : t ≡ checkTag (checkSize prog (j .off + j .size))) (y : Bool)
         (ey : y ≡ meets (j .sum) (bitXor t (j .prev))) where
@@ -42,23 +44,38 @@ module _ (j : Judging) (prog : ℕ) (b : List ℕ) (stores e : ℕ) (ee : e ≡ 
       unfolding xor
       word-is = ap (λ (u : ℕ). bitXor u (j .prev)) et
 
-      pub placed-coincides : y ≡ true → Refused Coincidence ≡ placedOf j prog b stores
-      unfolding placedOf
-      placed-coincides q = rw (← ee, le-ltb (length b) e h, ← ex, k, ← word-is, ← ey, q)
+      pub tested-coincides : y ≡ true → Refused Coincidence ≡ testedOf j f prog b stores
+      unfolding testedOf
+      tested-coincides q = rw (← ee, le-ltb (length b) e h, ← ex, k, ← word-is, ← ey, q)
 
       -- s is what `sum_be32` answers
-      pub placed-lays : (s : ℕ) → y ≡ false → s ≡ crc (j .sum) (toBe32 (bitXor t (j .prev)))
+      pub tested-lays : (s : ℕ) → y ≡ false → s ≡ crc (j .sum) (toBe32 (bitXor t (j .prev)))
           → Lay (record {
             run = record { at = j .off; left = stores };
             prev = j .etag;
+            fcrc = f;
             word = bitXor t (j .prev);
             sum = s;
-          }) ≡ placedOf j prog b stores
-      unfolding placedOf
-      placed-lays s q es =
-          ap (λ (u : ℕ). Lay (record
-          { run = record { at = j .off; left = stores }; prev = j .etag; word = bitXor t (j .prev); sum = u })) es
+          }) ≡ testedOf j f prog b stores
+      unfolding testedOf
+      tested-lays s q es =
+          ap (λ (u : ℕ). Lay (record {
+            run = record { at = j .off; left = stores };
+            prev = j .etag;
+            fcrc = f;
+            word = bitXor t (j .prev);
+            sum = u;
+          })) es
           ∙ rw (← ee, le-ltb (length b) e h, ← ex, k, ← word-is, ← ey, q)
+
+-- ---- `place`: f, k and p are what `forward`, `sum_forward` and `test` answer
+pub placed-tested : (j : Judging) (prog : ℕ) (b : List ℕ) (stores : ℕ) (f : LfsFcrc) (k : Judging) (p : Phase)
+    → f ≡ carriedFor prog (length b) (j .off + j .size) → k ≡ forwardSummed j f → p ≡ testedOf k f prog b stores
+    → p ≡ placedOf j prog b stores
+unfolding placedOf
+placed-tested j prog b stores f k p ef ek ep =
+    ep ∙ ap (λ (u : Judging). testedOf u f prog b stores) ek
+    ∙ ap (λ (g : LfsFcrc). testedOf (forwardSummed j g) g prog b stores) ef
 
 -- ---- `decide`
 module _ (st : State) (g : Geometry) (b0 b1 : List ℕ) (stores : ℕ) where

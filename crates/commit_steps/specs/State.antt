@@ -120,7 +120,7 @@ laidTo l prev s = onto (record { run = s .run; prev = prev; fcrc = l .fcrc; word
 unfoldable pub layOf : Laying → List ℕ → ℕ → List ℕ → Onto
 layOf l b t body = laidTo l t (putsOf (laid (l .run) b) (toBe32 (xor t (l .prev)) ++ body))
 
-abbrev pub laidOf : Laying → List ℕ → List ℕ → ℕ → ℕ → ℕ → ℕ → Onto
+unfoldable pub laidOf : Laying → List ℕ → List ℕ → ℕ → ℕ → ℕ → ℕ → Onto
 laidOf l b dat kind id off len = layOf l b (mkTag kind id len) (bodyOf dat off len)
 
 -- the forward check, laid

@@ -15,7 +15,7 @@ use Rattle.format.specs.Tag.{tagType1, tagType2, tagType3, tagChunk, tagSplice,
 use Rattle.format.specs.Kind.{isName, isSplice, isTail, isForward}
 use Rattle.format.specs.Walk.{readBehind, bodyLength, bodyOf}
 use Rattle.format.specs.Count.{countNamed, countSpliced}
-use Rattle.format.specs.Record.{counted, pairIn, forward}
+use Rattle.format.specs.Record.{counted, pairIn, forwardIn}
 use Rattle.format.proofs.Parts.{le32-take, le32-take-second}
 use Rattle.format.proofs.Classes.{behind-wide}
 use Rattle.tag.specs.Splice.{fromLowest}

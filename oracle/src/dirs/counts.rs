@@ -20,6 +20,22 @@ pub fn fetch(check: &mut Check, case: &Case, truth: &FetchTruth) {
     check.outcome_of("revisions", revision_kind(rev0, rev1));
     if rust.result == 0 || rust.result == NOENT {
         answered(check, case, &rust.dir, rev1.wrapping_sub(rev0) as i32 > 0);
+        check.outcome_of("forward check", forward_kind(truth));
+        if truth.met.forward_behind {
+            let kind = match truth.model().dir.forward {
+                0 => "behind a log without one",
+                _ => "behind a log with one",
+            };
+            check.outcome_of("forward check that isn't committed", kind);
+        }
+    }
+}
+
+fn forward_kind(truth: &FetchTruth) -> &'static str {
+    match (truth.model().dir.forward, truth.met.forward_own) {
+        (0, _) => "none",
+        (_, true) => "of the last commit",
+        (_, false) => "of an earlier commit",
     }
 }
 

@@ -9,7 +9,7 @@
 use crate::calls::{hex, Fetch, Fetched, Got, Gstate, Info, Lookup, Mdir, Query, Voice};
 use crate::calls::{CORRUPT, INVAL, NOENT};
 use crate::device::{Rust, FILL};
-use crate::model::{Seen, FAULTLESS, INVALID, NO_SLOT};
+use crate::model::{Met, Seen, FAULTLESS, INVALID, NO_SLOT};
 use std::fmt::{self, Debug, Formatter};
 
 /// The highest offset at which lookups are compared.
@@ -44,6 +44,8 @@ pub const REFUSED: &str = "-22";
 pub const SPECIAL: &str = "block number from 0xfffffffe";
 /// Why an answer is Ours: of what is found the Rust tells the tag alone.
 pub const PLACE: &str = "length and place";
+/// Why an answer is Ours: the Rust's record has no forward check.
+pub const FORWARD_CHECK: &str = "forward check of the record";
 
 pub fn special(numbers: [u32; 2]) -> bool {
     numbers.iter().any(|&number| number >= SPECIAL_NUMBERS)
@@ -52,17 +54,17 @@ pub fn special(numbers: [u32; 2]) -> bool {
 pub struct FetchTruth {
     rust: Option<Fetched>,
     model: Fetched,
-    forward_past: bool,
+    pub met: Met,
 }
 
 impl FetchTruth {
     pub fn of(rust: &mut Rust, input: &Fetch) -> FetchTruth {
-        let (model, forward_past) = FAULTLESS.fetch_and_say(input);
+        let (model, met) = FAULTLESS.fetch_and_say(input);
         let compared = model.result != INVAL && !special(input.blocks.numbers);
         FetchTruth {
             rust: compared.then(|| rust.fetch(input)),
             model,
-            forward_past,
+            met,
         }
     }
 }
@@ -83,17 +85,19 @@ impl Truth for FetchTruth {
             INVAL => Some(REFUSED),
             _ if self.rust.is_none() => Some(SPECIAL),
             CORRUPT => Some("record of a refusal"),
-            _ if self.forward_past => Some("forward length past the block"),
+            _ if self.met.forward_past => Some("forward length past the block"),
+            _ if self.model.dir.forward != 0 => Some(FORWARD_CHECK),
             _ => None,
         }
     }
 
     fn compared(&self, answer: &Fetched) -> Fetched {
         let mut answer = *answer;
-        if answer.result == CORRUPT {
-            answer.dir = Mdir::default();
-        }
-        if self.forward_past {
+        answer.dir = match answer.result {
+            CORRUPT => Mdir::default(),
+            _ => answer.dir.without_forward(),
+        };
+        if self.met.forward_past {
             answer.dir.erased = 0;
         }
         answer

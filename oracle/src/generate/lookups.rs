@@ -85,7 +85,7 @@ impl<'a> Asked<'a> {
             12 => tag_of(any[0], id, any[2]),
             _ => tag_of(any[0], any[1], any[2]),
         };
-        Mdir {
+        let dir = Mdir {
             pair: [[n0, n1], [n1, n0]][self.random.below(2)],
             rev: self.random.word(),
             off,
@@ -94,6 +94,14 @@ impl<'a> Asked<'a> {
             erased: self.random.below(2) as u8,
             split: self.random.below(2) as u8,
             tail: [self.random.word(), self.random.word()],
+            ..Mdir::default()
+        };
+        // Nothing is drawn for these: the recorded list stays as it is.
+        Mdir {
+            forward: (dir.rev & 1) as u8,
+            forward_size: dir.rev,
+            forward_sum: dir.tail[0],
+            ..dir
         }
     }
 

@@ -20,7 +20,7 @@ struct Maker<'a> {
 
 type Shape = (&'static str, fn(&mut Maker));
 
-/// Those that fit into 128 bytes.
+/// Those that fit into 128 bytes. The recorded list is drawn from these.
 const SHAPES: [Shape; 12] = [
     ("shape: count at its edges", count_edges),
     ("shape: count clamped", clamped),
@@ -39,15 +39,23 @@ const SHAPES: [Shape; 12] = [
     ("shape: bit 31", bit_31),
 ];
 
+/// Those of blocks of any size, beside them.
+const STORM: Shape = ("shape: storm of splices", storm);
+const UNCOMMITTED: Shape = ("shape: uncommitted forward check", uncommitted_forward);
+
 pub fn case(random: &mut Random, sizes: Sizes) -> Case {
-    let stormy = sizes == Sizes::Any && random.below(40) == 0;
-    let geometry = match stormy {
-        true => storm_geometry(random),
-        false => sizes::geometry(random, sizes),
+    let beside = match sizes {
+        Sizes::Any => random.below(40),
+        Sizes::Small => 40,
     };
-    let (kind, shape) = match stormy {
-        true => ("shape: storm of splices", storm as fn(&mut Maker)),
-        false => SHAPES[random.below(SHAPES.len())],
+    let geometry = match beside {
+        0 => storm_geometry(random),
+        _ => sizes::geometry(random, sizes),
+    };
+    let (kind, shape) = match beside {
+        0 => STORM,
+        1..4 => UNCOMMITTED,
+        _ => SHAPES[random.below(SHAPES.len())],
     };
     let revision = random.word();
     let mut maker = Maker {
@@ -276,6 +284,36 @@ fn earlier_forward(maker: &mut Maker) {
         // What stands behind is not committed, or not even whole.
         1 => {
             maker.log.put(tag_of(0x303, 0, 3), b"zzz");
+        }
+        _ => {}
+    }
+}
+
+/// A forward check behind the last commit, whole or torn, that isn't committed;
+/// before it commits that have one of another length, or none.
+fn uncommitted_forward(maker: &mut Maker) {
+    let erased = |length: u32| crc(ONES, &vec![0xff; length as usize]);
+    let lengths = [0, 4, 16, maker.geometry.prog_size];
+    maker.begin();
+    for _ in 0..maker.random.below(3) {
+        let length = lengths[maker.random.below(4)];
+        maker.forward(8, length, erased(length));
+        maker.check();
+    }
+    if maker.random.below(2) == 0 {
+        maker.log.put(tag_of(0x303, 0, 3), b"zzz");
+    }
+    let (start, length) = (maker.log.at(), lengths[maker.random.below(4)]);
+    let sum = [erased(length), maker.random.word()][maker.random.below(2)];
+    let laid = maker.forward(8, length, sum);
+    match maker.random.below(4) {
+        // Its last bytes are not there yet.
+        0 if laid => {
+            let torn = start + 4 + maker.random.below(8);
+            maker.log.bytes[torn..start + 12].fill(0xff);
+        }
+        1 => {
+            maker.log.put(tag_of(CHECK, NO_SLOT, 4), &[1, 2, 3, 4]);
         }
         _ => {}
     }

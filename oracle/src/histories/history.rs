@@ -142,7 +142,8 @@ impl History<'_> {
             0..43 => self.good(),
             43..54 => self.doubtful(),
             54..64 => self.filled(),
-            64..74 => self.compact("compaction"),
+            64..71 => self.compact("compaction"),
+            71..74 => self.fitted(),
             74..82 => self.cut(),
             82..84 => self.every_cut(),
             84..90 => self.coincidence(),
@@ -237,18 +238,47 @@ impl History<'_> {
         self.commit("doubtful entries", &list);
     }
 
-    /// Entries that end at the block's end, or a few bytes before or past it.
+    /// Entries that end at the block's end, or where their forward check just has
+    /// room.
     fn filled(&mut self) {
         let (mut list, count) = self.list_and_count();
         let room = self.case.geometry.block_size as isize - self.record().off as isize;
-        let short = self.random.below(6) as isize - 2;
-        let size = room - list.length() as isize - 12 - short;
+        let (kind, left) = match self.random.below(2) {
+            0 => ("entries that fill the block", self.some(0)),
+            _ => ("entries that just leave a unit", self.unit_left()),
+        };
+        let size = room - list.length() as isize - 12 - left;
         let slot = match count {
             0 => None,
             _ => Some(self.random.below(count as usize) as u32),
         };
         lists::fill(&mut self.random, &self.habits, &mut list, slot, size);
-        self.commit("entries that fill the block", &list);
+        self.commit(kind, &list);
+    }
+
+    /// So many, or a few less or more.
+    fn some(&mut self, number: isize) -> isize {
+        number + self.random.below(6) as isize - 2
+    }
+
+    /// What entries and check leave of the block where a forward check has room, and
+    /// a program unit behind it; or a few bytes, or a unit, less or more.
+    fn unit_left(&mut self) -> isize {
+        let units = [0, 1, 1, 1, 1, 2][self.random.below(6)];
+        self.some(12 + units * self.case.geometry.prog_size as isize)
+    }
+
+    /// The compaction of a pair that just leaves a unit, or just doesn't. The history
+    /// stays where it is.
+    fn fitted(&mut self) {
+        let left = self.unit_left();
+        let kept = (self.case.clone(), self.directory.clone());
+        self.case = start::fitting(&mut self.random, self.case.geometry, left);
+        self.directory = read(&self.case);
+        let limit = self.random.below(200) as u32;
+        self.limited("compaction that just leaves a unit", Work::Compact, limit, false);
+        self.compact("compaction that just leaves a unit");
+        (self.case, self.directory) = kept;
     }
 
     /// A pair without room for one of the reasons, for several at once or for

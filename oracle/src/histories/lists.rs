@@ -170,9 +170,14 @@ fn move_state(random: &mut Random, list: &mut List) {
     list.push(MOVE_STATE, NO_SLOT, &bytes);
 }
 
-/// Ends a list by an entry that fills the room up to `short` bytes, or passes it
-/// where that is negative.
+/// Ends a list by an entry of so many bytes; where that is more than an entry may
+/// have, by several that take the same room.
 pub fn fill(random: &mut Random, habits: &Habits, list: &mut List, slot: Option<u32>, size: isize) {
+    let mut size = size;
+    while let (Some(id), 1027..) = (slot, size) {
+        list.push(habits.types[0], id, &random.bytes(1022));
+        size -= 1026;
+    }
     let size = size.clamp(0, 1022) as usize;
     let type_ = match random.below(3) {
         0 => INLINE,

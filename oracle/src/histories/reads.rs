@@ -4,7 +4,8 @@
 //! Assumes block numbers below 0xfffffffe, as the histories have them.
 
 use super::ask::{After, Step};
-use crate::calls::write::Answer;
+use super::carried::Carried;
+use crate::calls::write::{Answer, Work};
 use crate::calls::{Blocks, Fetch, Fetched, Gstate, Lookup, Mdir, Query, NOENT};
 use crate::device::Rust;
 use crate::model::*;
@@ -18,6 +19,7 @@ const SPECIAL: u32 = 0xffff_fffe;
 pub struct Reads {
     rust: Rust,
     pub fetches: Check,
+    pub forwards: Check,
     pub lookups: Check,
     pub cuts: Check,
 }
@@ -30,6 +32,7 @@ impl Default for Reads {
         Reads {
             rust: Rust::default(),
             fetches: Check::rust("fetch of what was written"),
+            forwards: Check::rust("erased behind a forward check"),
             lookups: Check::rust("lookups of what was written"),
             cuts: Check::rust("fetch of what was cut short"),
         }
@@ -60,9 +63,10 @@ impl Reads {
         match (&step.after, step.truth.answer) {
             (After::Finished, Answer::Committed(answer)) => {
                 let Fetched { result, dir, seed } = self.rust.fetch(&fetch);
-                let said = (answer.result, answer.dir, answer.seed);
+                let said = (answer.result, answer.dir.without_forward(), answer.seed);
                 self.fetches.same((result, dir, seed), said, text);
                 self.fetches.outcome_of("pairs", step.case.kind);
+                self.forward(step, &fetch.blocks, dir, text);
                 self.directory(fetch.blocks, dir, step.directories[1], step.types, text);
             }
             (
@@ -85,6 +89,27 @@ impl Reads {
         }
     }
 
+    /// A pair that carries a forward check is erased to who reads it as littlefs does:
+    /// the next commit goes behind it, and nothing is compacted for it.
+    fn forward(&mut self, step: &Step, blocks: &Blocks, dir: Mdir, text: &dyn Fn() -> String) {
+        let which = usize::from(dir.pair[0] == blocks.numbers[1]);
+        let carried = Carried::of(blocks.geometry, blocks.images[which], &dir);
+        let call = match step.task.work {
+            Work::Commit { .. } => "commits",
+            Work::Compact => "compactions",
+        };
+        let kind = match (carried.carried, dir.erased) {
+            (true, _) => "carried",
+            (false, 0) => "not carried",
+            (false, _) => "not carried, erased by an earlier one",
+        };
+        self.forwards.outcome_of(call, kind);
+        self.forwards.outcome_of("room for it", carried.room());
+        if carried.carried {
+            self.forwards.same(1, dir.erased, text);
+        }
+    }
+
     /// The finished record if the finished bytes are there, else the old one;
     /// only the erased mark may differ.
     fn cut(
@@ -96,17 +121,12 @@ impl Reads {
         text: &dyn Fn() -> String,
     ) {
         let expected = if finished { new } else { old };
-        let unmarked = |fetched: &Fetched| match finished {
-            true => *fetched,
-            false => Fetched {
-                dir: Mdir {
-                    erased: 0,
-                    ..fetched.dir
-                },
-                ..*fetched
-            },
+        let compared = |fetched: &Fetched| {
+            let mut dir = fetched.dir.without_forward();
+            dir.erased &= u8::from(finished);
+            Fetched { dir, ..*fetched }
         };
-        self.cuts.same(unmarked(&read), unmarked(expected), text);
+        self.cuts.same(compared(&read), compared(expected), text);
         let kind = match (finished, read.dir.erased == old.dir.erased) {
             (true, _) => "the new record",
             (false, true) => "the old record",

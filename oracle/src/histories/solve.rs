@@ -1,9 +1,9 @@
 //! Commits whose checksum is as one wants it: the checksum is linear, so four
 //! free bytes before the check tag can be solved for.
 //!
-//! Assumes that the four bytes before the check are data.
+//! Assumes that the last four bytes of the entries are data.
 
-use crate::model::{crc, ONES};
+use crate::model::{crc, le32, Laid, ONES};
 
 /// What the checksum shall do.
 #[derive(Clone, Copy)]
@@ -28,18 +28,25 @@ fn back(register: u32) -> u32 {
     })
 }
 
-/// The four bytes that, in place of the last four data bytes, reach the goal.
-/// `bytes` is the whole commit, with its check tag and checksum.
-pub fn solve(bytes: &[u8], goal: Goal) -> Option<[u8; 4]> {
-    let free = bytes.len().checked_sub(12)?;
-    let raw: [u8; 4] = bytes.get(free + 4..free + 8)?.try_into().ok()?;
+/// The register before four bytes, from the one behind them.
+fn before(register: u32, four: &[u8]) -> u32 {
+    back(register) ^ le32(four, 0).unwrap_or_default()
+}
+
+/// The four bytes that, in place of the last four data bytes of the entries, reach
+/// the goal. Between them and the check tag a forward check may stand, in words.
+pub fn solve(laid: &Laid, goal: Goal) -> Option<[u8; 4]> {
+    let check = laid.bytes.len().checked_sub(8)?;
+    let free = laid.forward.unwrap_or(check).checked_sub(4)?;
+    let raw: [u8; 4] = laid.bytes.get(check..check + 4)?.try_into().ok()?;
     let (target, put) = match goal {
         Goal::Coincide(put) => (ONES, put),
         Goal::Sum(sum) => (sum, 4),
     };
     let mut four = [0xff; 4];
     four[..put].copy_from_slice(&raw[..put]);
-    let wanted = back(target) ^ u32::from_le_bytes(four);
-    let before = crc(ONES, &bytes[..free]);
-    Some((back(wanted) ^ before).to_le_bytes())
+    let forward = laid.bytes.get(free + 4..check)?.rchunks(4);
+    let wanted = forward.fold(before(target, &four), before);
+    let entries = crc(ONES, &laid.bytes[..free]);
+    Some((back(wanted) ^ entries).to_le_bytes())
 }

@@ -25,7 +25,7 @@ impl History<'_> {
         );
         let images = [&self.case.images[0][..], &self.case.images[1][..]];
         let laid = FAULTLESS_WRITER.laid(&task, images)?;
-        replace_last(&mut list, solve(&laid.bytes, goal)?);
+        replace_last(&mut list, solve(&laid, goal)?);
         Some(list)
     }
 
@@ -82,7 +82,7 @@ impl History<'_> {
         let compact = self.task(Work::Compact, None);
         let laid = FAULTLESS_WRITER.laid(&compact, [&images[0], &images[1]])?;
         match outcome.answer.result() {
-            0 | COINCIDENCE => solve(&laid.bytes, goal),
+            0 | COINCIDENCE => solve(&laid, goal),
             _ => None,
         }
     }

@@ -134,6 +134,32 @@ pub fn no_room(random: &mut Random, geometry: Geometry) -> Case {
     case
 }
 
+/// A slot whose attributes leave so many bytes of the block behind the check of their
+/// compaction, if that carries no forward check. The log may have one of others.
+pub fn fitting(random: &mut Random, geometry: Geometry, left: isize) -> Case {
+    let mut log = Log::new(geometry.block_size as usize, random.word());
+    log.put(tag_of(CREATE, 0, 0), &[]);
+    let mut length = (log.room() as isize - 8 - left).max(0) as usize;
+    for type_ in ATTRIBUTE..=ATTRIBUTE + 0xff {
+        // What is left has room for a tag, or is nothing.
+        let taken = if length > 1026 { 1022 } else { length };
+        if taken < 4 {
+            break;
+        }
+        let data = random.bytes(taken - 4);
+        log.put(tag_of(type_, 0, data.len() as u32), &data);
+        length -= taken;
+    }
+    if random.below(2) == 0 && holds_forward(&log, geometry) {
+        forward(random, &mut log, geometry);
+    }
+    check(random, &mut log, geometry, true, false);
+    let images = [log.bytes, vec![0xff; geometry.block_size as usize]];
+    let mut case = generate::finish(random, "fitting", geometry, images);
+    case.block_count = 0;
+    case
+}
+
 /// A compacted empty directory.
 fn fresh(geometry: Geometry, revision: u32) -> Log {
     let mut log = Log::new(geometry.block_size as usize, revision);
@@ -217,7 +243,7 @@ pub fn irregular_and_coincident(random: &mut Random) -> Option<Case> {
     case.block_count = 0;
     let compact = ask::task(&case, DOCUMENT, Work::Compact, None);
     let laid = FAULTLESS_WRITER.laid(&compact, [&case.images[0], &case.images[1]])?;
-    let four = solve(&laid.bytes, Goal::Coincide(1 + random.below(3)))?;
+    let four = solve(&laid, Goal::Coincide(1 + random.below(3)))?;
     let second = case.images[1].first() != Some(&0xff);
     case.images = images(four);
     if second {
@@ -226,14 +252,25 @@ pub fn irregular_and_coincident(random: &mut Random) -> Option<Case> {
     Some(case)
 }
 
-/// A forward check over bytes that are still erased, or over none.
-fn forward(random: &mut Random, log: &mut Log, geometry: Geometry) {
+/// Whether a forward check and a check have room.
+pub fn holds_forward(log: &Log, geometry: Geometry) -> bool {
+    let check = 4 + log.check_size(12, geometry.prog_size as usize) as usize;
+    12 + check <= log.room()
+}
+
+/// A forward check as others may have written it: over bytes that are still erased,
+/// one program unit or more or less, over none, past the block, or of another sum.
+pub fn forward(random: &mut Random, log: &mut Log, geometry: Geometry) {
     let prog = geometry.prog_size as usize;
     let end = log.at() + 16 + log.check_size(12, prog) as usize;
     let left = log.bytes.len().saturating_sub(end);
-    let length = [prog.min(left), left, 0][random.below(3)];
-    let mut data = (length as u32).to_le_bytes().to_vec();
-    data.extend(crc(ONES, &vec![0xff; length]).to_le_bytes());
+    let length = [prog.min(left), left, random.below(left + 1), 0][random.below(4)];
+    let (length, sum) = match random.below(8) {
+        0 => (random.word(), random.word()),
+        1 => (length as u32, random.word()),
+        _ => (length as u32, crc(ONES, &vec![0xff; length])),
+    };
+    let data = [length.to_le_bytes(), sum.to_le_bytes()].concat();
     log.put(tag_of(FORWARD, NO_SLOT, 8), &data);
 }
 

@@ -5,7 +5,7 @@
 //! Assumes nothing.
 
 use super::lists::{self, Habits, List};
-use super::start::{check, put};
+use super::start::{check, forward, holds_forward, put};
 use crate::calls::Geometry;
 use crate::generate::Log;
 use crate::model::*;
@@ -52,6 +52,10 @@ pub fn log(
                 return log;
             }
             put(&mut log, &list);
+            // littlefs lays one in each commit that has room for it.
+            if wide.random.below(3) == 0 && holds_forward(&log, geometry) {
+                forward(wide.random, &mut log, geometry);
+            }
             check(wide.random, &mut log, geometry, true, false);
         }
     }

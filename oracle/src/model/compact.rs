@@ -13,8 +13,7 @@ use crate::calls::write::*;
 impl Writer {
     /// "Compaction: the same without -201 and -203."
     pub(super) fn compact(&self, task: &Task, read: &Read) -> Result<Plan, (i32, u32)> {
-        let prog = task.geometry.prog_size as usize;
-        let laid = self.compacted(read).finish(prog);
+        let laid = self.compacted(read).finish(task.geometry);
         let mut tests = [
             self.irregular(task, read),
             self.full(task, &laid)
@@ -66,6 +65,7 @@ impl Writer {
                 WriteFault::RevisionUnsummed => ONES,
                 _ => crc(ONES, &revision),
             },
+            forwarded: false,
         };
         let mut directory = Directory::of(&read.log);
         let wider = !regular(WriteFault::None, DOCUMENT, &read.log);

@@ -17,7 +17,7 @@ impl Model {
         if !(straight && invalid && self.aligned(commit.end, prog as usize)) {
             return (false, false);
         }
-        let Some(forward) = walk.forward else {
+        let Some(forward) = walk.forwards.last else {
             return (self.has(Fault::ErasedWithoutForward), false);
         };
         let rest = walk.block.get(commit.end..).unwrap_or_default();

@@ -92,6 +92,12 @@ faults! { Fault FAULTS;
     BlockCountIncluded Rust "fetch: block number equal to block count accepted";
     SecondNumberUntested Rust "fetch: second number not held against block count";
     ForwardMayPass Ours "fetch: forward length past the block accepted";
+    ForwardUncommitted Ours "fetch: the record's forward check not yet committed";
+    ForwardOfLastCommit Ours "fetch: the record's forward check reset at each commit";
+    ForwardIfItFits Ours "fetch: the record's forward check only where it fits";
+    ForwardSwapped Ours "fetch: the record's forward size and checksum swapped";
+    ForwardUnshown Ours "fetch: the record without a forward check";
+    NoentHasNoForward Ours "fetch: -2 without the forward check";
     RefusalHasRecord Ours "fetch: a refusal's record is not zero";
 
     MatchBeforeSplice Rust "lookup: match tested before the splice is added";

@@ -2,22 +2,33 @@
 //!
 //! Assumes nothing.
 
-use super::walk::{Commit, Walk};
+use super::walk::{Commit, Forward, Walk};
 use super::{bytes::*, tag::*, Fault, Model};
 use crate::calls::{Fetch, Fetched, Mdir, CORRUPT, INVAL, NOENT};
 
 /// "-2: fetch: count above 1,023"
 const MOST_SLOTS: u32 = 1023;
 
+/// What was met on the way to an answer.
+#[derive(Clone, Copy, Default)]
+pub struct Met {
+    /// The rule on forward lengths past the block, which is Ours, decided the erased
+    /// mark.
+    pub forward_past: bool,
+    /// The last commit has a forward check of its own.
+    pub forward_own: bool,
+    /// A forward check stands behind the last commit, and isn't committed.
+    pub forward_behind: bool,
+}
+
 impl Model {
-    /// The answer, and whether the rule on forward lengths past the block, which
-    /// is Ours, decided the erased mark.
-    pub fn fetch_and_say(&self, input: &Fetch) -> (Fetched, bool) {
+    /// The answer, and what was met.
+    pub fn fetch_and_say(&self, input: &Fetch) -> (Fetched, Met) {
         if !self.blocks_fit(&input.blocks) {
-            return (refused(INVAL, input.seed), false);
+            return (refused(INVAL, input.seed), Met::default());
         }
         if self.number_too_high(input) {
-            return (refused(CORRUPT, input.seed), false);
+            return (refused(CORRUPT, input.seed), Met::default());
         }
         let first = self.first(input);
         let mut earlier = None;
@@ -35,7 +46,7 @@ impl Model {
         if self.has(Fault::RefusalHasRecord) {
             answer.dir.pair = input.blocks.numbers;
         }
-        (answer, false)
+        (answer, Met::default())
     }
 
     /// "block number not below a non-zero block count"
@@ -69,12 +80,17 @@ impl Model {
         })
     }
 
-    fn answer(&self, input: &Fetch, which: usize, walk: &Walk, commit: &Commit) -> (Fetched, bool) {
+    fn answer(&self, input: &Fetch, which: usize, walk: &Walk, commit: &Commit) -> (Fetched, Met) {
         let contents = match self.fault {
             Fault::UncommittedShown => walk.contents,
             _ => commit.contents,
         };
-        let (erased, ours) = self.erased(walk, commit, input.blocks.geometry.prog_size);
+        let (erased, forward_past) = self.erased(walk, commit, input.blocks.geometry.prog_size);
+        let met = Met {
+            forward_past,
+            forward_own: commit.forwards.own.is_some(),
+            forward_behind: walk.forwards.own.is_some(),
+        };
         let numbers = input.blocks.numbers;
         let shown = match self.fault {
             Fault::PairAsGiven => 0,
@@ -93,19 +109,52 @@ impl Model {
             erased: erased.into(),
             split: contents.split.into(),
             tail: contents.tail,
+            ..self.forward_fields(self.forward(walk, commit, erased))
         };
         let answer = Fetched {
             result: self.result(contents.count),
             dir,
             seed: self.seed(input, walk),
         };
+        (self.of_noent(input, answer), met)
+    }
+
+    /// The answer, and of a -2 with a fault what it changes.
+    fn of_noent(&self, input: &Fetch, answer: Fetched) -> Fetched {
+        let (dir, seed) = (answer.dir.without_forward(), input.seed);
+        match (answer.result, self.fault) {
+            (NOENT, Fault::NoentHasNoRecord) => refused(NOENT, seed),
+            (NOENT, Fault::NoentHasOldSeed) => Fetched { seed, ..answer },
+            (NOENT, Fault::NoentHasNoForward) => Fetched { dir, ..answer },
+            _ => answer,
+        }
+    }
+
+    /// "The record shall hold the last committed forward check, or none."
+    fn forward(&self, walk: &Walk, commit: &Commit, erased: bool) -> Option<Forward> {
         match self.fault {
-            Fault::NoentHasNoRecord if answer.result == NOENT => (refused(NOENT, input.seed), ours),
-            Fault::NoentHasOldSeed if answer.result == NOENT => {
-                let seed = input.seed;
-                (Fetched { seed, ..answer }, ours)
-            }
-            _ => (answer, ours),
+            Fault::ForwardUncommitted => walk.forwards.last,
+            Fault::ForwardOfLastCommit => commit.forwards.own,
+            Fault::ForwardIfItFits => commit.forwards.last.filter(|_| erased),
+            Fault::ForwardUnshown => None,
+            _ => commit.forwards.last,
+        }
+    }
+
+    /// The record's three fields, all 0 where there is none.
+    fn forward_fields(&self, forward: Option<Forward>) -> Mdir {
+        let Some(Forward { length, sum }) = forward else {
+            return Mdir::default();
+        };
+        let (forward_size, forward_sum) = match self.fault {
+            Fault::ForwardSwapped => (sum, length),
+            _ => (length, sum),
+        };
+        Mdir {
+            forward: 1,
+            forward_size,
+            forward_sum,
+            ..Mdir::default()
         }
     }
 

@@ -1,9 +1,12 @@
 //! The bytes of one commit: "tags chained as above, data, then a check tag
-//! 0x500, id 1,023, and the checksum little-endian".
+//! 0x500, id 1,023, and the checksum little-endian"; and before the check tag the
+//! forward check, which `forward` makes.
 //!
 //! Assumes nothing: a size that a tag cannot have is cut to its ten bits.
 
+use super::forward::{unit, FORWARD_LENGTH};
 use super::{bytes::*, tag::*, WriteFault};
+use crate::calls::Geometry;
 
 /// A commit being laid.
 pub struct Lay {
@@ -13,6 +16,8 @@ pub struct Lay {
     pub bytes: Vec<u8>,
     pub previous: u32,
     pub sum: u32,
+    /// The log has a forward check already: only a fault looks at it.
+    pub forwarded: bool,
 }
 
 /// A commit with its check: where it ends, and whether it coincides.
@@ -21,6 +26,19 @@ pub struct Laid {
     pub bytes: Vec<u8>,
     pub end: usize,
     pub coincides: bool,
+    /// Where in its bytes the forward check stands, if it carries one.
+    pub forward: Option<usize>,
+}
+
+impl Laid {
+    /// Where it would end with a forward check, carried or not.
+    pub fn end_with_forward(&self, geometry: Geometry) -> usize {
+        let stored = self.start + self.bytes.len();
+        match self.forward {
+            Some(_) => self.end,
+            None => (stored + FORWARD_LENGTH).next_multiple_of(unit(geometry)),
+        }
+    }
 }
 
 impl Lay {
@@ -74,11 +92,20 @@ impl Lay {
         )
     }
 
-    /// Program sizes of the domain only: 0 is taken for 1.
-    pub fn finish(mut self, prog: usize) -> Laid {
-        let (tag, end) = self.check_tag(prog.max(1));
+    /// The forward check, if there is one, and the check.
+    pub fn finish(mut self, geometry: Geometry) -> Laid {
+        let (before, carries) = (self.sum, self.carries(geometry));
+        let behind = carries && self.has(WriteFault::ForwardBehindCheck);
+        let forward = (carries && !behind).then_some(self.bytes.len());
+        if forward.is_some() {
+            self.put_forward(geometry);
+        }
+        let (tag, end) = self.check_tag(unit(geometry));
         let raw = self.raw(tag);
-        let coincides = self.coincides(raw);
+        let coincides = match self.fault {
+            WriteFault::CoincidenceWithoutForward => self.coincides(before, raw),
+            _ => self.coincides(self.sum, raw),
+        };
         let sum = match self.fault {
             WriteFault::CheckTagUnsummed => self.sum,
             _ => crc(self.sum, &raw),
@@ -89,6 +116,10 @@ impl Lay {
             WriteFault::ChecksumInverted => (!sum).to_le_bytes(),
             _ => sum.to_le_bytes(),
         });
+        if behind {
+            self.previous = tag;
+            self.put_forward(geometry);
+        }
         if self.has(WriteFault::PaddingStored) {
             let length = end.saturating_sub(self.start);
             self.bytes.resize(length.max(self.bytes.len()), 0xff);
@@ -99,12 +130,13 @@ impl Lay {
             bytes,
             end,
             coincides,
+            forward,
         }
     }
 
     /// "put 1, 2 or 3 bytes of the check tag and fill its four with 0xff; if any
-    /// of the three checksums is 0xffffffff"
-    fn coincides(&self, raw: [u8; 4]) -> bool {
+    /// of the three checksums is 0xffffffff". The register is the one before the tag.
+    fn coincides(&self, register: u32, raw: [u8; 4]) -> bool {
         let puts: &[usize] = match self.fault {
             WriteFault::CoincidenceUntested => &[],
             WriteFault::CoincidenceWithout1 => &[2, 3],
@@ -119,7 +151,7 @@ impl Lay {
             for (byte, real) in four.iter_mut().zip(raw).take(put) {
                 *byte = real;
             }
-            crc(self.sum, &four) == ONES
+            crc(register, &four) == ONES
         })
     }
 }

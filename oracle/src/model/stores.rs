@@ -2,6 +2,7 @@
 //!
 //! Assumes nothing.
 
+use super::forward::FORWARD_LENGTH;
 use super::writer::{fetch, Plan, Refusal, Writer};
 use super::WriteFault;
 use crate::calls::write::*;
@@ -47,7 +48,7 @@ impl Writer {
                 WriteFault::OldRecord => before,
                 _ => fetch(task, [&*b0, &*b1]),
             };
-            return self.accepted(task, after);
+            return self.accepted(task, before, after);
         };
         Answer::Stored(Stored {
             result: 0,
@@ -60,11 +61,23 @@ impl Writer {
         })
     }
 
-    fn accepted(&self, task: &Task, after: Fetched) -> Answer {
+    fn accepted(&self, task: &Task, before: Fetched, after: Fetched) -> Answer {
         Answer::Committed(Committed {
             result: after.result,
             index: 0,
-            dir: after.dir,
+            dir: match self.fault {
+                WriteFault::OldForward => Mdir {
+                    forward: before.dir.forward,
+                    forward_size: before.dir.forward_size,
+                    forward_sum: before.dir.forward_sum,
+                    ..after.dir
+                },
+                WriteFault::OldErasedMark => Mdir {
+                    erased: before.dir.erased,
+                    ..after.dir
+                },
+                _ => after.dir,
+            },
             seed: match self.fault {
                 WriteFault::SeedAsGiven => task.seed,
                 _ => after.seed,
@@ -74,8 +87,9 @@ impl Writer {
 
     fn stores_of(&self, plan: &Plan) -> usize {
         let erase = plan.erase && !self.has(WriteFault::EraseUncounted);
-        let bytes = match self.fault {
-            WriteFault::TwoAtOnce => plan.laid.bytes.len().div_ceil(2),
+        let bytes = match (self.fault, plan.laid.forward) {
+            (WriteFault::TwoAtOnce, _) => plan.laid.bytes.len().div_ceil(2),
+            (WriteFault::ForwardUnstored, Some(_)) => plan.laid.bytes.len() - FORWARD_LENGTH,
             _ => plan.laid.bytes.len(),
         };
         bytes + usize::from(erase)
@@ -106,8 +120,11 @@ impl Writer {
         if bytes > 0 && self.has(WriteFault::AllAtOnce) {
             bytes = length;
         }
-        if self.has(WriteFault::TwoAtOnce) {
-            bytes *= 2;
+        match (self.fault, plan.laid.forward) {
+            (WriteFault::TwoAtOnce, _) => bytes *= 2,
+            // It comes with the check tag's first byte.
+            (WriteFault::ForwardUnstored, Some(at)) if bytes > at => bytes += FORWARD_LENGTH,
+            _ => {}
         }
         for i in 0..bytes.min(length) {
             let place = self.place(i, length);

@@ -18,13 +18,21 @@ pub struct Commit {
     pub contents: Contents,
     pub end: usize,
     pub end_tag: u32,
+    pub forwards: Forwards,
 }
 
 /// A forward check: so many bytes from the end, and their checksum.
-#[derive(Clone, Copy)]
+#[derive(Clone, Copy, PartialEq, Eq)]
 pub struct Forward {
     pub length: u32,
     pub sum: u32,
+}
+
+/// The forward checks so far: the last one, and the last one of the commit at hand.
+#[derive(Clone, Copy, Default)]
+pub struct Forwards {
+    pub last: Option<Forward>,
+    pub own: Option<Forward>,
 }
 
 #[derive(Clone, Copy, PartialEq, Eq)]
@@ -44,7 +52,7 @@ pub struct Walk<'a> {
     pub previous: u32,
     sum: u32,
     pub contents: Contents,
-    pub forward: Option<Forward>,
+    pub forwards: Forwards,
     pub committed: Option<Commit>,
     pub seed: u32,
     pub stop: Stop,
@@ -66,14 +74,14 @@ impl<'a> Walk<'a> {
                 tail: [ONES; 2],
                 split: false,
             },
-            forward: None,
+            forwards: Forwards::default(),
             committed: None,
             seed,
             stop: Stop::Other,
         };
         if let (Fault::SecondBlockGoesOn, Some(earlier)) = (fault, earlier) {
             walk.contents = earlier.contents;
-            walk.forward = earlier.forward;
+            walk.forwards.last = earlier.forwards.last;
         }
         match fault {
             Fault::RevisionUnsummed => walk.sum = ONES,
@@ -164,6 +172,7 @@ impl<'a> Walk<'a> {
             contents: self.contents,
             end: self.at + self.length_of(tag),
             end_tag,
+            forwards: self.forwards,
         });
         self.restart(tag);
         Ok(())
@@ -177,8 +186,9 @@ impl<'a> Walk<'a> {
             Fault::SumFromZero => self.sum = 0,
             _ => self.sum = ONES,
         }
+        self.forwards.own = None;
         if self.has(Fault::ForwardResets) {
-            self.forward = None;
+            self.forwards.last = None;
         }
         if self.has(Fault::TailResets) {
             self.contents.tail = [ONES; 2];
@@ -269,8 +279,10 @@ impl<'a> Walk<'a> {
     /// "8 bytes likewise, length and checksum"
     fn forward(&mut self, _tag: u32) -> Result<(), Stop> {
         let [length, sum] = self.two_words()?;
-        if self.forward.is_none() || !self.has(Fault::FirstForwardKept) {
-            self.forward = Some(Forward { length, sum });
+        let forward = Some(Forward { length, sum });
+        self.forwards.own = forward;
+        if self.forwards.last.is_none() || !self.has(Fault::FirstForwardKept) {
+            self.forwards.last = forward;
         }
         Ok(())
     }

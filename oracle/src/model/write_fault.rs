@@ -109,6 +109,32 @@ write_faults! {
     CoincidenceWithout3 "coincidence: 1 and 2 bytes only";
     CoincidenceWith0 "coincidence: no bytes tested too";
     CoincidenceWith4 "coincidence: all four bytes tested too";
+    CoincidenceWithoutForward "coincidence: the forward check left out of the sum";
+
+    ForwardAlways "forward check: always carried";
+    ForwardNever "forward check: never carried";
+    ForwardAtBlocksEnd "forward check: carried where no unit follows";
+    ForwardNeedsTwoUnits "forward check: left out where just one unit follows";
+    ForwardUncounted "forward check: its 12 bytes not counted";
+    ForwardNeedsRoom "forward check: -28 where it alone has no room";
+    ForwardUncompacted "forward check: left out of a compaction";
+    ForwardInCompactions "forward check: left out of a commit";
+    ForwardOnce "forward check: left out where the log has one";
+    ForwardBehindCheck "forward check: behind the check tag";
+    ForwardIs5fe "forward check: of type 0x5fe";
+    ForwardHasId0 "forward check: of id 0";
+    ForwardUnchained "forward check: the check tag not chained to it";
+    ForwardUnsummed "forward check: left out of the checksum";
+    ForwardOfTheRest "forward check: of all that is left, not of one unit";
+    ForwardSumOneMore "forward check: checksum over one byte more";
+    ForwardSumOneLess "forward check: checksum over one byte less";
+    ForwardSumFromZero "forward check: checksum from 0";
+    ForwardSumOfZeros "forward check: checksum over zeros";
+    ForwardSumInverted "forward check: checksum inverted";
+    ForwardSizeBigEndian "forward check: program size big-endian";
+    ForwardSumBigEndian "forward check: checksum big-endian";
+    ForwardSumFirst "forward check: checksum before the program size";
+    ForwardUnstored "stores: forward check placed by no store of its own";
 
     ChainedFromOnes "bytes: first tag not chained to the end tag";
     TagsUnchained "bytes: tags not chained";
@@ -135,6 +161,8 @@ write_faults! {
     AllAnswered "stores: all stores answered";
 
     OldRecord "answer: the record before the call";
+    OldForward "answer: the forward check before the call";
+    OldErasedMark "answer: the erased mark before the call";
     SeedAsGiven "answer: the seed as given";
     NoentHasNoRecord "answer: -2 with a zero record";
 

@@ -115,7 +115,7 @@ impl Writer {
             Work::Commit { entries, data } => self.append(&read, entries, data),
             Work::Compact => self.compacted(&read),
         };
-        Some(lay.finish(task.geometry.prog_size as usize))
+        Some(lay.finish(task.geometry))
     }
 
     fn lengths_fit(&self, work: &Work) -> bool {
@@ -155,8 +155,7 @@ impl Writer {
         entries: &[Entry],
         data: &[u8],
     ) -> Result<Plan, (i32, u32)> {
-        let prog = task.geometry.prog_size as usize;
-        let laid = self.append(read, entries, data).finish(prog);
+        let laid = self.append(read, entries, data).finish(task.geometry);
         let mut tests = [
             self.irregular(task, read),
             self.bad_entry(task, read, entries, data),
@@ -202,6 +201,7 @@ impl Writer {
                 _ => read.dir.etag,
             },
             sum: super::ONES,
+            forwarded: read.dir.forward != 0,
         };
         for entry in entries {
             let bytes = bytes_of(entry, data).unwrap_or_default();
@@ -249,6 +249,7 @@ impl Writer {
     pub(super) fn full(&self, task: &Task, laid: &Laid) -> Refused {
         let end = match self.fault {
             WriteFault::EndAtBlockRefused => laid.end + 1,
+            WriteFault::ForwardNeedsRoom => laid.end_with_forward(task.geometry),
             _ => laid.end,
         };
         (end > task.geometry.block_size as usize).then_some((NO_SPACE, 0))

@@ -10,6 +10,7 @@ use crate::calls::write::{Committed, Work, Writes};
 use crate::calls::{Blocks, Fetch, Fetched, Gstate, Lookup, Voice};
 use crate::dirs::truth::{Sliced, Slicer};
 use crate::histories::ask::{text, Step};
+use crate::histories::carried::Carried;
 use crate::model::size_of;
 
 pub struct Call<'a> {
@@ -26,6 +27,7 @@ pub struct Call<'a> {
     pub which: usize,
     start: usize,
     pub all: usize,
+    pub forward: Carried,
 }
 
 /// What is read of a pair: fetch, and directory lookups with its record.
@@ -102,6 +104,7 @@ impl<'a> Call<'a> {
         );
         let bytes = end.saturating_sub(padded + start);
         let room = finished[which].len().saturating_sub(start);
+        let forward = Carried::of(step.case.geometry, &finished[which], &answer.dir);
         Call {
             step,
             answer,
@@ -111,11 +114,29 @@ impl<'a> Call<'a> {
             which,
             start: start.min(step.case.images[which].len()),
             all: bytes.min(room) + erase,
+            forward,
         }
     }
 
     pub fn compacts(&self) -> bool {
         matches!(self.step.task.work, Work::Compact)
+    }
+
+    /// For the counts.
+    pub fn kind(&self) -> &'static str {
+        match self.compacts() {
+            true => "compactions",
+            false => "commits",
+        }
+    }
+
+    /// What the store behind a stop belongs to, for the counts.
+    pub fn part(&self, made: usize) -> &'static str {
+        match self.all.saturating_sub(made) {
+            0..=8 => "the check",
+            9..=20 if self.forward.carried => "the forward check",
+            _ => "the entries",
+        }
     }
 
     /// The images after so many stores: of a compaction the erase is the first;

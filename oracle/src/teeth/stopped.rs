@@ -19,7 +19,7 @@ use crate::stopped::{run, Asked, Stopped};
 const HISTORIES: u64 = 6_000;
 
 /// The writer's faults that demand 3 rules out.
-const WRITES: [WriteFault; 32] = [
+const WRITES: [WriteFault; 44] = [
     WriteFault::TwoAtOnce,
     WriteFault::AllAtOnce,
     WriteFault::Falling,
@@ -37,6 +37,18 @@ const WRITES: [WriteFault; 32] = [
     WriteFault::CoincidenceWithout1,
     WriteFault::CoincidenceWithout2,
     WriteFault::CoincidenceWithout3,
+    WriteFault::CoincidenceWithoutForward,
+    WriteFault::OldForward,
+    WriteFault::OldErasedMark,
+    WriteFault::ForwardUnstored,
+    WriteFault::ForwardBehindCheck,
+    WriteFault::ForwardUnchained,
+    WriteFault::ForwardUnsummed,
+    WriteFault::ForwardUncounted,
+    WriteFault::ForwardAtBlocksEnd,
+    WriteFault::ForwardSumOneMore,
+    WriteFault::ForwardSumOneLess,
+    WriteFault::ForwardSizeBigEndian,
     WriteFault::AnsweringBlock,
     WriteFault::SecondBlock,
     WriteFault::RevisionStays,
@@ -55,7 +67,9 @@ const WRITES: [WriteFault; 32] = [
 ];
 
 /// The reader's.
-const READS: [Fault; 12] = [
+const READS: [Fault; 14] = [
+    Fault::ForwardUncommitted,
+    Fault::ForwardOfLastCommit,
     Fault::SeedForgotten,
     Fault::ErasedSumFits,
     Fault::UncommittedShown,

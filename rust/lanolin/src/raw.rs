@@ -305,6 +305,34 @@ mod tests {
         forward: None,
     };
 
+    /// A record goes into a lookup as it came, with a forward check and without.
+    /// Words of none are 0, also where a caller of the archive has others there.
+    #[test]
+    fn records_go_in_as_they_came() {
+        let any = |size, sum| Some(ForwardCheck { size, sum });
+        for forward in [None, any(16, 0xc04c39e5), any(0, 0), any(4, 0)] {
+            let record = Record {
+                pair: [5, 4],
+                rev: 3,
+                off: 48,
+                etag: 0x500ffc0d,
+                count: 2,
+                erased: true,
+                split: true,
+                tail: [6, 7],
+                forward,
+            };
+            assert_eq!(Record::from(Mdir::from(record)), record);
+        }
+        let words = |dir: Mdir| (dir.forward, dir.forward_size, dir.forward_sum);
+        let odd = Mdir {
+            forward_size: 16,
+            forward_sum: 7,
+            ..NOTHING.into()
+        };
+        assert_eq!(words(Record::from(odd).into()), (false, 0, 0));
+    }
+
     /// A number that is no rule, which [`Rules`](crate::Rules) can't give: -22,
     /// also where fetch would answer -84, and no byte altered.
     #[test]

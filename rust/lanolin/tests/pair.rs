@@ -38,12 +38,22 @@ const LISTED: Record = Record {
     erased: false,
     split: false,
     tail: NO_TAIL,
+    forward: None,
 };
 
-/// A new deadline, 100 seconds, and the bytes of its commit behind the listing.
+/// What a commit says of the 16 erased bytes behind it.
+const UNIT: Option<ForwardCheck> = Some(ForwardCheck {
+    size: 16,
+    sum: 0xc04c39e5,
+});
+
+/// A new deadline, 100 seconds, and the bytes of its commit behind the listing: the
+/// entry, the forward check, the check.
 const DEADLINE: Entry = entry(0x374, 0, 0, 4);
 const SECONDS: [u8; 4] = [100, 0, 0, 0];
-const LAID: [u8; 16] = 0x674ffc09_64000000_674ffc00_c58e1c0a_u128.to_be_bytes();
+const LAID: [u8; 28] = *b"\x67\x4f\xfc\x09\x64\0\0\0\
+    \x68\xbf\xfc\x0c\x10\0\0\0\xe5\x39\x4c\xc0\
+    \x0f\xf0\0\0\x85\xc9\x5c\x9f";
 
 /// The listing's own deadline: the tag stands at 23, its data at 27.
 const DUE: Result<Found, Refusal> = found(0x37400004, 8, 27);
@@ -147,6 +157,7 @@ fn fetch_reads_the_erased_mark() {
         erased: true,
         split: false,
         tail: [2, 3],
+        forward: UNIT, // as littlefs wrote it, and as a commit here does
     };
     assert_eq!(record, shown);
 }
@@ -459,14 +470,16 @@ fn commit_lays_a_new_deadline() {
     let mut bytes = *LISTING;
     let answer = pair_mut(&mut bytes).commit(0, 0, BY_DOCUMENT, &[DEADLINE], &SECONDS);
     let record = Record {
-        off: 64,
-        etag: 0x500ffc04,
+        off: 80,
+        etag: 0x500ffc08,
+        erased: true,
+        forward: UNIT,
         ..LISTED
     };
-    let seed = 0x39f87950;
+    let seed = 0xa72592e6;
     assert_eq!(answer, Ok(Fetched { record, seed }));
     let mut laid = *LISTING;
-    laid[48..64].copy_from_slice(&LAID);
+    laid[48..76].copy_from_slice(&LAID);
     assert_eq!(bytes, laid);
     assert_eq!(
         look(&bytes, record, 0x7ffffc00, 0x374),
@@ -474,6 +487,59 @@ fn commit_lays_a_new_deadline() {
     );
     // The images of the same value, read through the value itself.
     assert_eq!(pair_mut(&mut bytes).as_pair().fetch(0, 0), answer);
+}
+
+/// The listing's 48 bytes, and an inline struct behind them: one of 40 bytes just
+/// leaves the 16 bytes of a unit behind its forward check, with one byte more there
+/// is none.
+#[test]
+fn a_forward_check_is_carried_where_a_unit_follows() {
+    for (len, off, forward) in [(40, 112, UNIT), (41, 112, None)] {
+        let mut bytes = *LISTING;
+        let mut pair = pair_mut(&mut bytes);
+        let entries = [Entry::inline_struct(0, 0, len)];
+        let done = pair.commit(0, 0, BY_DOCUMENT, &entries, &[7; 41]).unwrap();
+        assert_eq!((done.record.off, done.record.forward), (off, forward));
+        assert_eq!(done.record.erased, forward.is_some());
+        assert_eq!(pair.as_pair().fetch(0, 0), Ok(done));
+    }
+}
+
+/// Where a commit carries none, that of an earlier one is the last: it says of the
+/// bytes behind the new end what they are.
+#[test]
+fn an_earlier_forward_check_stays_in_the_record() {
+    let mut bytes = *LISTING;
+    let mut pair = pair_mut(&mut bytes);
+    // 8 + 12 + 8 bytes behind 48, and behind 80 once more; then none fits.
+    for off in [80, 112, 128] {
+        let done = pair.commit(0, 0, BY_DOCUMENT, &[DEADLINE], &SECONDS);
+        let record = done.unwrap().record;
+        assert_eq!((record.off, record.forward), (off, UNIT));
+        // Behind the block's end nothing is erased.
+        assert_eq!(record.erased, off < 128);
+    }
+}
+
+/// A lookup reads neither the erased mark nor the forward check.
+#[test]
+fn lookups_take_a_record_with_any_forward_check() {
+    let any = |size, sum| Some(ForwardCheck { size, sum });
+    for forward in [None, UNIT, any(0, 0), any(u32::MAX, 1), any(7, u32::MAX)] {
+        let record = Record { forward, ..LISTED };
+        let looked = look(LISTING, record, MASK_TYPE, 0x374);
+        assert_eq!(looked, (DUE, *b"\x90\x5f\x01\0\0\0"));
+        let (reader, mut state) = (pair(LISTING), NO_MOVE);
+        let (key, mut seconds) = (Tag::new(0x374, 0, 4), [0; 4]);
+        assert_eq!(
+            reader.get(record, NO_MOVE, MASK_TYPE, key, &mut seconds),
+            DUE
+        );
+        let info = reader.get_info(record, NO_MOVE, NAME_MAX, 0).unwrap();
+        assert_eq!((info.size, info.name()), (3, &b"q212"[..]));
+        assert_eq!(reader.get_gstate(record, NO_MOVE, &mut state), Ok(()));
+        assert_eq!(state, NO_MOVE);
+    }
 }
 
 #[test]
@@ -509,14 +575,20 @@ fn compaction_writes_the_other_block() {
     let record = Record {
         pair: [1, 0],
         rev: 2,
+        off: 64,
+        etag: 0x500ffc11,
+        erased: true,
+        forward: UNIT,
         ..LISTED
     };
     assert_eq!(answer.record, record);
-    // The same entries under revision 2, with its checksum; erased behind it.
+    // The same entries under revision 2, a forward check, and the check; erased
+    // behind it.
     let mut renewed = [0xff; 128];
-    renewed[..39].copy_from_slice(&LISTING[..39]);
+    renewed[..31].copy_from_slice(&LISTING[..31]);
     renewed[0] = 2;
-    renewed[35..39].copy_from_slice(&[0x5e, 0x06, 0x37, 0xc6]);
+    renewed[31..43].copy_from_slice(&LAID[8..20]);
+    renewed[43..51].copy_from_slice(b"\x0f\xf0\0\x19\x1e\x91\x83\x45");
     assert_eq!(bytes[..128], LISTING[..128]);
     assert_eq!(bytes[128..], renewed);
     assert_eq!(pair(&bytes).fetch(0, 0), Ok(answer));
@@ -571,7 +643,7 @@ fn refused_commits_leave_the_images() {
     let one = [DEADLINE];
     let bad = [entry(0x401, 1, 0, 0), entry(0x001, 1, 1, 4)]; // passes the data
     let large = [entry(0x201, 0, 0, 69)]; // 68 would end at the block's end
-    let chance = [0x3e, 0xaa, 0xbb, 0x6d]; // as in samples/writes/cases
+    let chance = [0xc2, 0xf2, 0xb6, 0xb8]; // as in samples/writes/cases
     let cases = [
         (refused(LISTING, &one, &[0; 65537]), Refusal::Invalid, -22),
         (refused(&[0xff; 256], &one, &SECONDS), Refusal::Corrupt, -84),

@@ -15,17 +15,13 @@ returns-2 c = judged-bad _ _ _ _ _ _ (sym (c .before .before .counted .ensures) 
 
 returns-3 : tie.Need-returns-3
 returns-3 c = judged-good _ _ _ _ _ _ _
-    (sym (c .before .before .before .before .before .before .before .before .before .before .before .counted .ensures)
-    ∙ c .before .before .before .before .before .before .before .before .before .count .given .1) _
-    (c .before .before .before .before .before .before .before .in-buffer .ensures) _ _ _ _ _
-    (c .before .before .before .before .before .before .if1 .left)
-    (c .before .before .before .before .before .lfs-mktag .ensures)
-    (c .before .before .before .before .wrapping-add-u32 .ensures) (c .before .before .before .lfs-tag-dsize .ensures)
-    (c .before .before .wrapping-add-u322 .ensures) (c .sum-entry .ensures)
+    (sym (c .before .before .before .before .before .before .before .counted .ensures)
+    ∙ c .before .before .before .before .before .count .given .1) _
+    (c .before .before .before .in-buffer .ensures) _ _ (c .before .before .if1 .left) (c .before .lfs-mktag .ensures)
+    (c .sum-up .ensures)
 
 pub judge-entry-spec : {M : Type 1} → statement M
 judge-entry-spec =
     tie.close
     (tie.spec (λ c κs. search needs) (λ c. search needs) (λ c. search needs) (λ c κs. search needs) returns
-    (λ c κs. search needs) (λ c κs. search needs) (λ c κs. search needs) (λ c κs. search needs) (λ c κs. search needs)
-    returns-2 returns-3)
+    (λ c κs. search needs) (λ c κs. search needs) returns-2 returns-3)
