@@ -30,12 +30,12 @@ class Tag:
 
 class Log:
     """What the walk of a block takes: nothing (`ends` is None) until its first commit. `last` is the tag that the next
-    one is XORed with."""
+    one is XORed with; `commits` has of each where its check stands, and its entries."""
 
     def __init__(self, block):
         self.block, self.revision = block, int.from_bytes(block[:4], "little")
         self.ends, self.last, self.count, self.split, self.tail = None, None, 0, False, (0xFFFFFFFF,) * 2
-        self.forward, self.entries, self.checks = None, [], []
+        self.forward, self.entries, self.checks, self.commits = None, [], [], []
         self.straight = False
         count, split, tail, forward, entries, after_check = 0, False, self.tail, None, [], False
         register, previous, at = summed(0xFFFFFFFF, block[:4]), 0xFFFFFFFF, 4
@@ -50,6 +50,7 @@ class Log:
             if tag.type & 0x780 == CHECK:
                 if at + 8 > len(block) or int.from_bytes(block[at + 4:at + 8], "little") != register:
                     return
+                self.commits.append((at, entries[len(self.entries):]))
                 at += tag.length
                 self.ends, self.count, self.split, self.tail, self.forward = at, count, split, tail, forward
                 self.entries, self.checks = list(entries), self.checks + [tag]

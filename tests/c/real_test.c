@@ -2,9 +2,10 @@
  * each slot: they must be what the littlefs that wrote the pairs shows (shown.txt; README.md there has its lines), and
  * stand in the block where the answer says. Each name is found by lanolin_find too. Then commits to a copy of each, and
  * compacts one, under both rules: by littlefs's no pair is irregular, and after each accepted call all that littlefs
- * shows is shown as before.
+ * shows is shown as before. The forward check of the record is the log's last one; that of a commit is the same whether
+ * littlefs wrote it or this library.
  *
- *     real_test samples/real        prints each difference and exits 1, or three lines with what was compared */
+ *     real_test samples/real        prints each difference and exits 1, or four lines with what was compared */
 #include "lanolin.h"
 
 #include <stdio.h>
@@ -39,6 +40,8 @@ static int way;
 static unsigned accepted[WAYS];
 static bool refused; /* the pair at hand, in this way */
 static unsigned found, nowhere, irregular; /* names asked for, and pairs that are not regular by document 01's rules */
+/* of the logs that littlefs wrote and of those that were written to: whether the last commit carries a forward check */
+static struct { unsigned carried, without; } forward[2];
 
 /* What a commit sets: an attribute of slot 0 that no pair has. */
 enum { NEW = 0x65 };
@@ -119,6 +122,41 @@ static lanolin_fetched fetch(void) {
     return lanolin_fetch(at.g, at.b0, at.g.block_size, at.b1, at.g.block_size, at.n0, at.n1, 0, 0);
 }
 
+/* Field by field: between `forward` and `forward_size` any bytes may stand. */
+static bool same_record(lanolin_mdir a, lanolin_mdir b) {
+    return a.pair[0] == b.pair[0] && a.pair[1] == b.pair[1] && a.rev == b.rev && a.off == b.off && a.etag == b.etag &&
+           a.count == b.count && a.erased == b.erased && a.split == b.split && a.tail[0] == b.tail[0] &&
+           a.tail[1] == b.tail[1] && a.forward == b.forward && a.forward_size == b.forward_size &&
+           a.forward_sum == b.forward_sum;
+}
+
+/* The forward check that the record has is the last of the log, which is looked up by its type alone. Where it is of
+ * the last commit, which ends where the check tag begins, it is of an erased unit, and the room is; and it is there
+ * exactly if with its 12 bytes a unit follows in the block. */
+static void check_forward(void) {
+    const uint32_t prog = at.g.prog_size, check = at.dir.off - lanolin_tag_dsize(at.dir.etag);
+    uint8_t data[8] = {0}, unit[512];
+    lanolin_got got = look_by((lanolin_gstate){0}, 0x7ff00000, LANOLIN_TYPE_FCRC << 20, data, sizeof data);
+    if (at.dir.forward != !got.result || at.dir.forward_size != lanolin_le32_at(data, 8, 0).value ||
+        at.dir.forward_sum != lanolin_le32_at(data, 8, 4).value)
+        differs("the record's forward check", 0, "not the log's last");
+    bool carried = !got.result && got.off + 8 == check;
+    uint32_t entries = carried ? check - 12 : check; /* where they end */
+    if (carried != (lanolin_alignup(entries + 12 + 8, prog).value + prog <= at.g.block_size))
+        differs("the forward check", 0, "there without room, or missing");
+    memset(unit, 0xff, sizeof unit);
+    if (carried && (got.tag != 0x5ffffc08 || at.dir.forward_size != prog ||
+                    at.dir.forward_sum != lanolin_crc(0xffffffff, unit, prog)))
+        differs("the forward check", 0, "not that of an erased unit");
+    if (carried && way != AS_IT_IS && !at.dir.erased) differs("the erased mark", 0, "no");
+    if (carried) forward[way != AS_IT_IS].carried++;
+    else forward[way != AS_IT_IS].without++;
+}
+
+static bool same_blocks(const pair_t *before) {
+    return !memcmp(before->b0, at.b0, sizeof at.b0) && !memcmp(before->b1, at.b1, sizeof at.b1);
+}
+
 /* Writes to the pair as this way says. A refused call alters nothing, and by littlefs's rules no pair is irregular. */
 static void write_pair(void) {
     const lanolin_entry entry = {0x300 + NEW, 0, 0, sizeof NEW_DATA};
@@ -132,10 +170,10 @@ static void write_pair(void) {
         c = lanolin_commit(at.g, at.b0, size, at.b1, size, at.n0, at.n1, 0, 0, rules, &entry, entries, NEW_DATA, 4);
     refused = c.result != LANOLIN_OK;
     accepted[way] += !refused;
-    if (refused && !half && memcmp(&before, &at, sizeof at)) differs("a block", 0, "altered by a refused call");
+    if (refused && !half && !same_blocks(&before)) differs("a block", 0, "altered by a refused call");
     if (c.result == LANOLIN_ERR_IRREGULAR && rules == LANOLIN_RULES_LITTLEFS) differs("the log", 0, "irregular");
     lanolin_fetched f = fetch();
-    if (!refused && way != AS_IT_IS && (f.result || f.seed != c.seed || memcmp(&f.dir, &c.dir, sizeof f.dir)))
+    if (!refused && way != AS_IT_IS && (f.result || f.seed != c.seed || !same_record(f.dir, c.dir)))
         differs("the answered record", 0, "not what fetch gives");
 }
 
@@ -168,7 +206,7 @@ static long find_name(uint32_t kind, const uint8_t *name, size_t n, const char *
         if (named.result != want.result || named.found != want.found || named.id != want.id)
             differs("what find answers to a name", named.id, line);
     }
-    if (memcmp(&before, &at, sizeof at)) differs("a block", 0, "altered by find");
+    if (!same_blocks(&before)) differs("a block", 0, "altered by find");
     if (id >= 0) found++;
     else nowhere++;
     return id;
@@ -183,6 +221,7 @@ static void check_record(const char *line) {
     lanolin_fetched f = fetch();
     lanolin_mdir *d = &f.dir;
     at.dir = f.dir;
+    check_forward();
     if (is_irregular(LANOLIN_RULES_LITTLEFS)) differs("the log", 0, "irregular by littlefs's rules");
     irregular += is_irregular(LANOLIN_RULES_DOCUMENT);
     if (find_name(LANOLIN_TYPE_REG, (const uint8_t *)"nowhere", 7, line) >= 0)
@@ -291,5 +330,8 @@ int main(int argc, char **argv) {
            "and %u both; %u differences\n",
            accepted[COMMITTED], accepted[COMPACTED], accepted[COMMITTED_BY_LITTLEFS], accepted[COMPACTED_BY_LITTLEFS],
            accepted[BOTH_BY_LITTLEFS], differences);
+    printf("real pairs, forward checks: carried by the last commit of %u as littlefs wrote them, and not of %u; of those "
+           "written to of %u, and not of %u; %u differences\n",
+           forward[0].carried, forward[0].without, forward[1].carried, forward[1].without, differences);
     return differences != 0 || pairs == 0;
 }

@@ -1,5 +1,5 @@
 -- A commit's bytes cut before the check: the entries' bytes, and the tag and the checksum behind them. Assumes nothing.
-use mathlib.Core.Path.{_≡_, refl, ap, _∙_}
+use mathlib.Core.Path.{_≡_, refl, sym, ap, _∙_}
 use mathlib.Core.List.{List, [], _∷_, _++_, append-assoc}
 use Prim.Native.Nat.{ℕ}
 use native.Mathlib.Omega.{arith}
@@ -24,6 +24,26 @@ lastSum s p (i ∷ is) = lastSum (crc s (toBe32 (xor (i .tag) p) ++ i .body)) (i
 unfoldable pub entriesBytes : ℕ → List Item → List ℕ
 entriesBytes p [] = []
 entriesBytes p (i ∷ is) = (toBe32 (xor (i .tag) p) ++ i .body) ++ entriesBytes (i .tag) is
+
+-- of entries and more entries
+pub tag-app : (is js : List Item) (p : ℕ) → lastTag p (is ++ js) ≡ lastTag (lastTag p is) js
+unfolding lastTag
+tag-app [] js p = refl
+tag-app (i ∷ is) js p = tag-app is js (i .tag)
+
+pub sum-app : (is js : List Item) (s p : ℕ) → lastSum s p (is ++ js) ≡ lastSum (lastSum s p is) (lastTag p is) js
+unfolding lastSum lastTag
+sum-app [] js s p = refl
+sum-app (i ∷ is) js s p = sum-app is js (crc s (toBe32 (xor (i .tag) p) ++ i .body)) (i .tag)
+
+pub entries-app : (is js : List Item) (p : ℕ)
+    → entriesBytes p (is ++ js) ≡ entriesBytes p is ++ entriesBytes (lastTag p is) js
+unfolding entriesBytes lastTag
+entries-app [] js p = refl
+entries-app (i ∷ is) js p =
+    let t : List ℕ = toBe32 (xor (i .tag) p) ++ i .body in
+    ap (λ (l : List ℕ). t ++ l) (entries-app is js (i .tag))
+    ∙ sym (append-assoc t (entriesBytes (i .tag) is) (entriesBytes (lastTag (i .tag) is) js))
 
 -- the check, behind them
 abbrev pub checkBytes : ℕ → ℕ → List ℕ

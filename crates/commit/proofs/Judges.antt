@@ -25,7 +25,7 @@ use Rattle.theory.specs.Rules.JudgedEntries.{good-entry}
 use Rattle.commit_rules.specs.Rules.{countedAs, countedBy}
 use Rattle.commit_lay.specs.Laid.{bodyOf}
 use Rattle.fetch_walk.proofs.Seen.{length-most}
-use Rattle.commit_steps.specs.State.{trio, state, judgedTo, judgedAs, judgedOf, stepOf}
+use Rattle.commit_steps.specs.State.{trio, state, summedOf, judgedAs, judgedOf, stepOf}
 use Rattle.commit_steps.specs.declared.Judging.{Judging}
 use Rattle.commit_steps.specs.declared.Phase.{Phase}
 use Rattle.commit_steps.specs.declared.Phase.the-variants.{Refused, Judge}
@@ -55,8 +55,8 @@ behind dat j e =
 module _ (dat : List ℕ) (j : Judging) (e : Entry) where
   judged-cases : judgedOf j dat (e .kind) (e .id) (e .off) (e .len)
       ≡ cond (entryHolds dat (j .count) e)
-      (Judge (judgedTo j (countAfter (entryRule e) (j .count)) (mkTag (e .kind) (e .id) (e .len))
-      (crc (j .sum) (toBe32 (xor (mkTag (e .kind) (e .id) (e .len)) (j .prev)) ++ bodyOf dat (e .off) (e .len)))))
+      (Judge (summedOf j (countAfter (entryRule e) (j .count)) (mkTag (e .kind) (e .id) (e .len))
+      (bodyOf dat (e .off) (e .len))))
       (Refused (BadEntry (j .index)))
   unfolding judgedOf countedBy
   judged-cases = go (ruleHolds (entryRule e) (j .count) (e .id) (e .len)) (inBuffer dat e)
@@ -64,13 +64,13 @@ module _ (dat : List ℕ) (j : Judging) (e : Entry) where
       t : ℕ
       t = mkTag (e .kind) (e .id) (e .len)
 
-      s : ℕ
-      s = crc (j .sum) (toBe32 (xor (mkTag (e .kind) (e .id) (e .len)) (j .prev)) ++ bodyOf dat (e .off) (e .len))
+      d : List ℕ
+      d = bodyOf dat (e .off) (e .len)
 
       n : ℕ
       n = countAfter (entryRule e) (j .count)
 
-      go : (h k : Bool) → judgedAs (countedAs h n) k j t s ≡ cond (h && k) (Judge (judgedTo j n t s))
+      go : (h k : Bool) → judgedAs (countedAs h n) k j t d ≡ cond (h && k) (Judge (summedOf j n t d))
           (Refused (BadEntry (j .index)))
       go true true = refl
       go true false = refl
@@ -83,6 +83,7 @@ module _ (dat : List ℕ) (j : Judging) (e : Entry) where
   pub judged-behind : (low : j .count ≤ mostSlots) (h : entryHolds dat (j .count) e ≡ true) → j .index + 1 < 2 ^ 32
       → j .size + 1_026 < 2 ^ 32
       → judgedOf j dat (e .kind) (e .id) (e .off) (e .len) ≡ Judge (behind dat j e)
+  unfolding summedOf
   judged-behind low h hi hs =
       let g = good-entry dat (j .count) e low h in
       let et : mkTag (e .kind) (e .id) (e .len) ≡ tagOf (e .kind) (e .id) (e .len) =
@@ -144,3 +145,9 @@ module _ (dat : List ℕ) (second : Bool) (b0 b1 : List ℕ) where
           (behind dat j e) (itemsOf dat es) (length es))) b0 b1) (add-one (j .index))
           ∙ ap (λ (p : Phase). trio (state second p) b0 b1)
           (phase-behind dat j e es (judge dat (suc (j .index)) (countAfter (entryRule e) (j .count)) es)))
+
+-- ---- the bytes of so many entries
+pub items-long : (dat : List ℕ) (es : List Entry) → entriesLength (itemsOf dat es) ≤ 1_026 * length es
+unfolding entriesLength
+items-long dat [] = omega arith
+items-long dat (e ∷ es) = omega (arith, items-long dat es, length-most (entryItem dat e .tag))

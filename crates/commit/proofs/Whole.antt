@@ -2,7 +2,7 @@
 -- stores. Assumes nothing.
 use mathlib.Core.Path.{_≡_, refl, sym, ap, _∙_, subst}
 use mathlib.Core.Bool.{Bool, true, false, not, cond, _&&_}
-use mathlib.Core.List.{List}
+use mathlib.Core.List.{List, [], _∷_, _++_, append-nil}
 use Prim.Native.Nat.{ℕ, _+_, _-_, _≤_, min}
 use native.Mathlib.Nat.{zero-add}
 use native.Mathlib.Omega.{arith}
@@ -10,9 +10,10 @@ use lib.ListN.{length}
 use lib.Dec.{ltb, leb}
 use borrow.Author.Tests.{ltb-false, leb-true}
 use Rattle.format.specs.Word.{allOnes, toBe32, xor}
+use Rattle.format.specs.Tag.{tagLength}
 use Rattle.format.specs.Crc.{crc}
 use Rattle.format.specs.Log.{log, logEnd, logEndTag}
-use Rattle.format.specs.Record.{countOf}
+use Rattle.format.specs.Record.{countOf, noForward}
 use Rattle.format.specs.Fetch.{geometryFits, imagesFit, pairFits, fetchOf}
 use Rattle.format.specs.Regular.{Regular, rulesFit, rulesOf}
 use Rattle.format.specs.declared.Rules.the-variants.{Littlefs}
@@ -24,6 +25,8 @@ use Rattle.format.specs.Room.{roomOf}
 use Rattle.format.specs.Writer.{roundedEnd, checkSize, checkAt, allStores, mostData, mostEntries, commitFits}
 use Rattle.format.specs.Writer.{Verdict, refused, accepted, blockAt, roomThen, placed, judgedBy, appended, isSecond}
 use Rattle.format.specs.Writer.{fetchedThen, verdictOf, imagesAfter, storedTo, answerOf, storesMade}
+use Rattle.format.specs.Writer.{unitCheck, forwardTag, forwardItem, carries, carriedFor, forwardItems, withForward}
+use Rattle.format.specs.declared.LfsFcrc.{LfsFcrc}
 use Rattle.format.specs.declared.Geometry.{Geometry}
 use Rattle.format.specs.declared.LfsMdir.{LfsMdir}
 use Rattle.format.specs.declared.Entry.{Entry}
@@ -41,11 +44,13 @@ use Rattle.theory.specs.Rules.FetchCount.{regular-slots}
 use Rattle.theory.specs.Rules.MadeItem.{AllMade}
 use Rattle.theory.specs.Fetch.FoundRecord.{found-answers}
 use Rattle.theory.specs.Rules.JudgedEntries.{judged-good}
+use Rattle.theory.specs.Commit.ForwardCheck.{with-made, length-app, forward-long}
 use Rattle.theory.specs.Commit.AcceptedVerdict.{fits-prog, fits-images, fits-geometry, rounded}
 use Rattle.commit_lay.specs.Laid.{Laid, laid, putsOf}
 use Rattle.commit_lay.proofs.Pasted.{runAt, puts-paste}
 use Rattle.commit_steps.specs.State.{Trio, trio, state, refusedState, judgingFrom, startedOf, fetchedBy, begunOf}
-use Rattle.commit_steps.specs.State.{laidTo, into, roomThenLaid, placedOf, decidedOf, answeredOf, madeOf}
+use Rattle.commit_steps.specs.State.{summedOf, forwardSummed, laidTo, into, roomThenLaid, testedOf, placedOf}
+use Rattle.commit_steps.specs.State.{decidedOf, answeredOf, madeOf}
 use Rattle.commit_steps.specs.declared.State.{State}
 use Rattle.commit_steps.specs.declared.Judging.{Judging}
 use Rattle.commit_steps.specs.declared.Laying.{Laying}
@@ -53,8 +58,8 @@ use Rattle.commit_steps.specs.declared.Phase.{Phase}
 use Rattle.commit_steps.specs.declared.Phase.the-variants.{Refused, Judge, Lay}
 use Rattle.commit.specs.Passes.{passOf, decideT, sealT, ranOf}
 use Rattle.commit.proofs.Folded.{foldE, pass-fold, laid-refused, decided-refused, all-refused}
-use Rattle.commit.proofs.Chained.{lastTag, lastSum, meets-last, bytes-length}
-use Rattle.commit.proofs.Judges.{after, phaseOf, judge-pass}
+use Rattle.commit.proofs.Chained.{lastTag, lastSum, tag-app, sum-app, meets-last, bytes-length}
+use Rattle.commit.proofs.Judges.{after, phaseOf, judge-pass, items-long}
 use Rattle.commit.proofs.Lays.{Tagged, judged-tagged, allLaid, lay-first, lay-second, sealed-done}
 
 -- what a state and two blocks must be behind a commit with the limit n and the verdict v
@@ -120,8 +125,15 @@ module _ (dat : List ℕ) (entries : List Entry) (w : Bool) (b0 b1 : List ℕ) (
   abbrev B : List ℕ
   B = blockAt w b0 b1
 
+  -- the entries, the forward check that is carried, and all that is laid
+  abbrev E : List Item
+  E = itemsOf dat entries
+
+  abbrev fcrc : LfsFcrc
+  fcrc = carriedFor prog (length B) (logEnd (log B) + entriesLength (itemsOf dat entries))
+
   abbrev I : List Item
-  I = itemsOf dat entries
+  I = withForward prog (length B) (logEnd (log B)) (itemsOf dat entries)
 
   abbrev ct : ℕ
   ct = checkTag (checkSize prog (checkAt (log B) I))
@@ -134,6 +146,7 @@ module _ (dat : List ℕ) (entries : List Entry) (w : Bool) (b0 b1 : List ℕ) (
       record {
         run = runAt (logEnd (log B)) n;
         prev = logEndTag (log B);
+        fcrc = fcrc;
         word = word;
         sum = crc (lastSum allOnes (logEndTag (log B)) I) (toBe32 word);
       }
@@ -165,17 +178,61 @@ module _ (dat : List ℕ) (entries : List Entry) (w : Bool) (b0 b1 : List ℕ) (
       → laidBy (Lay laying) ≡ into w b0 b1 (laidTo laying (lastTag (logEndTag (log B)) I)
       (laid (runAt (logEnd (log B) + min n (allStores I)) (n - allStores I))
       (storedTo B I (checkSize prog (checkAt (log B) I)) n)))
+  unfolding withForward
   laid-all h m room =
       ap sealT (pass-fold entries dat (trio (state w (Lay laying)) b0 b1) ∙ lay-both dat entries laying w b0 b1 h)
       ∙ sealed-done dat entries laying allOnes (logEndTag (log B)) ct refl refl refl w b0 b1
       ∙ ap (λ (u : Laid). into w b0 b1 (laidTo laying (lastTag (logEndTag (log B)) I) u))
       (stores-are B I (checkSize prog (checkAt (log B) I)) n m room)
 
-  placed-phase : (len c : ℕ) → placedOf (after J0 I len c) prog B n
+  -- j is behind all that is laid
+  pub record Behind (j : Judging) (is : List Item) : Type 0 where
+    pub off′ : j .off ≡ logEnd (log B)
+    pub etag′ : j .etag ≡ logEndTag (log B)
+    pub size′ : j .size ≡ entriesLength is
+    pub prev′ : j .prev ≡ lastTag (logEndTag (log B)) is
+    pub sum′ : j .sum ≡ lastSum allOnes (logEndTag (log B)) is
+
+  tested-phase : (j : Judging) → Behind j I → testedOf j fcrc prog B n
+      ≡ tests (ltb (length B) (roundedEnd prog (checkAt (log B) I)))
+      (roomOf prog B (logEnd (log B)) (logEndTag (log B))) (coincides allOnes (logEndTag (log B)) I ct)
+  unfolding testedOf
+  tested-phase j k =
+      rw (k .off′, k .etag′, k .size′, k .prev′, k .sum′, meets-last I allOnes (logEndTag (log B)) ct)
+
+  -- the forward check is summed as one entry more
+  summed-behind : (len c : ℕ) (i : Item) → i .tag ≡ forwardTag → length entries ≤ mostEntries
+      → Behind (summedOf (after J0 E len c) c (i .tag) (i .body)) (E ++ (i ∷ []))
+  unfolding summedOf lastTag lastSum entriesLength
+  summed-behind len c i is few =
+      record {
+        off′ = refl;
+        etag′ = refl;
+        size′ = omega (arith, items-long dat entries, length-app E (i ∷ []), ap tagLength is ∙ forward-long);
+        prev′ = sym (tag-app E (i ∷ []) (logEndTag (log B)));
+        sum′ = sym (sum-app E (i ∷ []) allOnes (logEndTag (log B)));
+      }
+
+  behind-forward : (len c : ℕ) → length entries ≤ mostEntries → Behind (forwardSummed (after J0 E len c) fcrc) I
+  unfolding forwardSummed withForward carriedFor
+  behind-forward len c few = go (carries prog (length B) (logEnd (log B) + entriesLength E))
+    where
+      go : (q : Bool) → (let f : LfsFcrc = cond q (unitCheck prog) noForward in
+          Behind (cond (f .seen) (summedOf (after J0 E len c) c forwardTag (forwardItem f .body)) (after J0 E len c))
+          (E ++ forwardItems f))
+      go false = rw (append-nil E)
+          (record { off′ = refl; etag′ = refl; size′ = zero-add (entriesLength E); prev′ = refl; sum′ = refl })
+      go true = summed-behind len c (forwardItem (unitCheck prog)) refl few
+
+  placed-phase : (len c : ℕ) → length entries ≤ mostEntries → placedOf (after J0 E len c) prog B n
       ≡ tests (ltb (length B) (roundedEnd prog (checkAt (log B) I)))
       (roomOf prog B (logEnd (log B)) (logEndTag (log B))) (coincides allOnes (logEndTag (log B)) I ct)
   unfolding placedOf
-  placed-phase len c = rw (zero-add (entriesLength I), meets-last I allOnes (logEndTag (log B)) ct)
+  placed-phase len c few =
+      let j : Judging = after J0 E len c in
+      ap (λ (k : ℕ). let f : LfsFcrc = carriedFor prog (length B) (logEnd (log B) + k) in
+      testedOf (forwardSummed j f) f prog B n) (zero-add (entriesLength E))
+      ∙ tested-phase (forwardSummed j fcrc) (behind-forward len c few)
 
   module _ (some : 4 ≤ prog) (h : Tagged entries) (m : AllMade I) where
     ran-tests : (x : Bool) (y : Room) (z : Bool) → ltb (length B) (roundedEnd prog (checkAt (log B) I)) ≡ x
@@ -191,10 +248,11 @@ module _ (dat : List ℕ) (entries : List Entry) (w : Bool) (b0 b1 : List ℕ) (
         (lastTag (logEndTag (log B)) I) _
         (laid-all h m (omega (arith, rounded prog (checkAt (log B) I) some .0)))
 
-    ran-placed : (len c : ℕ) → Ran b0 b1 n (placed prog w B (log B) I) (laidBy (placedOf (after J0 I len c) prog B n))
+    ran-placed : (len c : ℕ) → length entries ≤ mostEntries
+        → Ran b0 b1 n (placed prog w B (log B) I) (laidBy (placedOf (after J0 E len c) prog B n))
     unfolding placed
-    ran-placed len c =
-        subst (λ (p : Phase). Ran b0 b1 n (placed prog w B (log B) I) (laidBy p)) (sym (placed-phase len c))
+    ran-placed len c few =
+        subst (λ (p : Phase). Ran b0 b1 n (placed prog w B (log B) I) (laidBy p)) (sym (placed-phase len c few))
         (ran-tests (ltb (length B) (roundedEnd prog (checkAt (log B) I)))
         (roomOf prog B (logEnd (log B)) (logEndTag (log B))) (coincides allOnes (logEndTag (log B)) I ct) refl)
 
@@ -203,6 +261,11 @@ module _ (g : Geometry) (b0 b1 : List ℕ) (n0 n1 count seed rules : ℕ) (entri
     (n : ℕ) where
   abbrev decidedT : Trio → Trio
   decidedT t = sealT (passOf entries dat (decideT g n t))
+
+  -- all that is laid, of the block at place w
+  abbrev laidAt : Bool → List Item
+  laidAt w = withForward (g .«prog_size») (length (blockAt w b0 b1)) (logEnd (log (blockAt w b0 b1)))
+      (itemsOf dat entries)
 
   abbrev T : State → Trio
   T s = decidedT (passOf entries dat (trio s b0 b1))
@@ -240,19 +303,20 @@ module _ (g : Geometry) (b0 b1 : List ℕ) (n0 n1 count seed rules : ℕ) (entri
       decided-good c = rw images
 
       ran-judged : (j : Judged) → judge dat 0 (countOf 0 (log (blockAt w b0 b1))) entries ≡ j
-          → Ran b0 b1 n (judgedBy j (placed (g .«prog_size») w (blockAt w b0 b1) (log (blockAt w b0 b1))
-          (itemsOf dat entries)))
+          → Ran b0 b1 n (judgedBy j (placed (g .«prog_size») w (blockAt w b0 b1) (log (blockAt w b0 b1)) (laidAt w)))
           (decidedT (trio (state w (phaseOf j start (itemsOf dat entries) (length entries))) b0 b1))
       ran-judged (bad k) e = ran-refused b0 b1 n w (BadEntry k) _ (decided-refused w (BadEntry k) b0 b1 g n entries dat)
       ran-judged (good c) e =
           let good-all = judged-good dat entries 0 (countOf 0 (log (blockAt w b0 b1))) c low e in
           subst (λ (t : Trio). Ran b0 b1 n (placed (g .«prog_size») w (blockAt w b0 b1) (log (blockAt w b0 b1))
-          (itemsOf dat entries)) (sealT (passOf entries dat t))) (sym (decided-good c))
+          (laidAt w)) (sealT (passOf entries dat t))) (sym (decided-good c))
           (ran-placed dat entries w b0 b1 n (g .«prog_size») (fits-prog g geometry .0)
-          (judged-tagged dat entries 0 (countOf 0 (log (blockAt w b0 b1))) c low e) (good-all .made) (length entries) c)
+          (judged-tagged dat entries 0 (countOf 0 (log (blockAt w b0 b1))) c low e)
+          (with-made (g .«prog_size») (length (blockAt w b0 b1)) (logEnd (log (blockAt w b0 b1))) (itemsOf dat entries)
+          (good-all .made)) (length entries) c few)
 
       ran-regular : Ran b0 b1 n (judgedBy (judge dat 0 (countOf 0 (log (blockAt w b0 b1))) entries)
-          (placed (g .«prog_size») w (blockAt w b0 b1) (log (blockAt w b0 b1)) (itemsOf dat entries)))
+          (placed (g .«prog_size») w (blockAt w b0 b1) (log (blockAt w b0 b1)) (laidAt w)))
           (T (state w (Judge start)))
       ran-regular =
           let p : passOf entries dat (trio (state w (Judge start)) b0 b1)
@@ -261,7 +325,7 @@ module _ (g : Geometry) (b0 b1 : List ℕ) (n0 n1 count seed rules : ℕ) (entri
           pass-fold entries dat (trio (state w (Judge start)) b0 b1)
           ∙ judge-pass dat w b0 b1 entries start low (omega (arith, few)) (omega (arith, few)) in
           subst (λ (t : Trio). Ran b0 b1 n (judgedBy (judge dat 0 (countOf 0 (log (blockAt w b0 b1))) entries)
-          (placed (g .«prog_size») w (blockAt w b0 b1) (log (blockAt w b0 b1)) (itemsOf dat entries))) (decidedT t))
+          (placed (g .«prog_size») w (blockAt w b0 b1) (log (blockAt w b0 b1)) (laidAt w))) (decidedT t))
           (sym p)
           (ran-judged (judge dat 0 (countOf 0 (log (blockAt w b0 b1))) entries) refl)
 
@@ -274,7 +338,7 @@ module _ (g : Geometry) (b0 b1 : List ℕ) (n0 n1 count seed rules : ℕ) (entri
       where
         later : Verdict
         later = judgedBy (judge dat 0 (countOf 0 (log (blockAt w b0 b1))) entries)
-            (placed (g .«prog_size») w (blockAt w b0 b1) (log (blockAt w b0 b1)) (itemsOf dat entries))
+            (placed (g .«prog_size») w (blockAt w b0 b1) (log (blockAt w b0 b1)) (laidAt w))
 
         from-record : judgingFrom m ≡ J0 dat entries w b0 b1 n (g .«prog_size»)
         from-record = λ k. record {

@@ -1,0 +1,74 @@
+#!/usr/bin/env python3
+"""The forward checks that a real littlefs wrote are those that this library lays: of each commit of each pair, whether
+it carries one, where that stands, and its bytes, beside what samples/writer.py lays of the same entries in the same
+place.
+
+    tests/listing/forward.py DIRECTORY     samples/real, or one of whole volumes, NAME.img.gz with NAME.json
+
+Prints each difference and exits 1, or one line with what was compared. littlefs sums the unit behind a commit as it is:
+where that was not erased, it would differ.
+"""
+import collections
+import glob
+import gzip
+import json
+import os
+import sys
+
+ROOT = os.path.join(os.path.dirname(os.path.abspath(__file__)), "..", "..", "samples")
+sys.path.insert(0, ROOT)
+from reader import FORWARD, Log  # noqa: E402
+from writer import with_forward  # noqa: E402
+
+
+def of_pairs(directory):
+    """The blocks of the pairs that shown.txt names, with a name and the program size."""
+    with open(os.path.join(directory, "shown.txt")) as f:
+        shown = [line.split() for line in f if line.startswith("pair ")]
+    for _, file, size, prog, *_ in shown:
+        with open(os.path.join(directory, file), "rb") as f:
+            image = f.read()
+        for k in (0, 1):
+            yield f"{file}, block {k}", image[k * int(size):(k + 1) * int(size)], int(prog)
+
+
+def of_volumes(directory):
+    """The same of every pair of the volumes."""
+    for file in sorted(glob.glob(os.path.join(directory, "*.img.gz"))):
+        with gzip.open(file) as f, open(file[:-len(".img.gz")] + ".json") as g:
+            image, volume = f.read(), json.load(g)
+        size, prog = volume["geometry"]["block_size"], volume["geometry"]["prog_size"]
+        for number in (number for pair in volume["seen"]["pairs"] for number in pair["blocks"]):
+            yield f"{os.path.basename(file)}, block {number}", image[number * size:(number + 1) * size], prog
+
+
+def differs(block, prog, at, entries):
+    """Whether the commit whose check stands at `at` has other entries than the library would lay in its place."""
+    laid = [(tag.word, data) for tag, data in entries]
+    given = [entry for entry, (tag, _) in zip(laid, entries) if tag.type != FORWARD]
+    start = at - sum(4 + len(data) for _, data in laid)
+    return laid != with_forward(len(block), prog, start, given)
+
+
+def main(directory):
+    counts, sizes, differences = collections.Counter(), collections.Counter(), 0
+    pairs = os.path.exists(os.path.join(directory, "shown.txt"))
+    for name, block, prog in (of_pairs if pairs else of_volumes)(directory):
+        log = Log(block)
+        counts["blocks"] += log.ends is not None
+        for at, entries in log.commits:
+            counts["commits"] += 1
+            sizes[prog] += sum(tag.type == FORWARD for tag, _ in entries)
+            if differs(block, prog, at, entries):
+                differences += 1
+                print(f"{name}: the commit whose check stands at {at} has another forward check, or one too many")
+    found = ", ".join(f"{number} of {prog} bytes" for prog, number in sorted(sizes.items()))
+    print(f"forward checks that littlefs wrote: {found}, in {counts['commits']} commits of {counts['blocks']} blocks; "
+          f"{differences} differences")
+    return 1 if differences or not sum(sizes.values()) else 0
+
+
+if __name__ == "__main__":
+    if len(sys.argv) != 2:
+        sys.exit(__doc__)
+    sys.exit(main(sys.argv[1]))
