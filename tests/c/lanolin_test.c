@@ -36,6 +36,22 @@ static int is_zero(const void *p, size_t n) {
     return 1;
 }
 
+/* Field by field: between `forward` and `forward_size` any bytes may stand. */
+static int same_dir(lanolin_mdir a, lanolin_mdir b) {
+    return a.pair[0] == b.pair[0] && a.pair[1] == b.pair[1] && a.rev == b.rev && a.off == b.off && a.etag == b.etag &&
+           a.count == b.count && a.erased == b.erased && a.split == b.split && a.tail[0] == b.tail[0] &&
+           a.tail[1] == b.tail[1] && a.forward == b.forward && a.forward_size == b.forward_size &&
+           a.forward_sum == b.forward_sum;
+}
+
+static int is_no_dir(lanolin_mdir dir) { return same_dir(dir, (lanolin_mdir){0}); }
+
+/* The last forward check of the log: of so many bytes, with this checksum; of 0 and 0 none. The bool as the byte that
+ * it is: exactly 0 or 1. */
+static int has_forward(lanolin_mdir dir, uint32_t size, uint32_t sum) {
+    return *(const uint8_t *)&dir.forward == (size || sum) && dir.forward_size == size && dir.forward_sum == sum;
+}
+
 /* Found, with these three words. */
 static int is_found(lanolin_got got, uint32_t tag, uint32_t length, uint32_t off) {
     return got.result == 0 && got.tag == tag && got.length == length && got.off == off;
@@ -51,10 +67,11 @@ static void test_fetch(void) {
     EXPECT(f.result == 0 && f.dir.pair[0] == 0 && f.dir.pair[1] == 1 && f.dir.rev == 1 && f.dir.off == 48);
     EXPECT(f.dir.etag == 0x500ffc0d && f.dir.count == 1 && !f.dir.erased && !f.dir.split);
     EXPECT(f.dir.tail[0] == 0xffffffff && f.dir.tail[1] == 0xffffffff && f.seed == lanolin_crc(0, LISTED + 35, 4));
+    EXPECT(has_forward(f.dir, 0, 0));
     f = fetch(3, 3, 0, 7);
-    EXPECT(f.result == -22 && f.seed == 7 && is_zero(&f.dir, sizeof f.dir));
+    EXPECT(f.result == -22 && f.seed == 7 && is_no_dir(f.dir));
     f = fetch(0, 9, 9, 7);
-    EXPECT(f.result == -84 && f.seed == 7 && is_zero(&f.dir, sizeof f.dir));
+    EXPECT(f.result == -84 && f.seed == 7 && is_no_dir(f.dir));
     EXPECT(lanolin_fetch(G, b1, sizeof b1, b1, sizeof b1, 0, 1, 0, 7).result == -84);
     EXPECT(lanolin_fetch(G, b0, 127, b1, sizeof b1, 0, 1, 0, 7).result == -22);
     EXPECT(lanolin_fetch(G, NULL, 0, NULL, 0, 0, 1, 0, 7).result == -22);
@@ -158,7 +175,7 @@ static void test_moved_places(void) {
     /* a removal is never found */
     dir = lanolin_commit(G, c0, 128, c1, 128, 0, 1, 0, 0, DOCUMENT, &gone, 1, NULL, 0).dir;
     got = lanolin_getslice(G, c0, 128, c1, 128, 0, 1, dir, STILL, mask, key, 0, read, 4);
-    EXPECT(dir.off == 64 && is_refused(got, -2));
+    EXPECT(dir.off == 96 && is_refused(got, -2));
 }
 
 static void test_info_and_state(void) {
@@ -246,7 +263,7 @@ static void test_differences(void) {
     info = info_of(BIT_31, sizeof BIT_31, 0);
     EXPECT(info.result == 0 && info.type == 0 && info.size == 0 && is_zero(info.name, 256));
     lanolin_fetched f = lanolin_fetch(G, b1, 128, b1, 128, 0, 1, 0, 7);
-    EXPECT(f.result == -84 && f.seed == 7 && is_zero(&f.dir, sizeof f.dir));
+    EXPECT(f.result == -84 && f.seed == 7 && is_no_dir(f.dir));
     uint8_t block[128];
     memset(block, 0xff, sizeof block);
     memcpy(block, FORWARD, sizeof FORWARD);
@@ -310,10 +327,12 @@ static void test_pairs_and_states(void) {
     EXPECT(lanolin_gstate_iszero(&STILL) == 1 && lanolin_gstate_hasmove(&STILL) == 0);
 }
 
-/* A commit behind the listing's log: the deadline 3,600 in place of 90,000. Tag chained to the check tag before, data,
- * check tag of size 4, checksum; the end is 64, a multiple of 16, so there is no padding. */
-static const uint8_t MORE[16] = {0x67, 0x4f, 0xfc, 0x09, 0x10, 0x0e, 0x00, 0x00,
-                                 0x67, 0x4f, 0xfc, 0x00, 0xf2, 0x6a, 0x39, 0x72};
+/* A commit behind the listing's log: the deadline 3,600 in place of 90,000. Tag chained to the check tag before, data;
+ * the forward check, 0x5ffffc08, of 16 bytes, with the checksum of as many 0xff; check tag of size 8, checksum. The end
+ * is 80, a multiple of 16, and four bytes of padding stand before it. */
+static const uint8_t MORE[28] = {0x67, 0x4f, 0xfc, 0x09, 0x10, 0x0e, 0x00, 0x00, 0x68, 0xbf, 0xfc, 0x0c, 0x10, 0x00,
+                                 0x00, 0x00, 0xe5, 0x39, 0x4c, 0xc0, 0x0f, 0xf0, 0x00, 0x00, 0x72, 0x6f, 0x0e, 0x8a};
+enum { UNIT_SUM = 0xc04c39e5 };
 
 static void test_commit(void) {
     uint8_t c0[128], c1[128];
@@ -322,8 +341,7 @@ static void test_commit(void) {
     const uint8_t data[4] = {0x10, 0x0e, 0x00, 0x00};
     lanolin_entry deadline = {0x374, 0, 0, 4}, bad[2] = {{0x401, 1, 0, 0}, {0x001, 1, 1, 4}};
     lanolin_committed refused = lanolin_commit(G, c0, 128, c1, 128, 0, 1, 0, 7, DOCUMENT, bad, 2, data, 4);
-    EXPECT(refused.result == -201 && refused.index == 1 && refused.seed == 7 &&
-           is_zero(&refused.dir, sizeof refused.dir));
+    EXPECT(refused.result == -201 && refused.index == 1 && refused.seed == 7 && is_no_dir(refused.dir));
     EXPECT(lanolin_commit(G, c0, 128, c1, 128, 3, 3, 0, 7, DOCUMENT, &deadline, 1, data, 4).result == -22);
     EXPECT(!memcmp(c0, b0, 128) && !memcmp(c1, b1, 128));
     lanolin_stored stored = lanolin_commit_stores(G, c0, 128, c1, 128, 0, 1, 0, 0, DOCUMENT, &deadline, 1, data, 4, 5);
@@ -332,31 +350,34 @@ static void test_commit(void) {
     EXPECT(lanolin_fetch(G, c0, 128, c1, 128, 0, 1, 0, 0).dir.off == 48);
     memcpy(c0, b0, sizeof c0);
     lanolin_committed done = lanolin_commit(G, c0, 128, c1, 128, 0, 1, 0, 0, DOCUMENT, &deadline, 1, data, 4);
-    EXPECT(done.result == 0 && done.index == 0 && done.dir.off == 64 && done.dir.etag == 0x500ffc04 &&
-           done.dir.count == 1);
-    EXPECT(!memcmp(c0, b0, 48) && !memcmp(c0 + 48, MORE, 16) && !memcmp(c0 + 64, b1, 64) && !memcmp(c1, b1, 128));
+    EXPECT(done.result == 0 && done.index == 0 && done.dir.off == 80 && done.dir.etag == 0x500ffc08 &&
+           done.dir.count == 1 && done.dir.erased && has_forward(done.dir, 16, UNIT_SUM));
+    EXPECT(!memcmp(c0, b0, 48) && !memcmp(c0 + 48, MORE, 28) && !memcmp(c0 + 76, b1, 52) && !memcmp(c1, b1, 128));
     uint8_t read[4];
     lanolin_got got = lanolin_getslice(G, c0, 128, c1, 128, 0, 1, done.dir, STILL, 0x7ffffc00, 0x37400000, 0, read, 4);
     EXPECT(is_found(got, 0x37400004, 8, 52) && !memcmp(read, data, 4));
 }
 
-/* The listing compacted: the same entries in the same order under revision 2, so all but revision and checksum is as it
- * was. */
+/* The listing compacted: the same entries in the same order under revision 2, so that all but the revision is as it
+ * was; then the forward check, and the check, of size 17. */
 static void test_compact(void) {
-    uint8_t c0[128], c1[128], expected[39];
+    uint8_t c0[128], c1[128], expected[51];
     memcpy(c0, b0, sizeof c0);
     memset(c1, 0x55, sizeof c1);
-    memcpy(expected, LISTED, sizeof expected);
+    memcpy(expected, LISTED, 31);
     expected[0] = 2;
-    EXPECT(lanolin_put_le32(expected, 39, 35, lanolin_crc(0xffffffff, expected, 35)) == 0);
+    memcpy(expected + 31, MORE + 8, 16); /* behind an attribute too */
+    expected[46] = 0x08 ^ 17;
+    EXPECT(lanolin_put_le32(expected, 51, 47, lanolin_crc(0xffffffff, expected, 47)) == 0);
     lanolin_stored stored = lanolin_compact_stores(G, c0, 128, c1, 128, 0, 1, 0, 0, DOCUMENT, 1);
     EXPECT(stored.result == 0 && stored.stores == 1 && !memcmp(c1, b1, 128) && !memcmp(c0, b0, 128));
     stored = lanolin_compact_stores(G, c0, 128, c1, 128, 0, 1, 0, 0, DOCUMENT, 1000);
-    EXPECT(stored.result == 0 && stored.stores == 40 && !memcmp(c1, expected, 39) && !memcmp(c1 + 39, b1, 89));
+    EXPECT(stored.result == 0 && stored.stores == 52 && !memcmp(c1, expected, 51) && !memcmp(c1 + 51, b1, 77));
     memset(c1, 0x55, sizeof c1);
     lanolin_committed done = lanolin_compact(G, c0, 128, c1, 128, 0, 1, 0, 0, DOCUMENT);
-    EXPECT(done.result == 0 && done.dir.pair[0] == 1 && done.dir.rev == 2 && done.dir.off == 48 && done.dir.count == 1);
-    EXPECT(!memcmp(c1, expected, 39) && !memcmp(c1 + 39, b1, 89) && !memcmp(c0, b0, 128));
+    EXPECT(done.result == 0 && done.dir.pair[0] == 1 && done.dir.rev == 2 && done.dir.off == 64 && done.dir.count == 1);
+    EXPECT(done.dir.erased && has_forward(done.dir, 16, UNIT_SUM));
+    EXPECT(!memcmp(c1, expected, 51) && !memcmp(c1 + 51, b1, 77) && !memcmp(c0, b0, 128));
     EXPECT(lanolin_compact(G, b1, 128, c1, 64, 0, 1, 0, 7, DOCUMENT).result == -22);
 }
 
@@ -407,7 +428,7 @@ static int all_refuse(uint32_t rules, const images *given, int32_t result) {
     lanolin_stored s[2] = {commit_stores_by(rules, &p, 1000), compact_stores_by(rules, &p, 1000)};
     int all = !memcmp(&p, given, sizeof p);
     for (int i = 0; i < 2; i++) {
-        all &= c[i].result == result && c[i].index == 0 && c[i].seed == 7 && is_zero(&c[i].dir, sizeof c[i].dir);
+        all &= c[i].result == result && c[i].index == 0 && c[i].seed == 7 && is_no_dir(c[i].dir);
         all &= s[i].result == result && s[i].index == 0 && s[i].stores == 0;
     }
     return all;
@@ -431,12 +452,17 @@ static void test_no_rules(void) {
     EXPECT(compact_by(DOCUMENT, &crowded).result == LANOLIN_ERR_NOENT);
 }
 
+/* Accepted, with the same answers. */
+static int same_done(lanolin_committed a, lanolin_committed b) {
+    return !a.result && !b.result && a.index == b.index && a.seed == b.seed && same_dir(a.dir, b.dir);
+}
+
 /* A log that is regular by document 01 is so by littlefs's rule, and each call answers and leaves the same. */
 static void test_same_under_both(void) {
     images p[2] = {listing(), listing()};
     lanolin_committed c[2];
     lanolin_stored s[2];
-    for (uint32_t stores = 0; stores < 45; stores += 11) {
+    for (uint32_t stores = 0; stores < 60; stores += 11) {
         for (uint32_t rules = 0; rules < 2; rules++) p[rules] = listing();
         for (uint32_t rules = 0; rules < 2; rules++) s[rules] = commit_stores_by(rules, &p[rules], stores);
         EXPECT(!s[0].result && !memcmp(&s[0], &s[1], sizeof *s) && !memcmp(&p[0], &p[1], sizeof *p));
@@ -445,9 +471,9 @@ static void test_same_under_both(void) {
     }
     for (uint32_t rules = 0; rules < 2; rules++) p[rules] = listing();
     for (uint32_t rules = 0; rules < 2; rules++) c[rules] = commit_by(rules, &p[rules]);
-    EXPECT(!c[0].result && !memcmp(&c[0], &c[1], sizeof *c) && !memcmp(&p[0], &p[1], sizeof *p));
+    EXPECT(same_done(c[0], c[1]) && !memcmp(&p[0], &p[1], sizeof *p));
     for (uint32_t rules = 0; rules < 2; rules++) c[rules] = compact_by(rules, &p[rules]);
-    EXPECT(!c[0].result && !memcmp(&c[0], &c[1], sizeof *c) && !memcmp(&p[0], &p[1], sizeof *p));
+    EXPECT(same_done(c[0], c[1]) && !memcmp(&p[0], &p[1], sizeof *p));
 }
 
 /* A log of these tags with four bytes of data each, of a removal and a splice none, and its check. */
@@ -484,12 +510,12 @@ static void test_names_alone(void) {
     EXPECT(all_refuse(DOCUMENT, &p, LANOLIN_ERR_IRREGULAR)); /* as it was before the commit */
     done = compact_by(LITTLEFS, &p);
     EXPECT(done.result == LANOLIN_OK && done.dir.count == 3 && done.dir.pair[0] == 1 && done.dir.rev == 2);
-    /* a create for each slot, the empty one too, and each entry behind its slot's create */
+    /* a create for each slot, the empty one too, and each entry behind its slot's create; of no slot the two checks */
     uint32_t before = 0xffffffff, at = 4, creates = 0;
     for (; at < done.dir.off; at += lanolin_tag_dsize(before)) {
         before ^= lanolin_be32_at(p.b1, 512, at).value;
         if (lanolin_tag_type3(before) == LANOLIN_TYPE_CREATE) EXPECT(creates < 3 && before == CREATES[creates++]);
-        else EXPECT(lanolin_tag_id(before) == creates - 1 || lanolin_tag_type3(before) == LANOLIN_TYPE_CCRC);
+        else EXPECT(lanolin_tag_id(before) == creates - 1 || lanolin_tag_type1(before) == LANOLIN_TYPE_CCRC);
     }
     EXPECT(at == done.dir.off && creates == 3);
     EXPECT(look_in(&p, done.dir, LANOLIN_MASK_CLASS, 0x000, 0).tag == 0x00100004);
@@ -547,7 +573,7 @@ static void test_no_room_for_creates(void) {
     images p = logged(tags, 61), copy = p;
     EXPECT(lanolin_fetch(WIDE, p.b0, 512, p.b1, 512, 0, 1, 0, 7).dir.off == 512);
     lanolin_committed refused = compact_by(LITTLEFS, &p);
-    EXPECT(refused.result == LANOLIN_ERR_NOSPC && refused.seed == 7 && is_zero(&refused.dir, sizeof refused.dir));
+    EXPECT(refused.result == LANOLIN_ERR_NOSPC && refused.seed == 7 && is_no_dir(refused.dir));
     EXPECT(compact_stores_by(LITTLEFS, &p, 1000).result == LANOLIN_ERR_NOSPC && !memcmp(&p, &copy, sizeof p));
     const lanolin_entry name = {LANOLIN_TYPE_REG, 1, 0, 4};
     p = logged(tags, 1);
@@ -649,9 +675,9 @@ static void test_find_lowest(void) {
 static void test_find_renamed(void) {
     static const lanolin_entry FILE_NAME = {0x001, 0, 0, 4}, DIR_NAME = {0x002, 0, 0, 4};
     large p = enlarged(LISTED, sizeof LISTED), torn = p;
-    /* tag, name, check tag, checksum: 16 bytes */
+    /* tag, name, forward check, check tag, checksum: 28 bytes */
     EXPECT(lanolin_commit_stores(LARGE, torn.b0, 8192, torn.b1, 8192, 0, 1, 0, 7, DOCUMENT, &FILE_NAME, 1,
-                                 (const uint8_t *)"q299", 4, 15).stores == 15);
+                                 (const uint8_t *)"q299", 4, 27).stores == 27);
     EXPECT(is_at(file_named(&torn, "q212"), 0) && is_none(file_named(&torn, "q299")));
     write_to(&p, DOCUMENT, &FILE_NAME, 1, "q299");
     EXPECT(is_none(file_named(&p, "q212")) && is_at(file_named(&p, "q299"), 0));
@@ -755,6 +781,169 @@ static void test_find_sizes(void) {
     EXPECT(is_not(lanolin_find(odd, b0, 128, b1, 128, 0, 1, 0, 7, DOCUMENT, name, 4, 0x001), LANOLIN_ERR_INVAL));
 }
 
+/* ---- the forward check */
+
+/* So many bytes of slot 0 behind the listing, tags and data, in blocks of these sizes: entries of one type. */
+static lanolin_committed commit_bytes(lanolin_geometry g, uint8_t *c0, uint8_t *c1, uint32_t length) {
+    static const uint8_t DATA[LANOLIN_ATTR_MAX];
+    lanolin_entry entries[40];
+    size_t n = 0;
+    for (uint32_t taken; length; length -= taken, n++) {
+        taken = length <= 1026 ? length : length - 4 < 1026 ? length - 4 : 1026;
+        entries[n] = (lanolin_entry){LANOLIN_TYPE_USERATTR + 0x74, 0, 0, taken - 4};
+    }
+    return lanolin_commit(g, c0, g.block_size, c1, g.block_size, 0, 1, 0, 7, DOCUMENT, entries, n, DATA, sizeof DATA);
+}
+
+/* Behind the listing's 48 bytes, or the multiple above them, entries, forward check and check, and the unit behind them
+ * up to the block's end, to the byte; then a byte more. A refusal has the room counted without the forward check. */
+static void test_forward_just_fits(void) {
+    static const lanolin_geometry SIZES[6] = {{128, 4}, {130, 5}, {128, 16}, {765, 255}, {1536, 512}, {32768, 512}};
+    static uint8_t c0[32768], c1[32768], unit[512];
+    memset(unit, 0xff, sizeof unit);
+    for (int i = 0; i < 6; i++) {
+        const lanolin_geometry g = SIZES[i];
+        const uint32_t sum = lanolin_crc(0xffffffff, unit, g.prog_size), last = g.block_size - g.prog_size;
+        memset(c1, 0xff, sizeof c1);
+        for (uint32_t more = 0; more < 3; more++) {
+            memset(c0, 0xff, sizeof c0);
+            memcpy(c0, LISTED, sizeof LISTED);
+            /* compacted for this program size, and back: a log with forward checks, and one without */
+            uint32_t end = lanolin_alignup(39, g.prog_size).value;
+            EXPECT(lanolin_put_be32(c0, 128, 31, 0x37400004 ^ lanolin_mktag(0x500, 1023, end - 35)) == 0);
+            EXPECT(lanolin_put_le32(c0, 128, 35, lanolin_crc(0xffffffff, c0, 35)) == 0);
+            /* what just leaves the unit, one byte more, and what just does not pass the block */
+            const uint32_t lengths[3] = {last - end - 20, last - end - 19, g.block_size - end - 8};
+            lanolin_committed c = commit_bytes(g, c0, c1, lengths[more]);
+            uint32_t stop = more ? lanolin_alignup(end + lengths[more] + 8, g.prog_size).value : last;
+            EXPECT(c.result == LANOLIN_OK && c.dir.off == stop && c.dir.erased == !more);
+            EXPECT(more ? has_forward(c.dir, 0, 0) : c.dir.forward && c.dir.forward_size == g.prog_size &&
+                                                         c.dir.forward_sum == sum);
+            EXPECT(same_dir(c.dir, lanolin_fetch(g, c0, g.block_size, c1, g.block_size, 0, 1, 0, 7).dir));
+        }
+        memset(c0 + 39, 0xff, sizeof c0 - 39);
+        EXPECT(commit_bytes(g, c0, c1, g.block_size - lanolin_alignup(39, g.prog_size).value - 7).result ==
+               LANOLIN_ERR_NOSPC);
+    }
+}
+
+/* Three commits of 8 bytes behind the listing: two carry a forward check of theirs, the last has no room for one. That
+ * of the second is then the log's last, and the block is full. */
+static void test_forward_of_an_earlier_commit(void) {
+    static const uint32_t ENDS[3] = {80, 112, 128};
+    uint8_t c0[128], c1[128];
+    memcpy(c0, b0, sizeof c0);
+    memcpy(c1, b1, sizeof c1);
+    for (int i = 0; i < 3; i++) {
+        lanolin_mdir dir = commit_bytes(G, c0, c1, 8).dir;
+        EXPECT(dir.off == ENDS[i] && dir.erased == (i < 2) && has_forward(dir, 16, UNIT_SUM));
+    }
+    EXPECT(commit_bytes(G, c0, c1, 8).result == LANOLIN_ERR_NOSPC);
+    /* the smallest fresh pair that is not marked: its log ends at 16 and then at 112, and with the 12 bytes at 128 */
+    static const uint8_t FRESH[16] = {1, 0, 0, 0, 0xbf, 0xef, 0xff, 0xff, 0x10, 0x1f, 0xfc, 0x04};
+    memset(c0, 0xff, sizeof c0);
+    memcpy(c0, FRESH, sizeof FRESH);
+    EXPECT(lanolin_put_le32(c0, 128, 12, lanolin_crc(0xffffffff, c0, 12)) == 0);
+    lanolin_mdir dir = commit_bytes(G, c0, c1, 88).dir;
+    EXPECT(dir.off == 112 && !dir.erased && has_forward(dir, 0, 0) && !memcmp(c0 + 112, b1, 16));
+}
+
+/* A foreign forward check in the log, of four bytes or of more than the block has: it stays the record's where a commit
+ * carries none of its own, and says whether the room is erased. */
+static void test_forward_of_others(void) {
+    static const uint32_t SIZES[4] = {4, 0, 17, 0xffffffff};
+    for (int i = 0; i < 4; i++) {
+        uint8_t c0[512], c1[128], data[8];
+        uint32_t sum = SIZES[i] > 128 ? 7 : lanolin_crc(0xffffffff, b1, SIZES[i]), tag = 0x5ffffc08;
+        memcpy(c1, b1, sizeof c1);
+        EXPECT(lanolin_put_le32(data, 8, 0, SIZES[i]) == 0 && lanolin_put_le32(data, 8, 4, sum) == 0);
+        lay_one(c0, tag, data, 8); /* ends at 24 */
+        chain(c0, 16, tag, lanolin_mktag(LANOLIN_TYPE_CCRC, LANOLIN_NO_SLOT, 12)); /* .. and so at 32 */
+        EXPECT(lanolin_put_le32(c0, 128, 20, lanolin_crc(0xffffffff, c0, 20)) == 0);
+        lanolin_mdir dir = lanolin_fetch(G, c0, 128, c1, 128, 0, 1, 0, 0).dir;
+        EXPECT(dir.off == 32 && dir.erased == (i < 3) && dir.forward && dir.forward_size == SIZES[i] &&
+               dir.forward_sum == sum);
+        const lanolin_entry state[5] = {{0x7ff, 1023, 0, 12}, {0x7ff, 1023, 0, 12}, {0x7ff, 1023, 0, 12},
+                                        {0x7ff, 1023, 0, 12}, {0x600, 1023, 0, 8}};
+        uint8_t copy[128];
+        memcpy(copy, c0, sizeof copy);
+        dir = lanolin_commit(G, copy, 128, c1, 128, 0, 1, 0, 0, DOCUMENT, state, 1, LISTED, 12).dir;
+        EXPECT(dir.erased && has_forward(dir, 16, UNIT_SUM)); /* its own */
+        dir = lanolin_commit(G, c0, 128, c1, 128, 0, 1, 0, 0, DOCUMENT, state, 5, LISTED, 12).dir;
+        EXPECT(dir.off == 128 - 16 && dir.erased == (i < 2) && dir.forward && dir.forward_size == SIZES[i] &&
+               dir.forward_sum == sum); /* 17 bytes behind 112 pass the block */
+        dir = lanolin_compact(G, c0, 128, c1, 128, 0, 1, 0, 0, DOCUMENT).dir;
+        EXPECT(dir.pair[0] == 1 && dir.erased && has_forward(dir, 16, UNIT_SUM));
+    }
+}
+
+/* Whatever stands in the three fields of a record that is handed in, a lookup does not read it. */
+static void test_forward_is_not_looked_at(void) {
+    static const uint32_t WORDS[4] = {0, 1, 16, 0xffffffff};
+    lanolin_mdir dir = fetch(0, 1, 0, 0).dir;
+    for (int i = 0; i < 32; i++) {
+        uint8_t buffer[4] = {9, 9, 9, 9};
+        lanolin_gstate state = {5, {6, 7}};
+        dir.forward = i & 1;
+        dir.forward_size = WORDS[i >> 1 & 3];
+        dir.forward_sum = WORDS[i >> 3];
+        EXPECT(is_found(slice(dir, STILL, 0x7ffffc00, 0x37400000, 0, buffer, 4), 0x37400004, 8, 27));
+        EXPECT(!memcmp(buffer, LISTED + 27, 4) && is_refused(slice(dir, STILL, 0x7ffffc00, 0x37500000, 0, NULL, 0), -2));
+        EXPECT(is_found(lanolin_get(G, b0, 128, b1, 128, 0, 1, dir, STILL, 0x700ffc00, 0, buffer, 4), 0x00100004, 8, 12));
+        lanolin_info info = lanolin_getinfo(G, b0, 128, b1, 128, 0, 1, dir, STILL, 255, 0);
+        EXPECT(info.result == 0 && info.type == 1 && info.size == 3 && !strcmp((char *)info.name, "q212"));
+        EXPECT(lanolin_getgstate(G, b0, 128, b1, 128, 0, 1, dir, STILL, &state) == 0 && state.tag == 5);
+    }
+}
+
+/* More than 1,023 slots: with the forward check as read, from the calls that write too. */
+static void test_forward_of_too_many(void) {
+    const uint32_t name = lanolin_mktag(LANOLIN_TYPE_REG, LANOLIN_SLOTS_MAX, 1), tag = 0x5ffffc08;
+    images p;
+    memset(&p, 0xff, sizeof p);
+    EXPECT(lanolin_put_le32(p.b0, 512, 0, 1) == 0);
+    chain(p.b0, 4, 0xffffffff, name);
+    chain(p.b0, 9, name, tag);
+    memcpy(p.b0 + 13, MORE + 12, 8);
+    chain(p.b0, 21, tag, lanolin_mktag(LANOLIN_TYPE_CCRC, LANOLIN_NO_SLOT, 7));
+    EXPECT(lanolin_put_le32(p.b0, 512, 25, lanolin_crc(0xffffffff, p.b0, 25)) == 0);
+    lanolin_fetched f = lanolin_fetch(WIDE, p.b0, 512, p.b1, 512, 0, 1, 0, 7);
+    EXPECT(f.result == LANOLIN_ERR_NOENT && f.dir.off == 32 && f.dir.erased && has_forward(f.dir, 16, UNIT_SUM));
+    lanolin_committed c[2] = {commit_by(DOCUMENT, &p), compact_by(LITTLEFS, &p)};
+    for (int i = 0; i < 2; i++)
+        EXPECT(c[i].result == LANOLIN_ERR_NOENT && c[i].seed == f.seed && same_dir(c[i].dir, f.dir));
+}
+
+/* Stopped after each number of stores, inside the 12 bytes too, a commit or a compaction reads as never begun: the
+ * record has the forward check that it had, and only its erased mark may differ; behind the last as finished. */
+static void test_forward_stopped(void) {
+    const lanolin_entry deadline = {0x374, 0, 0, 4};
+    uint8_t c0[128], c1[128];
+    memcpy(c0, b0, sizeof c0);
+    memcpy(c1, b1, sizeof c1);
+    for (int old = 0; old < 2; old++) { /* a log without a forward check, and then one with */
+        lanolin_mdir before = lanolin_fetch(G, c0, 128, c1, 128, 0, 1, 0, 0).dir;
+        EXPECT(has_forward(before, old ? 16 : 0, old ? UNIT_SUM : 0));
+        for (uint32_t stores = 0; stores < 60; stores++) {
+            uint8_t d0[128], d1[128], e0[128], e1[128];
+            memcpy(d0, c0, 128), memcpy(e0, c0, 128), memcpy(d1, c1, 128), memcpy(e1, c1, 128);
+            lanolin_stored s[2] = {
+                lanolin_commit_stores(G, d0, 128, d1, 128, 0, 1, 0, 0, DOCUMENT, &deadline, 1, LISTED, 4, stores),
+                lanolin_compact_stores(G, e0, 128, e1, 128, 0, 1, 0, 0, DOCUMENT, stores)};
+            lanolin_mdir dirs[2] = {lanolin_fetch(G, d0, 128, d1, 128, 0, 1, 0, 0).dir,
+                                    lanolin_fetch(G, e0, 128, e1, 128, 0, 1, 0, 0).dir};
+            for (int i = 0; i < 2; i++) {
+                const uint32_t all = i ? 52 : 28; /* 8 + 12 + 8; an erase, 4 + 27 + 12 + 8 */
+                EXPECT(!s[i].result && s[i].stores == (stores < all ? stores : all));
+                dirs[i].erased = stores < all ? before.erased : dirs[i].erased;
+                EXPECT(stores < all ? same_dir(dirs[i], before)
+                                    : dirs[i].erased && has_forward(dirs[i], 16, UNIT_SUM));
+            }
+        }
+        EXPECT(!lanolin_commit(G, c0, 128, c1, 128, 0, 1, 0, 0, DOCUMENT, &deadline, 1, LISTED, 4).result);
+    }
+}
+
 /* ---- the names of lanolin.h, each by what the archive answers to it; document 01 says what that is */
 
 /* A commit behind the listing, on a copy. */
@@ -768,7 +957,7 @@ static int32_t committed(const lanolin_entry *entries, size_t count, const uint8
 }
 
 static void test_names_of_refusals(void) {
-    static const uint8_t COINCIDES[4] = {0x3e, 0xaa, 0xbb, 0x6d}; /* as in samples/writes/cases */
+    static const uint8_t COINCIDES[4] = {0xc2, 0xf2, 0xb6, 0xb8}; /* as in samples/writes/cases */
     const lanolin_entry deadline = {LANOLIN_TYPE_USERATTR + 0x74, 0, 0, 4};
     const lanolin_entry large = {LANOLIN_TYPE_INLINESTRUCT, 0, 0, 69}; /* 68 would end at the block's end */
     const lanolin_entry absent = {LANOLIN_TYPE_DELETE, 1, 0, 0};
@@ -872,13 +1061,15 @@ static void test_names_of_types(void) {
     EXPECT(lanolin_tag_type1(lanolin_mktag(LANOLIN_TYPE_HARDTAIL, 0, 0)) == LANOLIN_TYPE_TAIL);
 }
 
-/* What is read and not written: a superblock's name is no fault of a log, and a forward check that fits marks the room
- * behind the end as erased. */
+/* What is read, and no entry of a commit: a superblock's name is no fault of a log, and a forward check that fits marks
+ * the room behind the end as erased. */
 static void test_names_of_what_is_read(void) {
     const lanolin_geometry g = {512, 8};
     uint8_t block[512], other[512], forward[8] = {4, 0, 0, 0};
     const lanolin_entry superblock = {LANOLIN_TYPE_SUPERBLOCK, 0, 0, 8};
+    const lanolin_entry given = {LANOLIN_TYPE_FCRC, LANOLIN_NO_SLOT, 0, 8};
     EXPECT(committed(&superblock, 1, (const uint8_t *)"littlefs", 8) == LANOLIN_ERR_BADENTRY);
+    EXPECT(committed(&given, 1, MORE + 12, 8) == LANOLIN_ERR_BADENTRY); /* that of 16 erased bytes too */
     memset(other, 0xff, sizeof other);
     lay_named(block, LANOLIN_TYPE_SUPERBLOCK, (const uint8_t *)"littlefs", 8);
     lanolin_mdir dir = lanolin_fetch(g, block, 512, other, 512, 0, 1, 0, 0).dir;
@@ -893,6 +1084,7 @@ static void test_names_of_what_is_read(void) {
     lay_one(block, lanolin_mktag(LANOLIN_TYPE_FCRC, LANOLIN_NO_SLOT, 8), forward, 8);
     lanolin_fetched f = lanolin_fetch(g, block, 512, other, 512, 0, 1, 0, 0);
     EXPECT(f.result == LANOLIN_OK && f.dir.off == 24 && f.dir.erased);
+    EXPECT(f.dir.forward && f.dir.forward_size == 4 && f.dir.forward_sum == 0); /* the sum of four 0xff */
     EXPECT(f.dir.tail[0] == LANOLIN_BLOCK_NULL && f.dir.tail[1] == LANOLIN_BLOCK_NULL);
     info = lanolin_getinfo(g, block, 512, other, 512, 0, 1, f.dir, STILL, LANOLIN_NAME_MAX, LANOLIN_NO_SLOT);
     EXPECT(info.result == LANOLIN_OK && info.type == LANOLIN_TYPE_DIR && !strcmp((char *)info.name, "/"));
@@ -956,6 +1148,12 @@ int main(void) {
     test_find_ids();
     test_find_refused();
     test_find_sizes();
+    test_forward_just_fits();
+    test_forward_of_an_earlier_commit();
+    test_forward_of_others();
+    test_forward_is_not_looked_at();
+    test_forward_of_too_many();
+    test_forward_stopped();
     test_names_of_refusals();
     test_no_room();
     test_names_of_types();

@@ -17,8 +17,11 @@ use Rattle.format.specs.Record.{noTail, tailOf, splitOf}
 use Rattle.format.specs.Directory.{classes, Load, Slot, dirOf, moveOf}
 use Rattle.format.specs.Commit.{Item, commitBytes}
 use Rattle.format.specs.Stores.{entriesLength, coincides}
+use Rattle.format.specs.Writer.{forwardItem, forwardLength, carriedFor, forwardItems, withForward}
 use Rattle.format.specs.Compaction.{classItems, slotItems, dirItems, isNoTail, tailItems, moveItems, compactionItems}
+use Rattle.format.specs.declared.LfsFcrc.{LfsFcrc}
 use Rattle.format.specs.declared.LfsPair.{LfsPair}
+use Rattle.theory.specs.Commit.ForwardCheck.{length-app, forward-long}
 use Rattle.commit_lay.specs.Laid.{putsOf}
 use Rattle.commit_lay.proofs.Puts.{puts-app, puts-length}
 use Rattle.commit_room.specs.Tests.{meets}
@@ -44,12 +47,6 @@ length-most t = go (tagDelete t) refl
     go false e =
         let n : (tagSize t ≡ 0x3ff → ⊥) = eqb-false (tagSize t) 0x3ff e in
         omega arith
-
-length-app : (is js : List Item) → entriesLength (is ++ js) ≡ entriesLength is + entriesLength js
-unfolding entriesLength
-length-app [] js = omega arith
-length-app (i ∷ is) js = rw (length-app is js)
-    (sym (add-assoc (tagLength (i .tag)) (entriesLength is) (entriesLength js)))
 
 pub class-most : (id : ℕ) (v : Option Load) → entriesLength (classItems id v) ≤ 1_026
 unfolding entriesLength
@@ -123,6 +120,22 @@ items-most es few =
       tail-most (splitOf false es) (tailOf noTail es),
       class-most noSlot (moveOf none es),
     ))
+
+-- and the forward check, or none, behind them
+forward-most : (f : LfsFcrc) → entriesLength (forwardItems f) ≤ forwardLength
+unfolding entriesLength
+forward-most f = go (f .seen)
+  where
+    go : (b : Bool) → entriesLength (cond b (forwardItem f ∷ []) []) ≤ forwardLength
+    go true = omega (arith, forward-long)
+    go false = omega arith
+
+pub laid-most : (prog block from : ℕ) (es : List Event) → length (dirOf es) ≤ 1_023
+    → entriesLength (withForward prog block from (compactionItems es)) ≤ 271_847_946
+unfolding withForward
+laid-most prog block from es few =
+    let f : LfsFcrc = carriedFor prog block (from + entriesLength (compactionItems es)) in
+    rw (length-app (compactionItems es) (forwardItems f)) (omega (arith, items-most es few, forward-most f))
 
 -- ---- the block keeps its length
 pub emits-block : (is : List Item) (s : Standing) → length (emits s is .stores .block) ≡ length (s .stores .block)

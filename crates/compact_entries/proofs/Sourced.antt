@@ -1,4 +1,5 @@
--- All entries of a block with a regular log: the slots, the tail, the move state. Assumes nothing.
+-- All entries of a block with a regular log: the slots, the tail, the move state; and the forward check behind them.
+-- Assumes nothing.
 use mathlib.Core.Path.{_≡_, refl, sym, ap, ap₂, _∙_}
 use mathlib.Core.Bool.{Bool, false}
 use mathlib.Core.Option.{Option, none}
@@ -12,7 +13,10 @@ use Rattle.format.specs.Record.{noTail, tailOf, splitOf}
 use Rattle.format.specs.Kind.{noSlot}
 use Rattle.format.specs.Directory.{Load, dirOf, moveOf}
 use Rattle.format.specs.Commit.{Item}
+use Rattle.format.specs.Stores.{entriesLength}
+use Rattle.format.specs.Writer.{forwardLength, carriedFor, forwardItems, withForward}
 use Rattle.format.specs.Compaction.{classItems, dirItems, tailItems, moveItems, compactionItems}
+use Rattle.format.specs.declared.LfsFcrc.{LfsFcrc}
 use Rattle.format.specs.declared.LfsPair.{LfsPair}
 use Rattle.format.specs.declared.LfsMdir.{LfsMdir}
 use Rattle.theory.specs.Commit.Tested.{regular-log}
@@ -25,10 +29,11 @@ use Rattle.theory.specs.Lookup.ByMask.{holds, Answers}
 use Rattle.theory.specs.Lookup.OnBlock.{RegularLog}
 use Rattle.theory.specs.Lookup.MoveState.{move-found}
 use Rattle.theory.specs.Lookup.MoveAnswer.{move-answer}
+use Rattle.commit_room.specs.Tests.{Prog}
 use Rattle.compact_slot.proofs.Slots.{slots-few, slot-gathers}
-use Rattle.compact_entries.specs.Emitted.{Standing, emits, hitItems, Read}
+use Rattle.compact_entries.specs.Emitted.{Standing, emits, hitItems, Read, Renewing}
 use Rattle.compact_entries.specs.declared.Emit.{Emit}
-use Rattle.compact_entries.proofs.Joined.{emits-app, dir-within, tail-within}
+use Rattle.compact_entries.proofs.Joined.{emits-app, emits-end, dir-within, tail-within, items-most}
 use Rattle.compact_entries.proofs.Written.{hit-items}
 
 -- a stands behind the slots, t behind the tail, r behind the move state
@@ -71,3 +76,33 @@ module _ (b : List ℕ) (e : Emit) (dir : LfsMdir) (d : Read b e dir) (s a : Sta
         ∙ ap (λ (x : Standing). emits x M) (et ∙ ap₂ (λ (x : Bool) (y : LfsPair). emits a (tailItems x y)) (d .split′)
         (d .tail′) ∙ ap (λ (x : Standing). emits x I) ea)
         ∙ sym (emits-app (dirItems 0 (dirOf (log b))) (I ++ M) s ∙ emits-app I M (emits s (dirItems 0 (dirOf (log b)))))
+
+-- ---- with the forward check behind them: a stands behind the entries, f is what `forward` answers, r stands behind it
+module _ (prog : ℕ) (b : List ℕ) (e : Emit) (dir : LfsMdir) (d : Renewing prog b e dir) (s a : Standing)
+    (es : s .end ≡ e .end) (ea : a ≡ emits s (compactionItems (log b))) where
+  pub held-within : a .end ≤ 271_847_950
+  held-within =
+      omega (
+        arith,
+        ap (λ (z : Standing). z .end) ea,
+        emits-end (compactionItems (log b)) s,
+        items-most (log b) (omega (
+          arith,
+          slots-few b (dir .off) (dir .etag) (dir .count) (d .read .source .slots),
+          d .read .source .slots .count′,
+        )),
+        d .read .source .small,
+      )
+
+  pub forward-prog : Prog prog (a .end + forwardLength)
+  forward-prog = record { low = d .low; high = d .high; near = omega (arith, held-within) }
+
+  pub all-done : (f : LfsFcrc) → f ≡ carriedFor prog (length b) (a .end) → (r : Standing) → r ≡ emits a (forwardItems f)
+      → r ≡ emits s (withForward prog (length b) (s .end) (compactionItems (log b)))
+  unfolding withForward
+  all-done f ef r er =
+      let I : List Item = compactionItems (log b) in
+      let end : a .end ≡ s .end + entriesLength I = ap (λ (z : Standing). z .end) ea ∙ emits-end I s in
+      er ∙ ap (λ (g : LfsFcrc). emits a (forwardItems g)) (ef ∙ ap (carriedFor prog (length b)) end)
+      ∙ ap (λ (z : Standing). emits z (forwardItems (carriedFor prog (length b) (s .end + entriesLength I)))) ea
+      ∙ sym (emits-app I (forwardItems (carriedFor prog (length b) (s .end + entriesLength I))) s)

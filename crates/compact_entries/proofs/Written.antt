@@ -1,6 +1,7 @@
--- What each function of the emission adds: an entry, a class, a slot, the directory, the tail. Assumes nothing.
+-- What each function of the emission adds: an entry, a class, a slot, the directory, the tail, the forward check.
+-- Assumes nothing.
 use mathlib.Core.Path.{_≡_, refl, sym, ap, ap₂, _∙_}
-use mathlib.Core.Bool.{Bool, true, false, cond}
+use mathlib.Core.Bool.{Bool, true, false, not, cond}
 use mathlib.Core.Option.{Option}
 use mathlib.Core.List.{List, [], _∷_, _++_}
 use Prim.Native.Nat.{ℕ, zero, suc, _+_, _-_, _^_, _≤_, _<_}
@@ -9,7 +10,7 @@ use native.Mathlib.Omega.{arith}
 use lib.Bits.{bitXor}
 use lib.ListN.{length, drop, getD, drop-of-length-le}
 use lib.Seq.{drop-cons}
-use borrow.Author.Tests.{ne-eqb}
+use borrow.Author.Tests.{ne-eqb, not-true, not-false}
 use Rattle.format.specs.Word.{toBe32, toLe32, xor}
 use Rattle.format.specs.Tag.{removalSize, tagLength, mkTag, tagOf}
 use Rattle.format.specs.Kind.{typeCreate, typeTail, typeHardTail, noSlot}
@@ -17,6 +18,8 @@ use Rattle.format.specs.Crc.{crc}
 use Rattle.format.specs.Directory.{classes, Load, Slot, empty}
 use Rattle.format.specs.Commit.{Item}
 use Rattle.format.specs.Compaction.{classItems, slotItems, dirItems, isNoTail, tailItems}
+use Rattle.format.specs.Writer.{forwardItems}
+use Rattle.format.specs.declared.LfsFcrc.{LfsFcrc}
 use Rattle.format.specs.declared.LfsPair.{LfsPair}
 use Rattle.format.proofs.Words.{mkTag-sum}
 use Rattle.format.proofs.Searched.{hit-in, bytes-length}
@@ -160,33 +163,43 @@ pub dir-done : (a s : Standing) (D : List Slot) (id : ℕ) → length D ≤ id �
 unfolding emits dirItems
 dir-done a s D id h ea = sym (ea ∙ rw (drop-of-length-le D {i = id} h))
 
+-- ---- eight bytes of two words are an entry's data
+eight-body : (a b : ℕ) (l : List ℕ) → l ≡ toLe32 a ++ toLe32 b → bodyOf l 0 8 ≡ toLe32 a ++ toLe32 b
+unfolding bodyOf toLe32
+eight-body a b l e = rw e
+
 -- ---- the tail
 module _ (s : Standing) (split : Bool) (p : LfsPair) where
   pub tail-none : isNoTail split p ≡ true → s ≡ emits s (tailItems split p)
   unfolding emits
   tail-none h = rw h
 
-  -- l and m are what `le_bytes` answers
-  abbrev eight : List ℕ → List ℕ → List ℕ
-  eight l m = getD l 0 0 ∷ getD l 1 0 ∷ getD l 2 0 ∷ getD l 3 0 ∷ getD m 0 0 ∷ getD m 1 0 ∷ getD m 2 0 ∷ getD m 3 0 ∷ []
-
-  eight-body : (l m : List ℕ) → l ≡ toLe32 (p .n0) → m ≡ toLe32 (p .n1)
-      → bodyOf (eight l m) 0 8 ≡ toLe32 (p .n0) ++ toLe32 (p .n1)
-  unfolding bodyOf toLe32
-  eight-body l m el em = rw (el, em)
-
   tail-type : (b : Bool) → cond b typeHardTail typeTail < 2 ^ 12
   tail-type true = omega arith
   tail-type false = omega arith
 
-  -- x is the tail's type, k the tag made of it
+  -- x is the tail's type, k the tag made of it, l what `le_pair` answers
   pub tail-made : isNoTail split p ≡ false → (x : ℕ) → x ≡ cond split typeHardTail typeTail → (k : ℕ)
-      → k ≡ mkTag x noSlot 8 → (l m : List ℕ) → l ≡ toLe32 (p .n0) → m ≡ toLe32 (p .n1)
-      → (r : Standing) → r ≡ emitted s (record { tag = k; body = bodyOf (eight l m) 0 8 })
-      → r ≡ emits s (tailItems split p)
+      → k ≡ mkTag x noSlot 8 → (l : List ℕ) → l ≡ toLe32 (p .n0) ++ toLe32 (p .n1)
+      → (r : Standing) → r ≡ emitted s (record { tag = k; body = bodyOf l 0 8 }) → r ≡ emits s (tailItems split p)
   unfolding emits
-  tail-made h x ex k ek l m el em r er =
+  tail-made h x ex k ek l el r er =
       let tag : k ≡ tagOf (cond split typeHardTail typeTail) noSlot 8 =
       made-tag k x noSlot 8 ek (rw ex (tail-type split)) (omega arith) (omega arith)
       ∙ ap (λ (y : ℕ). tagOf y noSlot 8) ex in
-      er ∙ ap₂ (λ (y : ℕ) (q : List ℕ). emitted s (record { tag = y; body = q })) tag (eight-body l m el em) ∙ rw h
+      er ∙ ap₂ (λ (y : ℕ) (q : List ℕ). emitted s (record { tag = y; body = q })) tag
+      (eight-body (p .n0) (p .n1) l el) ∙ rw h
+
+-- ---- the forward check
+module _ (s : Standing) (f : LfsFcrc) where
+  pub forward-none : not (f .seen) ≡ true → s ≡ emits s (forwardItems f)
+  unfolding emits
+  forward-none h = rw (not-true (f .seen) h)
+
+  -- l is what `le_pair` answers
+  pub forward-made : not (f .seen) ≡ false → (l : List ℕ) → l ≡ toLe32 (f .size) ++ toLe32 (f .sum) → (r : Standing)
+      → r ≡ emitted s (record { tag = 0x5fff_fc08; body = bodyOf l 0 8 }) → r ≡ emits s (forwardItems f)
+  unfolding emits tagOf
+  forward-made h l el r er =
+      er ∙ ap (λ (q : List ℕ). emitted s (record { tag = 0x5fff_fc08; body = q }))
+      (eight-body (f .size) (f .sum) l el) ∙ rw (not-false (f .seen) h)

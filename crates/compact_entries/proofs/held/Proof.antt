@@ -1,10 +1,10 @@
--- `compact_entries::entries` meets its contract: the slots, the tail, the move state. Assumes nothing.
+-- `compact_entries::held` meets its contract: the slots, the tail, the move state. Assumes nothing.
 use native.Mathlib.Omega.{arith}
 use Rattle.format.proofs.Searched.{hit-before}
 use Rattle.compact_entries.proofs.Sourced.{slots-within, read-inside, entries-within, entries-done}
 use borrow.Author.Needs.{needs}
-use Rattle.compact_entries.proofs.entries.Statement.{statement}
-use Rattle.compact_entries.proofs.entries.Tie as tie
+use Rattle.compact_entries.proofs.held.Statement.{statement}
+use Rattle.compact_entries.proofs.held.Tie as tie
 
 tail-requires : tie.Need-tail-requires
 tail-requires c κs = omega (
@@ -46,8 +46,8 @@ returns c =
     (c .before .before .before .before .before .lfs-mktag2 .ensures) _ (back .0) (back .1) _
     (c .before .before .found-entry .ensures)
 
-pub entries-spec : {M : Type 1} → statement M
-entries-spec =
+pub held-spec : {M : Type 1} → statement M
+held-spec =
     tie.close
     (tie.spec (λ c. search needs) (λ c. search needs) (λ c κs. search needs) tail-requires (λ c κs. search needs)
     (λ c. search needs) (λ c κs. search needs) find-back-requires found-entry-requires (λ c. search needs) returns)

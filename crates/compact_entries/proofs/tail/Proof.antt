@@ -8,18 +8,13 @@ returns : tie.Need-returns
 returns c = tail-none _ (c .before .before .args .split) (c .before .before .args .pair) (c .if1 .taken)
 
 returns-2 : tie.Need-returns-2
-returns-2 c = tail-made _
-    (c .before .before .before .before .before .before .before .before .before .before .before .args .split)
-    (c .before .before .before .before .before .before .before .before .before .before .before .args .pair)
-    (c .before .before .before .before .before .before .before .before .before .if1 .left) _
+returns-2 c = tail-made _ (c .before .before .before .before .before .before .before .before .before .before .args .split)
+    (c .before .before .before .before .before .before .before .before .before .before .args .pair)
+    (c .before .before .before .before .before .before .before .before .if1 .left) _
     (c .before .before .before .before .before .tail-type .ensures) _
-    (c .before .before .before .before .lfs-mktag .ensures) _ _
-    (c .before .before .before .before .before .before .before .before .le-bytes .ensures)
-    (c .before .before .before .before .before .before .before .le-bytes2 .ensures) _
-    (c .before .before .entry .ensures)
+    (c .before .before .before .before .lfs-mktag .ensures) _
+    (c .before .before .before .before .before .before .before .le-pair .ensures) _ (c .before .before .entry .ensures)
 
 pub tail-spec : {M : Type 1} → statement M
 tail-spec = tie.close (tie.spec returns (λ c κs. search needs) (λ c κs. search needs) (λ c. search needs)
-    (λ c. search needs) (λ c. search needs) (λ c. search needs) (λ c. search needs) (λ c. search needs)
-    (λ c. search needs) (λ c. search needs) (λ c κs. search needs) (λ c. search needs) (λ c κs. search needs)
-    (λ c. search needs) (λ c κs. search needs) (λ c. search needs) returns-2)
+    (λ c κs. search needs) (λ c. search needs) (λ c κs. search needs) (λ c. search needs) returns-2)
