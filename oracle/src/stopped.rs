@@ -171,13 +171,18 @@ impl Stopped {
         let known = (forward.last, erased);
         self.forward
             .same_by_weight(&known, &(said, dir.erased), weight, say);
-        let kind = match (forward.carried, call.before.fetched.dir.forward) {
-            (true, 0) => "carried, the first of its pair",
-            (true, _) => "carried, the old log has one",
-            (false, 0) => "not carried, nor has the old log one",
-            (false, _) => "not carried, the old log has one",
+        let old = call.before.fetched.dir.forward != 0;
+        let kind = match (call.compacts(), forward.carried, old) {
+            (false, true, true) => "a commit with one, the old log too",
+            (false, true, false) => "a commit with one, the old log without",
+            (false, false, true) => "a commit without, the old log with one",
+            (false, false, false) => "a commit without, the old log too",
+            (true, true, true) => "a compaction with one, the old log too",
+            (true, true, false) => "a compaction with one, the old log without",
+            (true, false, true) => "a compaction without, the old log with one",
+            (true, false, false) => "a compaction without, the old log too",
         };
-        self.forward.outcome_of(call.kind(), kind);
+        self.forward.outcome_of("calls", kind);
         self.forward.outcome_of("room for it", forward.room());
     }
 

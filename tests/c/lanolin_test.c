@@ -332,7 +332,7 @@ static void test_pairs_and_states(void) {
  * is 80, a multiple of 16, and four bytes of padding stand before it. */
 static const uint8_t MORE[28] = {0x67, 0x4f, 0xfc, 0x09, 0x10, 0x0e, 0x00, 0x00, 0x68, 0xbf, 0xfc, 0x0c, 0x10, 0x00,
                                  0x00, 0x00, 0xe5, 0x39, 0x4c, 0xc0, 0x0f, 0xf0, 0x00, 0x00, 0x72, 0x6f, 0x0e, 0x8a};
-enum { UNIT_SUM = 0xc04c39e5 };
+static const uint32_t UNIT_SUM = 0xc04c39e5;
 
 static void test_commit(void) {
     uint8_t c0[128], c1[128];
@@ -795,35 +795,36 @@ static lanolin_committed commit_bytes(lanolin_geometry g, uint8_t *c0, uint8_t *
     return lanolin_commit(g, c0, g.block_size, c1, g.block_size, 0, 1, 0, 7, DOCUMENT, entries, n, DATA, sizeof DATA);
 }
 
-/* Behind the listing's 48 bytes, or the multiple above them, entries, forward check and check, and the unit behind them
- * up to the block's end, to the byte; then a byte more. A refusal has the room counted without the forward check. */
+/* The listing in an erased block, its check up to a multiple of another program size. Answers where it ends. */
+static uint32_t lay_listing(lanolin_geometry g, uint8_t *block) {
+    const uint32_t end = lanolin_alignup(39, g.prog_size).value;
+    memset(block, 0xff, g.block_size);
+    memcpy(block, LISTED, sizeof LISTED);
+    EXPECT(lanolin_put_be32(block, 128, 31, 0x37400004 ^ lanolin_mktag(LANOLIN_TYPE_CCRC, 1023, end - 35)) == 0);
+    EXPECT(lanolin_put_le32(block, 128, 35, lanolin_crc(0xffffffff, block, 35)) == 0);
+    return end;
+}
+
+/* Entries that just leave a unit behind forward check and check, to the byte; one byte more; and those that end at the
+ * block's end, with no forward check, behind which one byte more is refused. */
 static void test_forward_just_fits(void) {
     static const lanolin_geometry SIZES[6] = {{128, 4}, {130, 5}, {128, 16}, {765, 255}, {1536, 512}, {32768, 512}};
-    static uint8_t c0[32768], c1[32768], unit[512];
-    memset(unit, 0xff, sizeof unit);
+    static uint8_t c0[32768], c1[32768];
+    memset(c1, 0xff, sizeof c1);
     for (int i = 0; i < 6; i++) {
         const lanolin_geometry g = SIZES[i];
-        const uint32_t sum = lanolin_crc(0xffffffff, unit, g.prog_size), last = g.block_size - g.prog_size;
-        memset(c1, 0xff, sizeof c1);
-        for (uint32_t more = 0; more < 3; more++) {
-            memset(c0, 0xff, sizeof c0);
-            memcpy(c0, LISTED, sizeof LISTED);
-            /* compacted for this program size, and back: a log with forward checks, and one without */
-            uint32_t end = lanolin_alignup(39, g.prog_size).value;
-            EXPECT(lanolin_put_be32(c0, 128, 31, 0x37400004 ^ lanolin_mktag(0x500, 1023, end - 35)) == 0);
-            EXPECT(lanolin_put_le32(c0, 128, 35, lanolin_crc(0xffffffff, c0, 35)) == 0);
-            /* what just leaves the unit, one byte more, and what just does not pass the block */
-            const uint32_t lengths[3] = {last - end - 20, last - end - 19, g.block_size - end - 8};
+        const uint32_t size = g.block_size, prog = g.prog_size, end = lay_listing(g, c0);
+        const uint32_t lengths[4] = {size - prog - end - 20, size - prog - end - 19, size - end - 8, size - end - 7};
+        for (int more = 0; more < 4; more++) {
+            lay_listing(g, c0);
             lanolin_committed c = commit_bytes(g, c0, c1, lengths[more]);
-            uint32_t stop = more ? lanolin_alignup(end + lengths[more] + 8, g.prog_size).value : last;
-            EXPECT(c.result == LANOLIN_OK && c.dir.off == stop && c.dir.erased == !more);
-            EXPECT(more ? has_forward(c.dir, 0, 0) : c.dir.forward && c.dir.forward_size == g.prog_size &&
-                                                         c.dir.forward_sum == sum);
-            EXPECT(same_dir(c.dir, lanolin_fetch(g, c0, g.block_size, c1, g.block_size, 0, 1, 0, 7).dir));
+            EXPECT(c.result == (more < 3 ? LANOLIN_OK : LANOLIN_ERR_NOSPC));
+            if (more == 3) continue;
+            EXPECT(c.dir.off == (more ? lanolin_alignup(end + lengths[more] + 8, prog).value : size - prog));
+            EXPECT(c.dir.erased == !more && c.dir.forward == !more && c.dir.forward_size == (more ? 0 : prog));
+            EXPECT(c.dir.forward_sum == (more ? 0 : lanolin_crc(0xffffffff, c1, prog)));
+            EXPECT(same_dir(c.dir, lanolin_fetch(g, c0, size, c1, size, 0, 1, 0, 7).dir));
         }
-        memset(c0 + 39, 0xff, sizeof c0 - 39);
-        EXPECT(commit_bytes(g, c0, c1, g.block_size - lanolin_alignup(39, g.prog_size).value - 7).result ==
-               LANOLIN_ERR_NOSPC);
     }
 }
 
@@ -852,6 +853,8 @@ static void test_forward_of_an_earlier_commit(void) {
  * carries none of its own, and says whether the room is erased. */
 static void test_forward_of_others(void) {
     static const uint32_t SIZES[4] = {4, 0, 17, 0xffffffff};
+    static const lanolin_entry STATES[4] = {
+        {0x7ff, 1023, 0, 12}, {0x7ff, 1023, 0, 12}, {0x7ff, 1023, 0, 12}, {0x7ff, 1023, 0, 12}};
     for (int i = 0; i < 4; i++) {
         uint8_t c0[512], c1[128], data[8];
         uint32_t sum = SIZES[i] > 128 ? 7 : lanolin_crc(0xffffffff, b1, SIZES[i]), tag = 0x5ffffc08;
@@ -863,14 +866,12 @@ static void test_forward_of_others(void) {
         lanolin_mdir dir = lanolin_fetch(G, c0, 128, c1, 128, 0, 1, 0, 0).dir;
         EXPECT(dir.off == 32 && dir.erased == (i < 3) && dir.forward && dir.forward_size == SIZES[i] &&
                dir.forward_sum == sum);
-        const lanolin_entry state[5] = {{0x7ff, 1023, 0, 12}, {0x7ff, 1023, 0, 12}, {0x7ff, 1023, 0, 12},
-                                        {0x7ff, 1023, 0, 12}, {0x600, 1023, 0, 8}};
         uint8_t copy[128];
         memcpy(copy, c0, sizeof copy);
-        dir = lanolin_commit(G, copy, 128, c1, 128, 0, 1, 0, 0, DOCUMENT, state, 1, LISTED, 12).dir;
-        EXPECT(dir.erased && has_forward(dir, 16, UNIT_SUM)); /* its own */
-        dir = lanolin_commit(G, c0, 128, c1, 128, 0, 1, 0, 0, DOCUMENT, state, 5, LISTED, 12).dir;
-        EXPECT(dir.off == 128 - 16 && dir.erased == (i < 2) && dir.forward && dir.forward_size == SIZES[i] &&
+        dir = lanolin_commit(G, copy, 128, c1, 128, 0, 1, 0, 0, DOCUMENT, STATES, 1, LISTED, 12).dir;
+        EXPECT(dir.off == 80 && dir.erased && has_forward(dir, 16, UNIT_SUM)); /* its own */
+        dir = lanolin_commit(G, c0, 128, c1, 128, 0, 1, 0, 0, DOCUMENT, STATES, 4, LISTED, 12).dir;
+        EXPECT(dir.off == 112 && dir.erased == (i < 2) && dir.forward && dir.forward_size == SIZES[i] &&
                dir.forward_sum == sum); /* 17 bytes behind 112 pass the block */
         dir = lanolin_compact(G, c0, 128, c1, 128, 0, 1, 0, 0, DOCUMENT).dir;
         EXPECT(dir.pair[0] == 1 && dir.erased && has_forward(dir, 16, UNIT_SUM));
@@ -888,8 +889,10 @@ static void test_forward_is_not_looked_at(void) {
         dir.forward_size = WORDS[i >> 1 & 3];
         dir.forward_sum = WORDS[i >> 3];
         EXPECT(is_found(slice(dir, STILL, 0x7ffffc00, 0x37400000, 0, buffer, 4), 0x37400004, 8, 27));
-        EXPECT(!memcmp(buffer, LISTED + 27, 4) && is_refused(slice(dir, STILL, 0x7ffffc00, 0x37500000, 0, NULL, 0), -2));
-        EXPECT(is_found(lanolin_get(G, b0, 128, b1, 128, 0, 1, dir, STILL, 0x700ffc00, 0, buffer, 4), 0x00100004, 8, 12));
+        EXPECT(!memcmp(buffer, LISTED + 27, 4));
+        EXPECT(is_refused(slice(dir, STILL, 0x7ffffc00, 0x37500000, 0, NULL, 0), -2));
+        lanolin_got got = lanolin_get(G, b0, 128, b1, 128, 0, 1, dir, STILL, 0x700ffc00, 0, buffer, 4);
+        EXPECT(is_found(got, 0x00100004, 8, 12));
         lanolin_info info = lanolin_getinfo(G, b0, 128, b1, 128, 0, 1, dir, STILL, 255, 0);
         EXPECT(info.result == 0 && info.type == 1 && info.size == 3 && !strcmp((char *)info.name, "q212"));
         EXPECT(lanolin_getgstate(G, b0, 128, b1, 128, 0, 1, dir, STILL, &state) == 0 && state.tag == 5);
@@ -917,30 +920,23 @@ static void test_forward_of_too_many(void) {
 /* Stopped after each number of stores, inside the 12 bytes too, a commit or a compaction reads as never begun: the
  * record has the forward check that it had, and only its erased mark may differ; behind the last as finished. */
 static void test_forward_stopped(void) {
-    const lanolin_entry deadline = {0x374, 0, 0, 4};
-    uint8_t c0[128], c1[128];
-    memcpy(c0, b0, sizeof c0);
-    memcpy(c1, b1, sizeof c1);
+    static const uint32_t ALL[2] = {8 + 12 + 8, 1 + 4 + 27 + 12 + 8}; /* the erase is a store */
+    images p = listing();
     for (int old = 0; old < 2; old++) { /* a log without a forward check, and then one with */
-        lanolin_mdir before = lanolin_fetch(G, c0, 128, c1, 128, 0, 1, 0, 0).dir;
+        lanolin_mdir before = lanolin_fetch(WIDE, p.b0, 512, p.b1, 512, 0, 1, 0, 7).dir;
         EXPECT(has_forward(before, old ? 16 : 0, old ? UNIT_SUM : 0));
         for (uint32_t stores = 0; stores < 60; stores++) {
-            uint8_t d0[128], d1[128], e0[128], e1[128];
-            memcpy(d0, c0, 128), memcpy(e0, c0, 128), memcpy(d1, c1, 128), memcpy(e1, c1, 128);
-            lanolin_stored s[2] = {
-                lanolin_commit_stores(G, d0, 128, d1, 128, 0, 1, 0, 0, DOCUMENT, &deadline, 1, LISTED, 4, stores),
-                lanolin_compact_stores(G, e0, 128, e1, 128, 0, 1, 0, 0, DOCUMENT, stores)};
-            lanolin_mdir dirs[2] = {lanolin_fetch(G, d0, 128, d1, 128, 0, 1, 0, 0).dir,
-                                    lanolin_fetch(G, e0, 128, e1, 128, 0, 1, 0, 0).dir};
+            images left[2] = {p, p};
+            lanolin_stored s[2] = {commit_stores_by(DOCUMENT, &left[0], stores),
+                                   compact_stores_by(DOCUMENT, &left[1], stores)};
             for (int i = 0; i < 2; i++) {
-                const uint32_t all = i ? 52 : 28; /* 8 + 12 + 8; an erase, 4 + 27 + 12 + 8 */
-                EXPECT(!s[i].result && s[i].stores == (stores < all ? stores : all));
-                dirs[i].erased = stores < all ? before.erased : dirs[i].erased;
-                EXPECT(stores < all ? same_dir(dirs[i], before)
-                                    : dirs[i].erased && has_forward(dirs[i], 16, UNIT_SUM));
+                lanolin_mdir dir = lanolin_fetch(WIDE, left[i].b0, 512, left[i].b1, 512, 0, 1, 0, 7).dir;
+                EXPECT(!s[i].result && s[i].stores == (stores < ALL[i] ? stores : ALL[i]));
+                if (stores < ALL[i]) dir.erased = before.erased;
+                EXPECT(stores < ALL[i] ? same_dir(dir, before) : dir.erased && has_forward(dir, 16, UNIT_SUM));
             }
         }
-        EXPECT(!lanolin_commit(G, c0, 128, c1, 128, 0, 1, 0, 0, DOCUMENT, &deadline, 1, LISTED, 4).result);
+        EXPECT(commit_by(DOCUMENT, &p).result == LANOLIN_OK);
     }
 }
 

@@ -330,8 +330,8 @@ int main(int argc, char **argv) {
            "and %u both; %u differences\n",
            accepted[COMMITTED], accepted[COMPACTED], accepted[COMMITTED_BY_LITTLEFS], accepted[COMPACTED_BY_LITTLEFS],
            accepted[BOTH_BY_LITTLEFS], differences);
-    printf("real pairs, forward checks: as littlefs wrote them the last commit of %u carries one, and of %u not; of those "
-           "written to %u and %u; %u differences\n",
+    printf("real pairs, forward checks: as littlefs wrote them the last commit of %u carries one, and of %u not; of "
+           "those written to %u and %u; %u differences\n",
            forward[0].carried, forward[0].without, forward[1].carried, forward[1].without, differences);
     return differences != 0 || pairs == 0;
 }

@@ -17,21 +17,23 @@ tried() {
   $get "$pair" 0 | diff - <(echo 3600)
 }
 again="compacted\ncommitted: revision 2, end"
-tried 0 '' 16 "committed: revision 1, end 64"
-# the log ends at 48, no multiple of 32; then a compaction ends at 64, and the commit behind it at 96
+# the deadline's 8 bytes, a forward check of 12, and the check, up to the next multiple
+tried 0 '' 16 "committed: revision 1, end 80"
+# the log ends at 48, no multiple of 32; a compaction ends at 64, and the commit behind it at 96, by both program sizes
 tried 0 '' 32 "no room, -211: the log's end is no multiple of the program size\n$again 96"
 # its check as one of type 0x501, and the checksum of that
-tried 32 '\x5f\xfc\x09\x37\x9b\xc2\x51' 16 "no room, -212: the end tag's top bit is set\n$again 64"
-tried 48 '\x67' 16 "no room, -213: byte 48 isn't erased, as after a commit that was cut short\n$again 64"
-tried 100 '\x00' 16 "no room, -213: byte 100 isn't erased, which no commit of ours left\n$again 64"
-# five commits of 16 bytes fill the block from 48 on
+tried 32 '\x5f\xfc\x09\x37\x9b\xc2\x51' 16 "no room, -212: the end tag's top bit is set\n$again 96"
+tried 48 '\x67' 16 "no room, -213: byte 48 isn't erased, as after a commit that was cut short\n$again 96"
+tried 100 '\x00' 16 "no room, -213: byte 100 isn't erased, which no commit of ours left\n$again 96"
+# three commits fill the block from 48 on: up to 80, to 112, and without a forward check to 128
 cp samples/q212.pair "$pair"
-for seconds in 1 2 3 4 5; do $set "$pair" 0 $seconds >/dev/null; done
-$set "$pair" 0 6 | diff - <(printf "no room, -28: the block is full\n$again 64\n")
+for seconds in 1 2 3; do $set "$pair" 0 $seconds; done |
+  diff - <(printf "committed: revision 1, end %s\n" 80 112 128)
+$set "$pair" 0 6 | diff - <(printf "no room, -28: the block is full\n$again 96\n")
 $get "$pair" | diff - <(echo 6)
 # in the place of one of two bytes, which can't be read
 cp samples/instructions.pair "$pair"
-$set "$pair" 8 3600 | diff - <(echo "committed: revision 7, end 448")
+$set "$pair" 8 3600 | diff - <(echo "committed: revision 7, end 464")
 $get "$pair" 8 | diff - <(echo 3600)
 
 # littlefs's own pairs, which have names without creates. real PAIR SLOT SAID
@@ -40,16 +42,16 @@ real() {
   $set "$pair" "$2" 3600 | diff - <(printf "$3\n")
   $get "$pair" "$2" | diff - <(echo 3600)
 }
-# in the place of one of eight bytes: 16 bytes behind the end, 256
-real attrs-512-0-1 3 "committed: revision 4, end 272"
-# torn by a power cut while a deadline was set: four slots compacted end at 144
+# in the place of one of eight bytes: 28 bytes behind the end, 256
+real attrs-512-0-1 3 "committed: revision 4, end 288"
+# torn by a power cut while a deadline was set: four slots compacted end at 160
 torn="no room, -213: byte 448 isn't erased, as after a commit that was cut short"
-real cut-512-setattr-torn-0-0-1 3 "$torn\ncompacted\ncommitted: revision 3, end 160"
+real cut-512-setattr-torn-0-0-1 3 "$torn\ncompacted\ncommitted: revision 3, end 192"
 # full: five slots compacted, with a create each, end at 176
-real cut-512-setattr-torn-0-2-3 1 "no room, -28: the block is full\n$again 192"
-# a name of slot 1,022 alone: six commits fill the block, and there is no room for 1,023 creates
+real cut-512-setattr-torn-0-2-3 1 "no room, -28: the block is full\n$again 208"
+# a name of slot 1,022 alone: four commits fill the block, and there is no room for 1,023 creates
 cp crates/check_edges/data/count-1023 "$pair"
-for seconds in 1 2 3 4 5 6; do $set "$pair" 0 $seconds >/dev/null; done
+for seconds in 3 4 5 6; do $set "$pair" 0 $seconds >/dev/null; done
 cp "$pair" "$pair.full"
 status=0
 said=$($set "$pair" 0 7 2>&1) || status=$?

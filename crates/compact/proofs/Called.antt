@@ -17,7 +17,7 @@ use Rattle.format.specs.declared.Rules.{Rules}
 use Rattle.format.specs.Commit.{checkTag}
 use Rattle.format.specs.Stores.{coincides}
 use Rattle.format.specs.Writer.{roundedEnd, checkSize, blockAt, isSecond, unlimited, committedAs}
-use Rattle.format.specs.Compaction.{compactionItems, compactCheckAt, CompactVerdict, compactRefused, compactAccepted}
+use Rattle.format.specs.Compaction.{compactCheckAt, CompactVerdict, compactRefused, compactAccepted}
 use Rattle.format.specs.Compaction.{placedAnew, compactable, compactVerdict, compactImagesAfter, compactAnswer}
 use Rattle.format.specs.Compaction.{compactMade, compactImages, compactOf, compactStoresOf}
 use Rattle.format.specs.Stopped.{Bytes, CompactLeaves, CompactStoresLeaves}
@@ -33,7 +33,7 @@ use Rattle.format.specs.declared.Stored.{Stored}
 use Rattle.format.specs.declared.Stored.the-variants as stored
 use Rattle.theory.specs.Fetch.FoundBlock.{Sized, found-sized, found-reads}
 use Rattle.theory.specs.Stopped.Compaction.{stopped-compaction}
-use Rattle.compact_block.specs.Renewed.{Renewable, renewedTo}
+use Rattle.compact_block.specs.Renewed.{renewedItems, Renewable, renewedTo}
 
 -- ---- a verdict with the place of the block that answers
 abbrev placedAt : Bool → CompactVerdict → CompactVerdict
@@ -45,14 +45,13 @@ placed-at : (r : Rules) (prog : ℕ) (w : Bool) (x : List ℕ)
 unfolding compactable placedAnew
 placed-at r prog w x =
     go (not (Regular r (log x))) (ltb (length x) (roundedEnd prog at))
-    (coincides (crc allOnes (toLe32 (plus32 (le32 x) 1))) allOnes (compactionItems (log x))
-    (checkTag (checkSize prog at)))
+    (coincides (crc allOnes (toLe32 (plus32 (le32 x) 1))) allOnes (renewedItems prog x) (checkTag (checkSize prog at)))
   where
     at : ℕ
-    at = compactCheckAt (compactionItems (log x))
+    at = compactCheckAt (renewedItems prog x)
 
     v : Bool → CompactVerdict
-    v second = compactAccepted second (plus32 (le32 x) 1) (compactionItems (log x)) (checkSize prog at)
+    v second = compactAccepted second (plus32 (le32 x) 1) (renewedItems prog x) (checkSize prog at)
 
     go : (a b c : Bool)
         → cond a (compactRefused Irregular)

@@ -17,7 +17,7 @@ use Rattle.format.proofs.Growing.{widest}
 use Rattle.format.specs.Commit.{Item, checkTag}
 use Rattle.format.specs.Stores.{coincides}
 use Rattle.format.specs.Writer.{checkLength, roundedEnd, checkSize}
-use Rattle.format.specs.Compaction.{compactionItems, compactCheckAt, compactStores, CompactVerdict, compactRefused}
+use Rattle.format.specs.Compaction.{compactCheckAt, compactStores, CompactVerdict, compactRefused}
 use Rattle.format.specs.Compaction.{compactAccepted, placedAnew, compactable, compactMade}
 use Rattle.format.specs.declared.LfsMdir.{LfsMdir}
 use Rattle.format.specs.declared.Refusal.{Refusal}
@@ -31,8 +31,8 @@ use Rattle.commit_lay.proofs.Puts.{put-none}
 use Rattle.commit_room.specs.Tests.{Prog, meets}
 use Rattle.compact_entries.specs.Emitted.{Standing, standing, itemBytes, emitted, emits}
 use Rattle.compact_entries.specs.declared.Emit.{Emit}
-use Rattle.compact_entries.proofs.Joined.{emits-end, emits-coincides, items-most}
-use Rattle.compact_block.specs.Renewed.{begins, Renewable, Writable, writtenTo, renewedTo}
+use Rattle.compact_entries.proofs.Joined.{emits-end, emits-coincides, laid-most}
+use Rattle.compact_block.specs.Renewed.{begins, renewedItems, Renewable, Writable, writtenTo, renewedTo}
 
 -- ---- with no store left to make nothing is altered
 puts-spent : (bs : List ℕ) (l : Laid) → l .run .left ≡ 0 → putsOf l bs ≡ l
@@ -73,10 +73,10 @@ module _ (rev : ℕ) (is : List Item) (s e : Emit) (es : s ≡ begins rev (recor
 -- ---- the verdict, by the rule r
 module _ (r : Rules) (prog : ℕ) (w : Bool) (x : List ℕ) where
   abbrev I : List Item
-  I = compactionItems (log x)
+  I = renewedItems prog x
 
   abbrev at : ℕ
-  at = compactCheckAt (compactionItems (log x))
+  at = compactCheckAt (renewedItems prog x)
 
   abbrev next : ℕ
   next = plus32 (le32 x) 1
@@ -125,7 +125,7 @@ module _ (prog : ℕ) (old new : List ℕ) (dir : LfsMdir) (n : ℕ) (w : Renewa
 
   module _ (hx : not x ≡ false) (rev : ℕ) (er : rev ≡ plus32 (dir .rev) 1) (s e : Emit)
       (es : s ≡ begins rev (record { at = 0; left = 0 })) (b : List ℕ)
-      (ee : standing e b ≡ emits (standing s new) (compactionItems (log old))) where
+      (ee : standing e b ≡ emits (standing s new) (renewedItems prog old)) where
     ruled : Regular (rulesOf rules) (log old) ≡ true
     ruled = rw (← asked) (sym ex ∙ not-false x hx)
 
@@ -136,16 +136,16 @@ module _ (prog : ℕ) (old new : List ℕ) (dir : LfsMdir) (n : ℕ) (w : Renewa
     next-is = er ∙ ap (λ (k : ℕ). plus32 k 1) (w .recorded .rev′)
 
     same : b ≡ new
-    same = measured-block rev (compactionItems (log old)) s e es b new ee
+    same = measured-block rev (renewedItems prog old) s e es b new ee
 
     end-is : e .end ≡ at (rulesOf rules) prog false old
-    end-is = measured-end rev (compactionItems (log old)) s e es b new ee
+    end-is = measured-end rev (renewedItems prog old) s e es b new ee
 
     pub renew-prog : Prog prog (e .end)
     renew-prog = record {
       low = w .low;
       high = w .high;
-      near = omega (arith, end-is, items-most (log old) (slots-few old regular));
+      near = omega (arith, end-is, laid-most prog (length old) 4 (log old) (slots-few old regular));
     }
 
     module _ (z : ℕ) (ez : z ≡ roundedEnd prog (e .end)) where
@@ -165,25 +165,27 @@ module _ (prog : ℕ) (old new : List ℕ) (dir : LfsMdir) (n : ℕ) (w : Renewa
         tag-is = ect ∙ ap (λ (k : ℕ). checkTag (checkSize prog k)) end-is
 
         coincides-is : coincides (crc allOnes (toLe32 (next (rulesOf rules) prog false old))) allOnes
-            (compactionItems (log old))
+            (renewedItems prog old)
             (checkTag (checkSize prog (at (rulesOf rules) prog false old))) ≡ y
         coincides-is =
-            sym (ey ∙ measured-meets rev (compactionItems (log old)) s e es b new ee ct ∙ rw (next-is, tag-is))
+            sym (ey ∙ measured-meets rev (renewedItems prog old) s e es b new ee ct ∙ rw (next-is, tag-is))
 
         pub renew-coincides : y ≡ true → Answered n new v (stored.Refused Coincidence) b
         renew-coincides h = refuses n new b v Coincidence
             (verdict-coincides (rulesOf rules) prog false old ruled fits (coincides-is ∙ h)) same
 
-        pub renew-writes : Writable old b dir
+        pub renew-writes : Writable prog old b dir
         renew-writes =
             record {
+              low = w .low;
+              high = w .high;
               recorded = w .recorded;
               regular = regular;
               room = rw (same, w .long) (verdict-room (rulesOf rules) prog false old ruled fits (w .low));
             }
 
-        pub renew-made : y ≡ false → (k : ℕ) → k ≡ min n (compactStores (compactionItems (log old))) → (c : List ℕ)
-            → c ≡ writtenTo old b rev ct n → Answered n new v (stored.Made k) c
+        pub renew-made : y ≡ false → (k : ℕ) → k ≡ min n (compactStores (renewedItems prog old)) → (c : List ℕ)
+            → c ≡ writtenTo prog old b rev ct n → Answered n new v (stored.Made k) c
         renew-made h k ek c ec =
             rw (verdict-accepted (rulesOf rules) prog false old ruled fits (coincides-is ∙ h))
             (ap stored.Made ek, ec ∙ rw (same, next-is, tag-is))

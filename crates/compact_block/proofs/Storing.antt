@@ -14,7 +14,7 @@ use Rattle.format.specs.declared.Rules.the-variants.{Littlefs}
 use Rattle.format.specs.Commit.{Item, commitBytes}
 use Rattle.format.specs.Stores.{erased, entriesLength, compactBytes, compacting}
 use Rattle.format.specs.Writer.{checkLength}
-use Rattle.format.specs.Compaction.{compactionItems, compactCheckAt, compactStores}
+use Rattle.format.specs.Compaction.{compactCheckAt, compactStores}
 use Rattle.format.specs.declared.LfsMdir.{LfsMdir}
 use Rattle.format.proofs.Words.{length-toLe32}
 use Rattle.theory.specs.Walk.ReadBack.{AllGood}
@@ -26,10 +26,10 @@ use Rattle.commit_lay.specs.Laid.{Laid, laid, putsOf}
 use Rattle.commit_lay.specs.declared.Run.{Run}
 use Rattle.commit_lay.proofs.Puts.{puts-app}
 use Rattle.commit_lay.proofs.Pasted.{runAt, pasted, puts-paste}
-use Rattle.compact_entries.specs.Emitted.{Standing, standing, emits, Read}
+use Rattle.compact_entries.specs.Emitted.{Standing, standing, emits, Renewing}
 use Rattle.compact_entries.specs.declared.Emit.{Emit}
 use Rattle.compact_entries.proofs.Joined.{emits-commit}
-use Rattle.compact_block.specs.Renewed.{begins, Recorded, Writable, writtenTo}
+use Rattle.compact_block.specs.Renewed.{begins, renewedItems, Recorded, Writable, writtenTo}
 
 -- ---- the erase is one store more
 one-more : (n left L : ℕ) → left ≡ n - 1 → (n ≡ 0 → ⊥) → suc (min left (4 + (L + 8))) ≡ min n (1 + (4 + L) + 8)
@@ -94,36 +94,41 @@ module _ (B left rev ct : ℕ) (is : List Item) (p : Laid) (e : Emit) (b : List 
         ∙ rw (more, rest)
 
 -- ---- what the pass asks of its calls
-pub reads-all : (b : List ℕ) (dir : LfsMdir) (rev : ℕ) (run : Run) → Recorded b dir → Regular Littlefs (log b) ≡ true
-    → Read b (begins rev run) dir
+pub reads-all : (prog : ℕ) → 4 ≤ prog → prog ≤ 512 → (b : List ℕ) (dir : LfsMdir) (rev : ℕ) (run : Run) → Recorded b dir
+    → Regular Littlefs (log b) ≡ true → Renewing prog b (begins rev run) dir
 unfolding begins
-reads-all b dir rev run r regular =
+reads-all prog low high b dir rev run r regular =
     record {
-      source = record {
-        slots = record {
-          word = r .word;
-          most = r .most;
-          regular = regular;
-          ends = r .ends;
-          endTag = r .endTag;
-          count′ = r .count′ ∙ slots-counted b regular;
+      low = low;
+      high = high;
+      start = refl;
+      read = record {
+        source = record {
+          slots = record {
+            word = r .word;
+            most = r .most;
+            regular = regular;
+            ends = r .ends;
+            endTag = r .endTag;
+            count′ = r .count′ ∙ slots-counted b regular;
+          };
+          some = r .some;
+          small = omega arith;
         };
-        some = r .some;
-        small = omega arith;
+        split′ = r .split′;
+        tail′ = r .tail′;
       };
-      split′ = r .split′;
-      tail′ = r .tail′;
     }
 
 -- the whole pass, with the arguments as the code has them
-module _ (old new : List ℕ) (dir : LfsMdir) (w : Writable old new dir) (rev ct n : ℕ) (some : n ≡ 0
-    → ⊥) (erasedNew : List ℕ) (en : erasedNew ≡ erased (length new))
+module _ (prog : ℕ) (old new : List ℕ) (dir : LfsMdir) (w : Writable prog old new dir) (rev ct n : ℕ)
+    (some : n ≡ 0 → ⊥) (erasedNew : List ℕ) (en : erasedNew ≡ erased (length new))
     (p : Laid) (ep : p ≡ putsOf (laid (runAt 0 (n - 1)) erasedNew) (toLe32 rev)) (s e : Emit)
     (es : s ≡ begins rev (p .run)) (b : List ℕ)
-    (ee : standing e b ≡ emits (standing s (p .block)) (compactionItems (log old))) (q : Laid)
+    (ee : standing e b ≡ emits (standing s (p .block)) (renewedItems prog old)) (q : Laid)
     (eq : q ≡ checkLaid ct (standing e b)) where
   abbrev I : List Item
-  I = compactionItems (log old)
+  I = renewedItems prog old
 
   from : p ≡ putsOf (laid (runAt 0 (n - 1)) (erased (length new))) (toLe32 rev)
   from = ep ∙ ap (λ (z : List ℕ). putsOf (laid (runAt 0 (n - 1)) z) (toLe32 rev)) en
@@ -132,17 +137,17 @@ module _ (old new : List ℕ) (dir : LfsMdir) (w : Writable old new dir) (rev ct
   entries = ee ∙ ap (λ (z : Emit). emits (standing z (p .block)) I) es
 
   pub pass-made : 1 + q .run .at ≡ min n (compactStores I)
-  pass-made = stored-made (length new) (n - 1) rev ct I p e b q from entries eq (compaction-good old (w .regular))
+  pass-made = stored-made (length new) (n - 1) rev ct I p e b q from entries eq (compaction-good old (w .regular) prog)
       (omega (arith, w .room)) n refl some
 
-  pub pass-block : q .block ≡ writtenTo old new rev ct n
-  pass-block = stored-block (length new) (n - 1) rev ct I p e b q from entries eq (compaction-good old (w .regular))
+  pub pass-block : q .block ≡ writtenTo prog old new rev ct n
+  pass-block = stored-block (length new) (n - 1) rev ct I p e b q from entries eq (compaction-good old (w .regular) prog)
       (omega (arith, w .room)) new n refl refl some
 
 -- no store: the block as it was
-pub pass-none : (old new : List ℕ) (rev ct n : ℕ) → n ≡ 0 → (0 ≡ min n (compactStores (compactionItems (log old))))
-    × (new ≡ writtenTo old new rev ct n)
+pub pass-none : (prog : ℕ) (old new : List ℕ) (rev ct n : ℕ) → n ≡ 0 → (0 ≡ min n (compactStores (renewedItems prog old)))
+    × (new ≡ writtenTo prog old new rev ct n)
 unfolding compacting
-pass-none old new rev ct n h =
-    let z : min n (compactStores (compactionItems (log old))) ≡ 0 = omega arith in
+pass-none prog old new rev ct n h =
+    let z : min n (compactStores (renewedItems prog old)) ≡ 0 = omega arith in
     rw z (refl, refl)

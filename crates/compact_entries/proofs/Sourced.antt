@@ -98,11 +98,12 @@ module _ (prog : ℕ) (b : List ℕ) (e : Emit) (dir : LfsMdir) (d : Renewing pr
   forward-prog = record { low = d .low; high = d .high; near = omega (arith, held-within) }
 
   pub all-done : (f : LfsFcrc) → f ≡ carriedFor prog (length b) (a .end) → (r : Standing) → r ≡ emits a (forwardItems f)
-      → r ≡ emits s (withForward prog (length b) (s .end) (compactionItems (log b)))
+      → r ≡ emits s (withForward prog (length b) 4 (compactionItems (log b)))
   unfolding withForward
   all-done f ef r er =
       let I : List Item = compactionItems (log b) in
-      let end : a .end ≡ s .end + entriesLength I = ap (λ (z : Standing). z .end) ea ∙ emits-end I s in
+      let end : a .end ≡ 4 + entriesLength I = ap (λ (z : Standing). z .end) ea ∙ emits-end I s
+      ∙ ap (λ (k : ℕ). k + entriesLength I) (es ∙ d .start) in
       er ∙ ap (λ (g : LfsFcrc). emits a (forwardItems g)) (ef ∙ ap (carriedFor prog (length b)) end)
-      ∙ ap (λ (z : Standing). emits z (forwardItems (carriedFor prog (length b) (s .end + entriesLength I)))) ea
-      ∙ sym (emits-app I (forwardItems (carriedFor prog (length b) (s .end + entriesLength I))) s)
+      ∙ ap (λ (z : Standing). emits z (forwardItems (carriedFor prog (length b) (4 + entriesLength I)))) ea
+      ∙ sym (emits-app I (forwardItems (carriedFor prog (length b) (4 + entriesLength I))) s)

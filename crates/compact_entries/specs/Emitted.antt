@@ -78,8 +78,9 @@ pub record Read (b : List ℕ) (e : Emit) (dir : LfsMdir) : Type 0 where
   pub split′ : dir .split ≡ splitOf false (log b)
   pub tail′ : dir .tail ≡ tailOf noTail (log b)
 
--- and a program size that is none of document 01's broken ones
+-- and a program size that is none of document 01's broken ones; the entries begin behind the revision
 pub record Renewing (prog : ℕ) (b : List ℕ) (e : Emit) (dir : LfsMdir) : Type 0 where
   pub low : 4 ≤ prog
   pub high : prog ≤ 512
+  pub start : e .end ≡ 4
   pub read : Read b e dir

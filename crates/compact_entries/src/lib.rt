@@ -165,7 +165,7 @@ fn forward(new: &mut [u8], e: Emit, fcrc: LfsFcrc) -> Emit
 pub fn entries(prog: u32, old: &[u8], new: &mut [u8], e: Emit, dir: LfsMdir) -> Emit
     requires { ⌜ Renewing prog (now old) e dir ⌝ }
     ensures { λ r. ⌜ standing r (now (new .exit)) ≡ emits (standing e (now (new .entry)))
-        (withForward prog (length (now (old .entry))) (e .end) (compactionItems (log (now (old .entry))))) ⌝ }
+        (withForward prog (length (now (old .entry))) 4 (compactionItems (log (now (old .entry))))) ⌝ }
 {
     let w = held(old, new, e, dir);
     let fcrc = commit_room::forward(prog, old.len(), w.end);

@@ -276,7 +276,12 @@ impl History<'_> {
         self.case = start::fitting(&mut self.random, self.case.geometry, left);
         self.directory = read(&self.case);
         let limit = self.random.below(200) as u32;
-        self.limited("compaction that just leaves a unit", Work::Compact, limit, false);
+        self.limited(
+            "compaction that just leaves a unit",
+            Work::Compact,
+            limit,
+            false,
+        );
         self.compact("compaction that just leaves a unit");
         (self.case, self.directory) = kept;
     }

@@ -94,16 +94,14 @@ impl Reads {
     fn forward(&mut self, step: &Step, blocks: &Blocks, dir: Mdir, text: &dyn Fn() -> String) {
         let which = usize::from(dir.pair[0] == blocks.numbers[1]);
         let carried = Carried::of(blocks.geometry, blocks.images[which], &dir);
-        let call = match step.task.work {
-            Work::Commit { .. } => "commits",
-            Work::Compact => "compactions",
+        let kind = match (step.task.work, carried.carried, dir.erased) {
+            (Work::Commit { .. }, true, _) => "carried by a commit",
+            (Work::Compact, true, _) => "carried by a compaction",
+            (Work::Compact, false, _) => "not by a compaction",
+            (Work::Commit { .. }, false, 0) => "not by a commit",
+            (Work::Commit { .. }, false, _) => "not by a commit, but an earlier one fits",
         };
-        let kind = match (carried.carried, dir.erased) {
-            (true, _) => "carried",
-            (false, 0) => "not carried",
-            (false, _) => "not carried, erased by an earlier one",
-        };
-        self.forwards.outcome_of(call, kind);
+        self.forwards.outcome_of("forward check", kind);
         self.forwards.outcome_of("room for it", carried.room());
         if carried.carried {
             self.forwards.same(1, dir.erased, text);

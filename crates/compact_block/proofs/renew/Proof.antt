@@ -18,8 +18,8 @@ returns c =
 
 entries-requires : tie.Need-entries-requires
 entries-requires c κs =
-    rw (c .begin .ensures) (reads-all _ _ _ _ (c .before .before .before .before .before .before .before .before .pre
-    .recorded)
+    let w = c .before .before .before .before .before .before .before .before .pre in
+    rw (c .begin .ensures) (reads-all _ (w .low) (w .high) _ _ _ _ (w .recorded)
     (widest (c .before .before .before .before .before .rules-of .result) _ (sym (c .before .before .before .before
     .log-regular .ensures) ∙ not-false _ (c .before .before .before .if1
     .left))))

@@ -7,18 +7,19 @@ use Rattle.compact_block.proofs.write.Statement.{statement}
 use Rattle.compact_block.proofs.write.Tie as tie
 
 returns : tie.Need-returns
-returns c = pass-none _ _ _ _ _ (c .if1 .taken)
+returns c = pass-none (c .before .before .before .args .prog) (c .before .before .before .args .old .now) _ _
+    (c .before .before .before .args .tag) _ (c .if1 .taken)
 
 entries-requires : tie.Need-entries-requires
-entries-requires c κs = rw (c .begin .ensures)
-    (reads-all _ _ _ _ (c .before .before .before .before .before .before .before .before .before .before .before
-    .before .before .pre .recorded) (c .before .before .before .before .before .before .before .before .before .before
-    .before .before .before .pre .regular))
+entries-requires c κs =
+    let w = c .before .before .before .before .before .before .before .before .before .before .before .before .before
+    .pre in
+    rw (c .begin .ensures) (reads-all _ (w .low) (w .high) _ _ _ _ (w .recorded) (w .regular))
 
 cast-result : tie.Need-cast-result
 cast-result c = omega (
   arith,
-  pass-made _ _ _ (c .before .before .before .before .before .before .before .before .before
+  pass-made _ _ _ _ (c .before .before .before .before .before .before .before .before .before
       .before .before .before .before .before .before .before .before .before .before .before .before .pre) _ _ _
       (c .before .before .before .before .before .before .before .before .before .before .before .before .before .before
       .before .before .before .before .if1 .left) _ (c .before .before .before .before .before .before .before .before
@@ -35,7 +36,7 @@ cast-result c = omega (
 add-result : tie.Need-add-result
 add-result c = omega (
   arith,
-  pass-made _ _ _ (c .before .before .before .before .before .before .before .before .before
+  pass-made _ _ _ _ (c .before .before .before .before .before .before .before .before .before
       .before .before .before .before .before .before .before .before .before .before .before .before .pre) _ _ _
       (c .before .before .before .before .before .before .before .before .before .before .before .before .before .before
       .before .before .before .before .if1 .left) _ (c .before .before .before .before .before .before .before .before
@@ -51,7 +52,7 @@ add-result c = omega (
 
 returns-2 : tie.Need-returns-2
 returns-2 c = (
-  pass-made _ _ _ (c .before .before .before .before .before .before .before .before .before .before
+  pass-made _ _ _ _ (c .before .before .before .before .before .before .before .before .before .before
       .before .before .before .before .before .before .before .before .before .before .before .pre) _ _ _
       (c .before .before .before .before .before .before .before .before .before .before .before .before .before .before
       .before .before .before .before .if1 .left) _ (c .before .before .before .before .before .before .before .before
@@ -60,7 +61,7 @@ returns-2 c = (
       .ensures) _ _ (c .before .before .before .before .before .before .before .before .begin .ensures) _
       (c .before .before .before .before .before .before .before .entries .ensures) _
       (c .before .before .before .check .ensures),
-  pass-block _ _ _
+  pass-block _ _ _ _
       (c .before .before .before .before .before .before .before .before .before .before .before .before .before .before
       .before .before .before .before .before .before .before .pre) _ _ _
       (c .before .before .before .before .before .before .before .before .before .before .before .before .before .before
