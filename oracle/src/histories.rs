@@ -74,29 +74,33 @@ pub fn compare(voice: &impl Writes, parts: u64) -> Vec<Subject> {
             all.both(voice, step);
         });
     }
-    let mut calls = Subject::new("writing: the calls, by the second implementation");
-    for check in [
-        all.commit,
-        all.commit_stores,
-        all.compact,
-        all.compact_stores,
-        all.both,
-    ] {
-        calls.add(check);
-    }
-    let mut read = Subject::new("writing: what the Rust reads afterwards");
-    for check in [
-        all.reads.fetches,
-        all.reads.forwards,
-        all.reads.lookups,
-        all.reads.cuts,
-    ] {
-        read.add(check);
-    }
-    vec![calls, read]
+    all.subjects()
 }
 
 impl Histories {
+    fn subjects(self) -> Vec<Subject> {
+        let mut calls = Subject::new("writing: the calls, by the second implementation");
+        for check in [
+            self.commit,
+            self.commit_stores,
+            self.compact,
+            self.compact_stores,
+            self.both,
+        ] {
+            calls.add(check);
+        }
+        let mut read = Subject::new("writing: what the Rust reads afterwards");
+        for check in [
+            self.reads.fetches,
+            self.reads.forwards,
+            self.reads.lookups,
+            self.reads.cuts,
+        ] {
+            read.add(check);
+        }
+        vec![calls, read]
+    }
+
     fn judge(&mut self, voice: &impl Writes, step: &Step) {
         if !voice.can(&step.task.work) {
             return;

@@ -46,12 +46,12 @@ static void took(const char *name, long bytes) {
 #define PAIR b0, BLOCK, b1, BLOCK, 0, 1
 enum { DOCUMENT = LANOLIN_RULES_DOCUMENT, LITTLEFS = LANOLIN_RULES_LITTLEFS, NONE };
 
-/* The first commit, a check alone: what a writer finds when it is called for the first time. */
-static void format(void) {
+/* The first commit, a check alone, one program unit long: what a writer finds when it is called for the first time. */
+static void format(uint32_t prog_size) {
     memset(b0, 0xff, BLOCK);
     memset(b1, 0xff, BLOCK);
     MUST(lanolin_put_le32(b0, BLOCK, 0, 1) == 0);
-    MUST(lanolin_put_be32(b0, BLOCK, 4, 0xffffffff ^ lanolin_mktag(0x500, 0x3ff, 8)) == 0);
+    MUST(lanolin_put_be32(b0, BLOCK, 4, 0xffffffff ^ lanolin_mktag(0x500, 0x3ff, prog_size - 8)) == 0);
     MUST(lanolin_put_le32(b0, BLOCK, 8, lanolin_crc(0xffffffff, b0, 8)) == 0);
 }
 
@@ -152,6 +152,23 @@ static __attribute__((noinline)) void compacting(uint32_t rules) {
     MUST(lanolin_fetch(G, PAIR, 0, 0).dir.count == SLOTS);
 }
 
+/* A block of one program unit compacted, and one of two committed to: no unit is left for a forward check. */
+static __attribute__((noinline)) void without_forward(void) {
+    const lanolin_geometry one = {128, 128}, two = {256, 128};
+    lanolin_mdir dir;
+    format(128);
+    DEPTH(lanolin_compact, one, b0, 128, b1, 128, 0, 1, 0, 0, DOCUMENT);
+    dir = lanolin_fetch(one, b0, 128, b1, 128, 0, 1, 0, 0).dir;
+    MUST(dir.pair[0] == 1 && dir.off == 128 && !dir.forward);
+    format(128);
+    DEPTH(lanolin_commit, two, b0, 256, b1, 256, 0, 1, 0, 0, DOCUMENT, NULL, 0, NULL, 0);
+    dir = lanolin_fetch(two, b0, 256, b1, 256, 0, 1, 0, 0).dir;
+    MUST(dir.off == 256 && !dir.forward);
+    DEPTH(lanolin_compact, two, b0, 256, b1, 256, 0, 1, 0, 0, DOCUMENT); /* here one is */
+    dir = lanolin_fetch(two, b0, 256, b1, 256, 0, 1, 0, 0).dir;
+    MUST(dir.off == 128 && dir.forward && dir.erased);
+}
+
 #define TAG_LEAVES(OF) OF(isvalid) OF(isdelete) OF(type1) OF(type2) OF(type3) OF(chunk) OF(splice) OF(id) OF(size) \
     OF(dsize)
 #define TAG_DEPTH(leaf) DEPTH(lanolin_tag_##leaf, 0x4ff003ff);
@@ -187,7 +204,8 @@ static __attribute__((noinline)) void leaves(void) {
 
 int main(void) {
     leaves();
-    format();
+    without_forward();
+    format(PROG);
     DEPTH(lanolin_compact, G, PAIR, 0, 0, DOCUMENT); /* no slot */
     fill(SLOTS);
     reading();

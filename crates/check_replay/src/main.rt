@@ -5,6 +5,7 @@ use format::Altered;
 use format::Fetched;
 use format::Geometry;
 use format::Got;
+use format::LfsFcrc;
 use format::LfsGstate;
 use format::LfsMdir;
 use format::LfsPair;
@@ -119,6 +120,12 @@ fn mdir(head: [u8; 128]) -> LfsMdir {
         tail: LfsPair {
             n0: at(head, TAIL),
             n1: at(head, TAIL + 1),
+        },
+        // the Rust's record has none, and it is not compared
+        fcrc: LfsFcrc {
+            seen: false,
+            size: 0,
+            sum: 0,
         },
     }
 }

@@ -10,6 +10,7 @@ use format::Fetched;
 use format::Found;
 use format::Got;
 use format::Informed;
+use format::LfsFcrc;
 use format::LfsMdir;
 use format::LfsPair;
 use format::Named;
@@ -155,6 +156,11 @@ fn zero_mdir() -> LfsMdir
         erased: false,
         split: false,
         tail: LfsPair { n0: 0, n1: 0 },
+        fcrc: LfsFcrc {
+            seen: false,
+            size: 0,
+            sum: 0,
+        },
     }
 }
 

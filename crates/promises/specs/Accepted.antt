@@ -20,7 +20,7 @@ use Rattle.format.specs.Stores.{coincides}
 use Rattle.format.specs.Entries.{itemsOf, good, judge}
 use Rattle.format.specs.Room.{roomClean, roomOf}
 use Rattle.format.specs.Writer.{roundedEnd, checkSize, checkAt, commitFits, blockAt, isSecond, accepted}
-use Rattle.format.specs.Writer.{placed, appended, verdictOf}
+use Rattle.format.specs.Writer.{withForward, placed, appended, verdictOf}
 use Rattle.format.specs.Compaction.{compactionItems, compactAccepted, compactCheckAt, placedAnew, compactable}
 use Rattle.format.specs.Compaction.{compactVerdict}
 use Rattle.format.specs.declared.Geometry.{Geometry}
@@ -49,14 +49,14 @@ module _ (g : Geometry) (b0 b1 : List ℕ) (n0 n1 count seed rules : ℕ) (entri
     -- not -201: no entry "is bad", from the record's count on
     pub slots : ℕ
     pub judged : judge dat 0 (countOf 0 (log b)) entries ≡ good slots
-    -- not -28: "the rounded end" does not pass the block
+    -- not -28: "the rounded end" of what is really laid does not pass the block (Forward: nor does that of the entries)
     pub room : ltb (length b) (roundedEnd (g .«prog_size») (checkAt (log b) is)) ≡ false
     -- none of -211, -212, -213: "the room behind the end" is clean (Room takes it apart)
     pub clean : roomClean (g .«prog_size») b (logEnd (log b)) (logEndTag (log b)) ≡ true
     -- not -204: no "checksum coincidence"
     pub lucky : coincides allOnes (logEndTag (log b)) is (checkTag size) ≡ false
-    -- what it writes
-    pub items : is ≡ itemsOf dat entries
+    -- what it writes: the entries, and behind them the forward check, or none
+    pub items : is ≡ withForward (g .«prog_size») (length b) (logEnd (log b)) (itemsOf dat entries)
     pub check : size ≡ checkSize (g .«prog_size») (checkAt (log b) is)
 
 -- of a verdict that says the same
@@ -84,7 +84,7 @@ module _ (g : Geometry) (b0 b1 : List ℕ) (n0 n1 count seed rules : ℕ) (entri
       dat) second is size (p .1) in
       let w : Bool = isSecond n0 (f .m) in
       let b : List ℕ = blockAt (isSecond n0 (f .m)) b0 b1 in
-      let I : List Item = itemsOf dat entries in
+      let I : List Item = withForward prog (length b) (logEnd (log b)) (itemsOf dat entries) in
       let q = past (not (Regular (rulesOf rules) (log b))) Irregular _ second is size (f .then) in
       let j = good-then (judge dat 0 (countOf 0 (log b)) entries) _ second is size (q .1) in
       let r = past (ltb (length b) (roundedEnd prog (checkAt (log b) I))) NoSpace _ second is size (j .then) in
@@ -151,9 +151,9 @@ module _ (g : Geometry) (b0 b1 : List ℕ) (n0 n1 count seed rules : ℕ) where
     pub room : ltb (length b) (roundedEnd (g .«prog_size») (compactCheckAt is)) ≡ false
     -- not -204
     pub lucky : coincides (crc allOnes (toLe32 rev)) allOnes is (checkTag size) ≡ false
-    -- what it writes: "revision plus one (wrapping) and one commit"
+    -- what it writes: "revision plus one (wrapping) and one commit", with the forward check, or none
     pub next : rev ≡ plus32 (le32 b) 1
-    pub items : is ≡ compactionItems (log b)
+    pub items : is ≡ withForward (g .«prog_size») (length b) 4 (compactionItems (log b))
     pub check : size ≡ checkSize (g .«prog_size») (compactCheckAt is)
 
 alike-anew : (g : Geometry) (b0 b1 : List ℕ) (n0 n1 count seed rules : ℕ) (w v : Bool) (r s : ℕ) (is js : List Item)
@@ -175,7 +175,7 @@ module _ (g : Geometry) (b0 b1 : List ℕ) (n0 n1 count seed rules : ℕ) (secon
       let t : compactable (rulesOf rules) p (isSecond n0 (f .0)) (blockAt (isSecond n0 (f .0)) b0 b1)
       (log (blockAt (isSecond n0 (f .0)) b0 b1)) ≡ compactAccepted second rev is size = rw (f .2) at (k .1) in
       let b : List ℕ = blockAt (isSecond n0 (f .0)) b0 b1 in
-      let I : List Item = compactionItems (log b) in
+      let I : List Item = withForward p (length b) 4 (compactionItems (log b)) in
       let R : ℕ = plus32 (le32 b) 1 in
       let q = anew.past (not (Regular (rulesOf rules) (log b))) Irregular _ second rev is size t in
       let r = anew.past (ltb (length b) (roundedEnd p (compactCheckAt I))) NoSpace _ second rev is size (q .1) in

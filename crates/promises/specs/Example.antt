@@ -28,7 +28,7 @@ use Rattle.format.specs.Entries.{entryBody, judge, itemsOf}
 use Rattle.format.specs.Directory.{empty, upd, dir, reaching, apply, applyAll, act, acts, dirOf, moveOf}
 use Rattle.format.specs.Room.{roomOf}
 use Rattle.format.specs.Writer.{unlimited, roundedEnd, checkSize, commitFits, placed, appended, accepted}
-use Rattle.format.specs.Writer.{verdictOf, Images, commitImages}
+use Rattle.format.specs.Writer.{unitCheck, forwardItem, carries, carriedFor, withForward, verdictOf, Images, commitImages}
 use Rattle.format.specs.Compaction.{slotItems, dirItems, compactionItems, placedAnew, compactable, compactAccepted}
 use Rattle.format.specs.Compaction.{compactVerdict, compactImages}
 use Rattle.format.specs.Machine.{machineOf, ran, asked, name, attribute}
@@ -102,10 +102,11 @@ pub upTo : ℕ → List ℕ
 upTo zero = zero ∷ []
 upTo (suc n) = upTo n ++ (suc n ∷ [])
 
--- 16 stores: after each of the first 15 the old deadline, after the last the new one
-pub commit-cut : map (λ n. seen (commitImages geometry first second 0 1 0 0 0 (deadline ∷ []) hour n)) (upTo 17)
-    ≡ replicate 16 old ++ replicate 2 (record { block = 0; rev = 1; end = 64; due = hour })
-unfolding upTo seenBy commitImages verdictOf commitFits pairFits geometryFits fetchOf tooHigh view rank log committed
+-- 28 stores, the entry's 8, the forward check's 12 and the check's 8: after each of the first 27 the old deadline, after
+-- the last the new one
+pub commit-cut : map (λ n. seen (commitImages geometry first second 0 1 0 0 0 (deadline ∷ []) hour n)) (upTo 29)
+    ≡ replicate 28 old ++ replicate 2 (record { block = 0; rev = 1; end = 80; due = hour })
+unfolding upTo seenBy withForward carriedFor carries commitImages verdictOf commitFits pairFits geometryFits fetchOf tooHigh view rank log committed
     walk walkFrom walkIn classOf readBehind bodyLength tagLength tagFlipped be32 le32 toBe32 toLe32 xor crc crcByte
     crcBits crcBit mdirOf erasedOf stoppedStraight span eventLength tagAfter countOf counted splitOf tailOf forwardOf
     seedOf appended Regular regularFrom ruleOf ruleHolds countAfter growsAfter countRaised judge entryBody placed
@@ -114,11 +115,11 @@ unfolding upTo seenBy commitImages verdictOf commitFits pairFits geometryFits fe
     searched back backs wlook splicedAt asIds
 commit-cut = refl
 
--- 40 stores, the first the erase: after each of the first 39 the old pair, after the last the second block with the
+-- 52 stores, the first the erase: after each of the first 51 the old pair, after the last the second block with the
 -- next revision
-pub compaction-cut : map (λ n. seen (compactImages geometry first second 0 1 0 0 0 n)) (upTo 41)
-    ≡ replicate 40 old ++ replicate 2 (record { block = 1; rev = 2; end = 48; due = day })
-unfolding upTo seenBy compactImages compactVerdict compactable placedAnew compacting compactBytes compactionItems
+pub compaction-cut : map (λ n. seen (compactImages geometry first second 0 1 0 0 0 n)) (upTo 53)
+    ≡ replicate 52 old ++ replicate 2 (record { block = 1; rev = 2; end = 64; due = day })
+unfolding upTo seenBy withForward carriedFor carries compactImages compactVerdict compactable placedAnew compacting compactBytes compactionItems
     dirItems slotItems dirOf dir acts act apply reaching upd empty moveOf verdictOf commitFits pairFits geometryFits
     fetchOf
     tooHigh view rank log committed walk walkFrom walkIn classOf readBehind bodyLength tagLength tagFlipped be32 le32
@@ -131,8 +132,8 @@ compaction-cut = refl
 
 -- both are accepted, so `commit-stopped` and `compact-stopped` speak of them
 pub takes-commit : verdictOf geometry first second 0 1 0 0 0 (deadline ∷ []) hour
-    ≡ accepted false (itemsOf hour (deadline ∷ [])) 4
-unfolding verdictOf commitFits pairFits geometryFits fetchOf tooHigh view rank log committed walk walkFrom walkIn
+    ≡ accepted false (itemsOf hour (deadline ∷ []) ++ (forwardItem (unitCheck 16) ∷ [])) 8
+unfolding withForward carriedFor carries verdictOf commitFits pairFits geometryFits fetchOf tooHigh view rank log committed walk walkFrom walkIn
     classOf readBehind bodyLength tagLength tagFlipped be32 le32 toBe32 toLe32 xor crc crcByte crcBits crcBit mdirOf
     erasedOf stoppedStraight span eventLength tagAfter countOf counted splitOf tailOf forwardOf seedOf appended Regular
     regularFrom ruleOf ruleHolds countAfter growsAfter countRaised judge entryBody placed roundedEnd checkSize roomOf
@@ -142,8 +143,8 @@ unfolding verdictOf commitFits pairFits geometryFits fetchOf tooHigh view rank l
 takes-commit = refl
 
 pub takes-compaction : compactVerdict geometry first second 0 1 0 0 0 ≡ compactAccepted false 2
-    (compactionItems (log first)) 13
-unfolding compactVerdict compactable placedAnew compactionItems dirItems slotItems dirOf dir acts act apply reaching upd
+    (compactionItems (log first) ++ (forwardItem (unitCheck 16) ∷ [])) 17
+unfolding withForward carriedFor carries compactVerdict compactable placedAnew compactionItems dirItems slotItems dirOf dir acts act apply reaching upd
     empty moveOf verdictOf commitFits pairFits geometryFits fetchOf tooHigh view rank log committed walk walkFrom walkIn
     classOf readBehind bodyLength tagLength tagFlipped be32 le32 toBe32 toLe32 xor crc crcByte crcBits crcBit mdirOf
     erasedOf stoppedStraight span eventLength tagAfter countOf counted splitOf tailOf forwardOf seedOf appended Regular
@@ -161,7 +162,7 @@ pub commit-example : (n : ℕ)
     (commitImages geometry first second 0 1 0 0 0 (deadline ∷ []) hour unlimited)
     (machineOf (log first)) (ran (machineOf (log first)) (written (itemsOf hour (deadline ∷ [])) []))
 commit-example n = commit-stopped geometry first second 0 1 0 0 0 (deadline ∷ []) hour n false
-    (itemsOf hour (deadline ∷ [])) 4 takes-commit
+    (itemsOf hour (deadline ∷ []) ++ (forwardItem (unitCheck 16) ∷ [])) 8 takes-commit
 
 -- which is the new deadline, and the name of before
 pub holds-the-hour : (asked (ran (machineOf (log first)) (written (itemsOf hour (deadline ∷ [])) [])) (attribute 0 0x74)
@@ -193,7 +194,7 @@ pub compaction-example : (n : ℕ)
     (machineOf (log first)) (machineOf (log first))
 compaction-example n =
     compact-stopped geometry first second 0 1 0 0 0 n (bytes-of first (are-bytes .0)) (bytes-of second (are-bytes .1))
-    false 2 (compactionItems (log first)) 13 takes-compaction
+    false 2 (compactionItems (log first) ++ (forwardItem (unitCheck 16) ∷ [])) 17 takes-compaction
 
 abbrev stopped : Images
 stopped = commitImages geometry first second 0 1 0 0 0 (deadline ∷ []) hour 10
@@ -201,7 +202,7 @@ stopped = commitImages geometry first second 0 1 0 0 0 (deadline ∷ []) hour 10
 -- A restart fetches from a seed of its own, and with the block count that it knows: stopped after ten stores, the pair
 -- is found with the old end and the old deadline from the seed 7 and with two blocks.
 pub other-seed : seenBy (stopped .b0) (stopped .b1) (fetchOf geometry (stopped .b0) (stopped .b1) 0 1 2 7) ≡ old
-unfolding seenBy commitImages verdictOf commitFits pairFits geometryFits fetchOf tooHigh view rank log committed walk
+unfolding seenBy withForward carriedFor carries commitImages verdictOf commitFits pairFits geometryFits fetchOf tooHigh view rank log committed walk
     walkFrom walkIn classOf readBehind bodyLength tagLength tagFlipped be32 le32 toBe32 toLe32 xor crc crcByte crcBits
     crcBit mdirOf erasedOf stoppedStraight span eventLength tagAfter countOf counted splitOf tailOf forwardOf seedOf
     appended Regular regularFrom ruleOf ruleHolds countAfter growsAfter countRaised judge entryBody placed roundedEnd

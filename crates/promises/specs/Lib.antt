@@ -9,6 +9,7 @@ pub mod Exactly
 pub mod Accepted
 pub mod Room
 pub mod Torn
+pub mod Forward
 pub mod Decided
 pub mod Possible
 pub mod PossibleLookups

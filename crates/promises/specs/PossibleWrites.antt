@@ -18,7 +18,7 @@ use Rattle.format.specs.Commit.{Item, checkTag}
 use Rattle.format.specs.Stores.{allErased, coincides}
 use Rattle.format.specs.Entries.{itemsOf, Judged, bad, good, judge}
 use Rattle.format.specs.Room.{roomOf}
-use Rattle.format.specs.Writer.{roundedEnd, checkSize, checkAt, commitFits, blockAt, roomThen, isSecond}
+use Rattle.format.specs.Writer.{roundedEnd, checkSize, withForward, checkAt, commitFits, blockAt, roomThen, isSecond}
 use Rattle.format.specs.Writer.{Verdict, refused, accepted, placed, appended, judgedBy, fetchedThen, verdictOf}
 use Rattle.format.specs.Writer.{Images, unlimited, answerOf, storesMade, commitImages, commitOf, commitStoresOf}
 use Rattle.format.specs.Compaction.{CompactVerdict, compactRefused, compactAccepted, compactionItems, compactCheckAt}
@@ -74,8 +74,8 @@ appended-possible : (r : Rules) (prog : ℕ) (second : Bool) (b : List ℕ) (es 
 unfolding appended
 appended-possible r prog second b es entries dat =
     through Commits (not (Regular r es)) commit202
-    (judged-possible (judge dat 0 (countOf 0 es) entries) (placed prog second b es (itemsOf dat entries))
-    (placed-possible prog second b es (itemsOf dat entries)))
+    (judged-possible (judge dat 0 (countOf 0 es) entries) _
+    (placed-possible prog second b es (withForward prog (length b) (logEnd es) (itemsOf dat entries))))
 
 fetched-then : (f : Fetched) (on : LfsMdir → Verdict) → Fetches f → ((m : LfsMdir) → Commits (on m))
     → Commits (fetchedThen f on)
@@ -110,7 +110,7 @@ compactable-possible : (r : Rules) (prog : ℕ) (second : Bool) (b : List ℕ) (
 unfolding compactable
 compactable-possible r prog second b es =
     through Compacts (not (Regular r es)) compact202
-    (anew-possible prog (length b) second (plus32 (le32 b) 1) (compactionItems es))
+    (anew-possible prog (length b) second (plus32 (le32 b) 1) (withForward prog (length b) 4 (compactionItems es)))
 
 compact-fetched : (r : Rules) (prog : ℕ) (b0 b1 : List ℕ) (n0 : ℕ) (f : Fetched) → Fetches f
     → Compacts (compactFetched r prog b0 b1 n0 f)

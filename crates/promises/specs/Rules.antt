@@ -11,7 +11,7 @@ use native.Mathlib.Omega.{arith}
 use lib.ListN.{length, take, drop, set, getD}
 use Rattle.format.specs.Tag.{tagType3, tagId, tagSize}
 use Rattle.format.specs.Walk.{Event, ent, chk, inv}
-use Rattle.format.specs.Log.{log}
+use Rattle.format.specs.Log.{log, logEnd}
 use Rattle.format.specs.Regular.{Rule, ruleOf, ruleHolds, countAfter, between, regularFrom, Regular}
 use Rattle.format.specs.Directory.{Slot, empty, upd, Act, mk, rm, put, skip, reaching, apply, dir, applyAll, acts}
 use Rattle.format.specs.Directory.{dirOf}
@@ -19,7 +19,7 @@ use Rattle.format.specs.Word.{le32, plus32}
 use Rattle.format.specs.Record.{countOf}
 use Rattle.format.specs.Fetch.{fetchOf}
 use Rattle.format.specs.Writer.{refused, blockAt, isSecond, commitFits, placed, judgedBy, appended}
-use Rattle.format.specs.Writer.{fetchedThen, verdictOf}
+use Rattle.format.specs.Writer.{withForward, fetchedThen, verdictOf}
 use Rattle.format.specs.Compaction.{compactionItems, compactRefused, placedAnew, compactable}
 use Rattle.format.specs.Compaction.{compactFetched, compactVerdict}
 use Rattle.format.specs.Entries.{itemsOf, judge}
@@ -125,7 +125,8 @@ module _ (g : Geometry) (b0 b1 : List ℕ) (n0 n1 count seed : ℕ) where
       go true (fetched.Refused r) h = refl
       go true (fetched.Found m s) h = either-rule (log (block m)) (refused Irregular)
           (judgedBy (judge dat 0 (countOf 0 (log (block m))) entries)
-          (placed (g .«prog_size») (isSecond n0 m) (block m) (log (block m)) (itemsOf dat entries))) h
+          (placed (g .«prog_size») (isSecond n0 m) (block m) (log (block m))
+          (withForward (g .«prog_size») (length (block m)) (logEnd (log (block m))) (itemsOf dat entries)))) h
 
   pub compact-same : (compactVerdict g b0 b1 n0 n1 count seed 0 ≡ compactRefused Irregular → ⊥)
       → compactVerdict g b0 b1 n0 n1 count seed 1 ≡ compactVerdict g b0 b1 n0 n1 count seed 0
@@ -137,4 +138,5 @@ module _ (g : Geometry) (b0 b1 : List ℕ) (n0 n1 count seed : ℕ) where
       go (fetched.Refused r) h = refl
       go (fetched.Found m s) h = either-rule (log (block m)) (compactRefused Irregular)
           (placedAnew (g .«prog_size») (length (block m)) (isSecond n0 m)
-          (plus32 (le32 (block m)) 1) (compactionItems (log (block m)))) h
+          (plus32 (le32 (block m)) 1)
+          (withForward (g .«prog_size») (length (block m)) 4 (compactionItems (log (block m))))) h

@@ -5,7 +5,7 @@
 
 use super::ask::{After, Step};
 use super::carried::Carried;
-use crate::calls::write::{Answer, Work};
+use crate::calls::write::{Answer, Committed, Work};
 use crate::calls::{Blocks, Fetch, Fetched, Gstate, Lookup, Mdir, Query, NOENT};
 use crate::device::Rust;
 use crate::model::*;
@@ -62,12 +62,7 @@ impl Reads {
         };
         match (&step.after, step.truth.answer) {
             (After::Finished, Answer::Committed(answer)) => {
-                let Fetched { result, dir, seed } = self.rust.fetch(&fetch);
-                let said = (answer.result, answer.dir.without_forward(), answer.seed);
-                self.fetches.same((result, dir, seed), said, text);
-                self.fetches.outcome_of("pairs", step.case.kind);
-                self.forward(step, &fetch.blocks, dir, text);
-                self.directory(fetch.blocks, dir, step.directories[1], step.types, text);
+                self.finished(step, &fetch, &answer, text);
             }
             (
                 After::Cut {
@@ -87,6 +82,22 @@ impl Reads {
             }
             _ => {}
         }
+    }
+
+    /// The answered record, which but for its forward check the Rust has too.
+    fn finished(
+        &mut self,
+        step: &Step,
+        fetch: &Fetch,
+        answer: &Committed,
+        text: &dyn Fn() -> String,
+    ) {
+        let Fetched { result, dir, seed } = self.rust.fetch(fetch);
+        let said = (answer.result, answer.dir.without_forward(), answer.seed);
+        self.fetches.same((result, dir, seed), said, text);
+        self.fetches.outcome_of("pairs", step.case.kind);
+        self.forward(step, &fetch.blocks, dir, text);
+        self.directory(fetch.blocks, dir, step.directories[1], step.types, text);
     }
 
     /// A pair that carries a forward check is erased to who reads it as littlefs does:

@@ -1,0 +1,78 @@
+-- Document 02, L5: the forward check. What -28 accepts is what it accepted without one; behind a commit or a compaction
+-- that carried one fetch's erased mark is yes, and the record that is answered holds it; what a commit or a compaction
+-- leaves of the directory is what it left without one (Stopped). Assumes nothing.
+use mathlib.Core.Path.{_≡_, ap₂}
+use mathlib.Core.Bool.{Bool, true}
+use mathlib.Core.List.{List}
+use Prim.Native.Nat.{ℕ, _+_, _≤_}
+use lib.ListN.{length}
+use lib.Dec.{ltb}
+use Rattle.format.specs.Log.{log, logEnd}
+use Rattle.format.specs.Fetch.{mdirOf, fetchOf}
+use Rattle.format.specs.Commit.{Item}
+use Rattle.format.specs.Stores.{entriesLength}
+use Rattle.format.specs.Entries.{itemsOf}
+use Rattle.format.specs.Writer.{roundedEnd, unitCheck, carries, withForward, accepted, blockAt, verdictOf, unlimited}
+use Rattle.format.specs.Writer.{answerOf, commitImages, commitOf}
+use Rattle.format.specs.Compaction.{compactionItems, compactCheckAt, compactAccepted, compactVerdict, compactAnswer}
+use Rattle.format.specs.Compaction.{compactImages, compactOf}
+use Rattle.format.specs.Stopped.{Bytes}
+use Rattle.format.specs.declared.Geometry.{Geometry}
+use Rattle.format.specs.declared.LfsMdir.{LfsMdir}
+use Rattle.format.specs.declared.Entry.{Entry}
+use Rattle.format.specs.declared.Committed.{Committed}
+use Rattle.format.specs.declared.Committed.the-variants.{Done}
+use Rattle.theory.specs.Commit.ForwardCheck as forward
+use Rattle.theory.specs.Stopped.Commit as commit
+use Rattle.theory.specs.Stopped.Compaction as compaction
+
+-- ---- "the commit is laid without it, and -28 goes by the end that is really laid. So what -28 accepts is the same as
+-- before": of entries that begin at `from`, and any block size
+pub space-same : (prog block from : ℕ) (is : List Item) → 4 ≤ prog
+    → ltb block (roundedEnd prog (from + entriesLength (withForward prog block from is)))
+    ≡ ltb block (roundedEnd prog (from + entriesLength is))
+space-same prog block from is some = forward.space-same prog block from is some
+
+-- ---- a record whose mark is yes, and which holds the check of an erased unit
+pub record Marked (prog : ℕ) (answer : Committed) : Type 0 where
+  pub dir : LfsMdir
+  pub read : ℕ
+  pub done : answer ≡ Done dir read
+  pub erased : dir .erased ≡ true
+  pub held : dir .fcrc ≡ unitCheck prog
+
+module _ (g : Geometry) (b0 b1 : List ℕ) (n0 n1 count seed rules : ℕ) where
+  -- "After an accepted commit .. that carried a forward check, fetch's erased mark is yes"
+  pub commit-marked : (entries : List Entry) (dat : List ℕ) (second : Bool) (is : List Item) (size : ℕ)
+      → verdictOf g b0 b1 n0 n1 count seed rules entries dat ≡ accepted second is size
+      → carries (g .«prog_size») (length (blockAt second b0 b1))
+      (logEnd (log (blockAt second b0 b1)) + entriesLength (itemsOf dat entries)) ≡ true
+      → Marked (g .«prog_size») (commitOf g b0 b1 n0 n1 count seed rules entries dat)
+  unfolding commitOf mdirOf
+  commit-marked entries dat second is size h carried =
+      let found = commit.commit-found-again g b0 b1 n0 n1 count seed rules entries dat second is size h in
+      record {
+        dir = _;
+        read = _;
+        done = ap₂ answerOf found h;
+        erased = commit.commit-erased g b0 b1 n0 n1 count seed rules entries dat second is size h carried;
+        held = commit.commit-held g b0 b1 n0 n1 count seed rules entries dat second is size h carried;
+      }
+
+  -- ".. or compaction": of images that are bytes
+  pub compact-marked : (second : Bool) (rev : ℕ) (is : List Item) (size : ℕ)
+      → compactVerdict g b0 b1 n0 n1 count seed rules ≡ compactAccepted second rev is size
+      → Bytes (blockAt second b0 b1)
+      → carries (g .«prog_size») (length (blockAt second b0 b1))
+      (compactCheckAt (compactionItems (log (blockAt second b0 b1)))) ≡ true
+      → Marked (g .«prog_size») (compactOf g b0 b1 n0 n1 count seed rules)
+  unfolding compactOf mdirOf
+  compact-marked second rev is size h bytes carried =
+      let found = compaction.compact-found-again g b0 b1 n0 n1 count seed rules second rev is size h bytes in
+      record {
+        dir = _;
+        read = _;
+        done = ap₂ compactAnswer found h;
+        erased = compaction.compact-erased g b0 b1 n0 n1 count seed rules second rev is size h bytes carried;
+        held = compaction.compact-held g b0 b1 n0 n1 count seed rules second rev is size h bytes carried;
+      }
