@@ -940,6 +940,15 @@ static void test_forward_stopped(void) {
     }
 }
 
+static void test_forward(void) {
+    test_forward_just_fits();
+    test_forward_of_an_earlier_commit();
+    test_forward_of_others();
+    test_forward_is_not_looked_at();
+    test_forward_of_too_many();
+    test_forward_stopped();
+}
+
 /* ---- the names of lanolin.h, each by what the archive answers to it; document 01 says what that is */
 
 /* A commit behind the listing, on a copy. */
@@ -1144,12 +1153,7 @@ int main(void) {
     test_find_ids();
     test_find_refused();
     test_find_sizes();
-    test_forward_just_fits();
-    test_forward_of_an_earlier_commit();
-    test_forward_of_others();
-    test_forward_is_not_looked_at();
-    test_forward_of_too_many();
-    test_forward_stopped();
+    test_forward();
     test_names_of_refusals();
     test_no_room();
     test_names_of_types();

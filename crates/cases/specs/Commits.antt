@@ -1,7 +1,7 @@
 -- Document 01's listing block, and a commit behind it that sets the attribute 0x374 of slot 0 anew: by computation.
 -- Assumes nothing.
 use mathlib.Core.Path.{_≡_, refl}
-use mathlib.Core.Bool.{false}
+use mathlib.Core.Bool.{true, false}
 use mathlib.Core.List.{List, [], _∷_, _++_}
 use Prim.Native.Nat.{ℕ}
 use lib.ListN.{take}
@@ -18,7 +18,8 @@ use Rattle.format.specs.Commit.{commitBytes}
 use Rattle.format.specs.Stores.{erased, allErased, fill, entriesLength, appending, coincides}
 use Rattle.format.specs.Entries.{entryBody, judge}
 use Rattle.format.specs.Room.{erasedRun, firstUnerased, roomOf}
-use Rattle.format.specs.Writer.{roundedEnd, checkSize, commitFits, placed, appended, verdictOf, Images}
+use Rattle.format.specs.Writer.{roundedEnd, checkSize, carries, carriedFor, withForward, commitFits, placed}
+use Rattle.format.specs.Writer.{appended, verdictOf, Images}
 use Rattle.format.specs.Writer.{images, unlimited, commitImages, commitOf, commitStoresOf}
 use Rattle.format.specs.declared.Geometry.{Geometry}
 use Rattle.format.specs.declared.Entry.{Entry}
@@ -53,10 +54,10 @@ deadline = record { kind = 0x374; id = 0; off = 0; len = 4 }
 abbrev seconds : List ℕ
 seconds = 0x10 ∷ 0x0e ∷ 0x00 ∷ 0x00 ∷ []
 
--- the sixteen bytes of the commit, at 48: tag, data, check tag, checksum
+-- the 28 bytes of the commit, at 48: tag, data; the forward check's tag, program size and checksum; check tag, checksum
 abbrev more : List ℕ
-more = 0x67 ∷ 0x4f ∷ 0xfc ∷ 0x09 ∷ 0x10 ∷ 0x0e ∷ 0x00 ∷ 0x00 ∷ 0x67 ∷ 0x4f ∷ 0xfc ∷ 0x00 ∷ 0xf2 ∷ 0x6a ∷ 0x39 ∷ 0x72
-    ∷ []
+more = 0x67 ∷ 0x4f ∷ 0xfc ∷ 0x09 ∷ 0x10 ∷ 0x0e ∷ 0x00 ∷ 0x00 ∷ 0x68 ∷ 0xbf ∷ 0xfc ∷ 0x0c ∷ 0x10 ∷ 0x00 ∷ 0x00 ∷ 0x00
+    ∷ 0xe5 ∷ 0x39 ∷ 0x4c ∷ 0xc0 ∷ 0x0f ∷ 0xf0 ∷ 0x00 ∷ 0x00 ∷ 0x72 ∷ 0x6f ∷ 0x0e ∷ 0x8a ∷ []
 
 -- a slot created behind slot 0, and a name for it that reads past the buffer
 abbrev create : Entry
@@ -80,20 +81,21 @@ answer b es dat = commitOf geometry b second 0 1 0 0 0 es dat
 -- numbers
 listing : (image (deadline ∷ []) seconds 5 ≡ images (laid ++ erased 9 ++ take 5 more ++ erased 75) second)
     × (commitStoresOf geometry first second 0 1 0 0 0 (deadline ∷ []) seconds 5 ≡ stored.Made 5)
-    × (image (deadline ∷ []) seconds unlimited ≡ images (laid ++ erased 9 ++ more ++ erased 64) second)
-    × (commitStoresOf geometry first second 0 1 0 0 0 (deadline ∷ []) seconds 17 ≡ stored.Made 16)
+    × (image (deadline ∷ []) seconds unlimited ≡ images (laid ++ erased 9 ++ more ++ erased 52) second)
+    × (commitStoresOf geometry first second 0 1 0 0 0 (deadline ∷ []) seconds 29 ≡ stored.Made 28)
     × (answer first (deadline ∷ []) seconds
     ≡ committed.Done (record {
       pair = record { n0 = 0; n1 = 1 };
       rev = 1;
-      off = 64;
-      etag = 0x500f_fc04;
+      off = 80;
+      etag = 0x500f_fc08;
       count = 1;
-      erased = false;
+      erased = true;
       split = false;
       tail = noTail;
+      fcrc = record { seen = true; size = 16; sum = 0xc04c_39e5 };
     })
-    0x4cc2e8dd)
+    0x8431_4617)
     × (answer first (create ∷ past ∷ []) seconds ≡ committed.Refused (BadEntry 1))
     × (image (create ∷ past ∷ []) seconds 5 ≡ images first second)
     × (commitStoresOf geometry first second 0 1 0 0 0 (struct 68 ∷ []) (erased 69) 100 ≡ stored.Made 80)
@@ -104,7 +106,7 @@ listing : (image (deadline ∷ []) seconds 5 ≡ images (laid ++ erased 9 ++ tak
     × (answer flipped (deadline ∷ []) seconds ≡ committed.Refused TopBit)
     × (answer (laid ++ erased 88 ++ (0xfe ∷ [])) (deadline ∷ []) seconds ≡ committed.Refused (NotErased 127))
     × (commitOf geometry first second 7 7 0 0 0 [] [] ≡ committed.Refused Invalid)
-unfolding commitImages commitOf commitStoresOf verdictOf commitFits pairFits geometryFits fetchOf tooHigh view rank log
+unfolding withForward carriedFor carries commitImages commitOf commitStoresOf verdictOf commitFits pairFits geometryFits fetchOf tooHigh view rank log
     committed walk walkFrom walkIn classOf readBehind bodyLength tagLength tagFlipped be32 le32 toBe32 toLe32 xor crc
     crcByte crcBits crcBit mdirOf erasedOf stoppedStraight span eventLength tagAfter countOf counted splitOf tailOf
     forwardOf seedOf appended Regular regularFrom ruleOf ruleHolds countAfter growsAfter countRaised judge entryBody

@@ -2,6 +2,7 @@ pub mod Cases
 pub mod Leaves
 pub mod Listing
 pub mod Commits
+pub mod Forward
 pub mod Room
 pub mod Walks
 pub mod Rules

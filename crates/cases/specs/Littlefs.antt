@@ -21,7 +21,8 @@ use Rattle.format.specs.Commit.{Item, commitBytes}
 use Rattle.format.specs.Stores.{allErased, coincides, fill, entriesLength, appending}
 use Rattle.format.specs.Room.{roomOf}
 use Rattle.format.specs.Entries.{judge, entryBody}
-use Rattle.format.specs.Writer.{accepted, refused, commitFits, roundedEnd, checkSize, placed, appended, verdictOf}
+use Rattle.format.specs.Writer.{accepted, refused, commitFits, roundedEnd, checkSize, unitCheck, forwardItem, carries}
+use Rattle.format.specs.Writer.{carriedFor, withForward, placed, appended, verdictOf}
 use Rattle.format.specs.Compaction.{slotItems, dirItems, compactionItems, compactRefused, placedAnew, compactable}
 use Rattle.format.specs.Compaction.{compactVerdict}
 use Rattle.format.specs.Listing.{ascii, hexDigit, decimalIn, hexBytes, isPlain, nameByte, nameBytes, numberLine}
@@ -126,11 +127,11 @@ unfolding fetchInput blockText dirLines refusedLine slotLines attrLines attrLine
     le32 toLe32 xor crc crcByte crcBits crcBit
 texts = (refl, refl, refl)
 
--- a commit of nothing: by the three numbers
+-- a commit of nothing but the forward check: by the three numbers
 pub commits : (verdictOf geometry grown (blank 128) 0 1 0 0 0 [] [] ≡ refused Irregular)
-    × (verdictOf geometry grown (blank 128) 0 1 0 0 1 [] [] ≡ accepted false [] 12)
+    × (verdictOf geometry grown (blank 128) 0 1 0 0 1 [] [] ≡ accepted false (forwardItem (unitCheck 16) ∷ []) 16)
     × (verdictOf geometry grown (blank 128) 0 1 0 0 2 [] [] ≡ refused Invalid)
-unfolding verdictOf commitFits pairFits geometryFits fetchOf tooHigh view rank log committed walk walkFrom walkIn
+unfolding withForward carriedFor carries verdictOf commitFits pairFits geometryFits fetchOf tooHigh view rank log committed walk walkFrom walkIn
     classOf readBehind bodyLength tagLength tagFlipped be32 le32 toBe32 toLe32 xor crc crcByte crcBits crcBit mdirOf
     erasedOf stoppedStraight span eventLength tagAfter countOf counted splitOf tailOf forwardOf seedOf appended Regular
     regularFrom ruleOf ruleHolds countAfter growsAfter countRaised judge entryBody placed roundedEnd checkSize roomOf
@@ -155,7 +156,7 @@ wide =
 pub no-room : (compactVerdict geometry wide (blank 128) 0 1 0 0 0 ≡ compactRefused Irregular)
     × (compactVerdict geometry wide (blank 128) 0 1 0 0 1 ≡ compactRefused NoSpace)
     × (compactVerdict geometry wide (blank 128) 0 1 0 0 2 ≡ compactRefused Invalid)
-unfolding compactVerdict compactable placedAnew compactionItems dirItems slotItems dirOf dir acts act apply reaching upd
+unfolding withForward carriedFor carries compactVerdict compactable placedAnew compactionItems dirItems slotItems dirOf dir acts act apply reaching upd
     empty moveOf pairFits geometryFits fetchOf tooHigh view rank log committed walk walkFrom walkIn classOf readBehind
     bodyLength tagLength tagFlipped be32 le32 toBe32 toLe32 xor crc crcByte crcBits crcBit mdirOf erasedOf
     stoppedStraight span eventLength tagAfter countOf counted splitOf tailOf forwardOf seedOf Regular regularFrom ruleOf

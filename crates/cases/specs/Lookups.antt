@@ -39,6 +39,7 @@ ending off etag =
       erased = false;
       split = false;
       tail = record { n0 = 0; n1 = 0 };
+      fcrc = record { seen = false; size = 0; sum = 0 };
     }
 
 abbrev stateOf : ℕ → LfsGstate

@@ -8,7 +8,7 @@ use Rattle.format.specs.Tag.{tagLength, tagFlipped, tagOf}
 use Rattle.format.specs.Crc.{crc, crcByte, crcBits, crcBit}
 use Rattle.format.specs.Walk.{readBehind, classOf, bodyLength, walkIn, walkFrom, walk}
 use Rattle.format.specs.Log.{committed, log, eventLength, span, tagAfter, stoppedStraight}
-use Rattle.format.specs.Record.{counted, countOf, tailOf, splitOf, forwardOf, seedOf}
+use Rattle.format.specs.Record.{counted, countOf, tailOf, splitOf, noForward, forwardOf, seedOf}
 use Rattle.format.specs.View.{rank, view}
 use Rattle.format.specs.Fetch.{geometryFits, pairFits, tooHigh, erasedOf, mdirOf, fetchOf}
 use Rattle.format.specs.Back.{backs, back}
@@ -40,6 +40,7 @@ listed =
       erased = false;
       split = false;
       tail = record { n0 = allOnes; n1 = allOnes };
+      fcrc = noForward;
     }
 
 pub fetched-listing : fetchOf geometry listing (blank 128) 0 1 0 0 ≡ fetched.Found listed 0x1ec4_df69
@@ -59,6 +60,7 @@ pub fetched-second : fetchOf geometry (blank 128) listing 7 5 8 0 ≡ fetched.Fo
       erased = false;
       split = false;
       tail = record { n0 = allOnes; n1 = allOnes };
+      fcrc = noForward;
     }) 0x1ec4_df69
 unfolding fetchOf geometryFits pairFits tooHigh view rank log committed walk walkFrom walkIn classOf readBehind
     bodyLength tagFlipped be32 le32 toLe32 xor tagLength crc crcByte crcBits crcBit mdirOf erasedOf stoppedStraight span
@@ -143,6 +145,7 @@ pub end-past : getsliceOf geometry listing (blank 128) 0 1
       erased = false;
       split = false;
       tail = listed .tail;
+      fcrc = listed .fcrc;
     }) still byType1 0 0 [] ≡ got.Refused Invalid
 unfolding getsliceOf getsliceFits recordFits geometryFits pairFits
 end-past = refl

@@ -156,7 +156,7 @@ fn stop(random: &mut Random, case: &mut Case, habits: &Habits) {
         entries: &list.entries,
         data: &list.data,
     };
-    let limit = random.below(list.length() + 12) as u32;
+    let limit = random.below(list.length() + 24) as u32;
     let task = task(case, LITTLEFS, work, Some(limit));
     case.images = Outcome::of(&FAULTLESS_WRITER, &task, &case.images).images();
 }

@@ -106,16 +106,8 @@ impl Lay {
             WriteFault::CoincidenceWithoutForward => self.coincides(before, raw),
             _ => self.coincides(self.sum, raw),
         };
-        let sum = match self.fault {
-            WriteFault::CheckTagUnsummed => self.sum,
-            _ => crc(self.sum, &raw),
-        };
         self.bytes.extend(raw);
-        self.bytes.extend(match self.fault {
-            WriteFault::ChecksumBigEndian => sum.to_be_bytes(),
-            WriteFault::ChecksumInverted => (!sum).to_le_bytes(),
-            _ => sum.to_le_bytes(),
-        });
+        self.bytes.extend(self.checksum(raw));
         if behind {
             self.previous = tag;
             self.put_forward(geometry);
@@ -131,6 +123,19 @@ impl Lay {
             end,
             coincides,
             forward,
+        }
+    }
+
+    /// "the checksum little-endian", with the check tag in it.
+    fn checksum(&self, raw: [u8; 4]) -> [u8; 4] {
+        let sum = match self.fault {
+            WriteFault::CheckTagUnsummed => self.sum,
+            _ => crc(self.sum, &raw),
+        };
+        match self.fault {
+            WriteFault::ChecksumBigEndian => sum.to_be_bytes(),
+            WriteFault::ChecksumInverted => (!sum).to_le_bytes(),
+            _ => sum.to_le_bytes(),
         }
     }
 
