@@ -11,7 +11,7 @@ add-rounded-end : tie.Need-add-rounded-end
 add-rounded-end c = omega (arith, c .pre .near)
 
 rounded-end-requires : tie.Need-rounded-end-requires
-rounded-end-requires c κs = c .pre
+rounded-end-requires c κs = record { low = c .pre .low; high = c .pre .high; near = omega (arith, c .pre .near) }
 
 add-if1 : tie.Need-add-if1
 add-if1 c = omega (
