@@ -50,10 +50,10 @@ fn unit_sum(prog: u32) -> u32
     ensures { λ r. ⌜ r ≡ crc allOnes (erased prog) ⌝ }
 {
     let mut sum = CRC_START;
-    let mut i = 0;
-    while i < prog {
+    let mut n = 0;
+    while n < prog {
         sum = crc::lfs_crc_byte(sum, 0xff);
-        i += 1;
+        n += 1;
     }
     sum
 }

@@ -12,10 +12,10 @@ use Rattle.commit_room.proofs.unit_sum.Statement.{statement}
 use Rattle.commit_room.proofs.unit_sum.Tie as tie
 
 abbrev Inv-loop : tie.InvT-loop
-Inv-loop prog sum₀ i₀ sum i = crc allOnes (erased prog) ≡ crc sum (erased (prog - i))
+Inv-loop prog sum₀ n₀ sum n = crc allOnes (erased prog) ≡ crc sum (erased (prog - n))
 
 abbrev μ-loop : tie.MeasureT-loop
-μ-loop prog sum₀ i₀ sum i = prog - i
+μ-loop prog sum₀ n₀ sum n = prog - n
 
 loop-holds : tie.Need-loop-holds Inv-loop μ-loop
 loop-holds c =
@@ -24,7 +24,7 @@ loop-holds c =
 
 loop-again : tie.Need-loop-again Inv-loop μ-loop
 loop-again c = c .before .before .loop .inv ∙ unit-on _ _ _ (c .before .loop-test .taken)
-    ∙ ap (λ (s : ℕ). crc s (erased (c .before .before .before .args .prog - (c .before .before .loop .i + 1))))
+    ∙ ap (λ (s : ℕ). crc s (erased (c .before .before .before .args .prog - (c .before .before .loop .n + 1))))
     (sym (c .lfs-crc-byte .ensures))
 
 returns : tie.Need-returns Inv-loop μ-loop
