@@ -3,7 +3,8 @@
 what each must answer and leave.
 
 What is expected is worked out here from document 01, the sentence of littlefs's rule and document 02's forward check
-alone, by a writer and a reader of its own (writer.py, reader.py); nothing is taken from the port. A case is one line,
+alone, by a writer and a reader of its own (writer.py, reader.py); nothing is taken from the port. Of the last cases it
+is what a real littlefs wrote, byte for byte (real_commits.py). A case is one line,
     NAME OP BLOCK PROG N0 N1 COUNT SEED RULES LIMIT IMAGE0 IMAGE1 ENTRIES DATA
 with OP commit or compact, RULES the rule of a regular log by its number, LIMIT a number of stores or -, images and data
 as runs of hex (aa*9 is aa nine times), ENTRIES as type:id:off:len*times, all joined by commas, - for none. Run by hand
@@ -12,55 +13,22 @@ when the set changes.
 import os
 
 from reader import DOCUMENT_01, LITTLEFS, Log, attributes, fetched
+from real_commits import REAL, add_case, cases, few, pair_of
+from write_cases import case, record, write
 from writer import (ATTR, CREATE, DELETE, FILE, FORWARD, HARD, INLINE, MOVE, SOFT, appended, block, check_size,
-                    checksum, compacted, entry_tags, forward_check, runs, tag, with_forward)
-
-ROOT = os.path.dirname(os.path.abspath(__file__))
-HERE = os.path.join(ROOT, "writes")
-
-
-def entry_text(entries):
-    parts = []
-    for e in entries:
-        if parts and parts[-1][0] == e:
-            parts[-1][1] += 1
-        else:
-            parts.append([e, 1])
-    return ",".join(f"{k:x}:{i}:{o}:{n}*{times}" for (k, i, o, n), times in parts) or "-"
-
-
-CASES, EXPECTED = [], []
-
-
-def fnv1a(image):
-    """FNV-1a of an image. Not a CRC-32: each commit ends with that sum of itself, so it would not tell what whole
-    commits hold, only where they end."""
-    value = 0x811C9DC5
-    for byte in image:
-        value = (value ^ byte) * 0x01000193 % 2 ** 32
-    return value
-
-
-def case(name, op, size, prog, images, entries, data, answer, after, numbers=(0, 1), count=0, seed=7,
-         rules=DOCUMENT_01, limit=None):
-    """`answer` is what is printed behind the name; `after` the two images."""
-    CASES.append(" ".join(map(str, (name, op, size, prog, *numbers, count, seed, rules, "-" if limit is None else limit,
-                                    runs(images[0]), runs(images[1]), entry_text(entries), runs(data)))))
-    EXPECTED.append(f"{name}: {answer} images {fnv1a(after[0]):08x} {fnv1a(after[1]):08x}")
+                    checksum, compacted, entry_tags, forward_check, tag, with_forward)
 
 
 def refused(name, op, size, prog, images, entries, data, number, index=0, **more):
     case(name, op, size, prog, images, entries, data, f"refused {number} index {index}", images, **more)
 
 
-def record(prog, after, stop, this, count, revision):
+def as_read(prog, after, stop, this, count, revision):
     """What is printed of the record: end, end tag, count and revision by the writer, and so by the reader, which says
     the erased mark and the last committed forward check."""
     log = fetched(b"".join(after), prog)[1]
     assert (log.ends, log.last, log.count, log.revision) == (stop, this, count, revision)
-    forward = "none" if log.forward is None else f"{log.forward[0]} {log.forward[1]:08x}"
-    erased = "yes" if log.erased(prog) else "no"
-    return f"end {stop} tag {this:08x} count {count} rev {revision} erased {erased} forward {forward}"
+    return record(log, prog)
 
 
 def accepted(name, op, prog, images, entries, data, after, written, count, revision, **more):
@@ -68,7 +36,7 @@ def accepted(name, op, prog, images, entries, data, after, written, count, revis
     made, stop, this = written
     answer = f"made {made}"
     if more.get("limit") is None:
-        answer = record(prog, after, stop, this, count, revision)
+        answer = as_read(prog, after, stop, this, count, revision)
     case(name, op, len(images[0]), prog, images, entries, data, answer, after, **more)
 
 
@@ -285,12 +253,6 @@ def names_alone(*names):
     return block(128, 16, [(tag(FILE, id, len(name)), name) for id, name in enumerate(names)])[0], erased
 
 
-def real(file):
-    with open(os.path.join(ROOT, "real", file + ".pair"), "rb") as f:
-        image = f.read()
-    return (image[:len(image) // 2], image[len(image) // 2:]), tuple(map(int, file.split("-")[-2:]))
-
-
 # a rule of another number, before all else: on a good pair and where nothing is valid
 for op, entries, data in (("commit", DEADLINE, SECONDS), ("compact", [], b"")):
     for rules, first in ((2, image), (0xFFFFFFFF, erased)):
@@ -317,10 +279,10 @@ for name, limit in (("", None), ("-limited", 3)):
     refused(f"compact-no-room-for-creates{name}", "compact", 128, 16, crowd, [], b"", -28, rules=LITTLEFS, limit=limit)
 # pairs that a real littlefs wrote: many attributes; a move pending; a delete behind names alone; regular by both
 for file in ("attrs-512-0-1", "move-256-pending-69-70", "churn-256-110-111", "attrs-512-2-3"):
-    images, numbers = real(file)
+    images, numbers = pair_of(file)
     by_both_rules(f"real-{file}", images, [(ATTR, 1, 0, 4)], SECONDS, numbers=numbers)
 # one that was torn by a power cut: no room to append, so it is compacted
-images, numbers = real("cut-512-setattr-torn-0-0-1")
+images, numbers = pair_of("cut-512-setattr-torn-0-0-1")
 log = fetched(b"".join(images), 16)[1]
 unerased = next(at for at in range(log.ends, 512) if log.block[at] != 0xFF)
 refused("commit-real-torn-littlefs", "commit", 512, 16, images, [(ATTR, 1, 0, 4)], SECONDS, -213, unerased,
@@ -383,8 +345,8 @@ accepted("compact-uncommitted-forward-check", "compact", 16, (uncommitted, erase
 refused("commit-forward-check-given", "commit", 128, 16, (image, erased), [*DEADLINE, (FORWARD, 1023, 0, 8)],
         SECONDS + SECONDS, -201, 1)
 
-os.makedirs(HERE, exist_ok=True)
-for name, lines in (("cases", CASES), ("expected", EXPECTED)):
-    with open(os.path.join(HERE, name), "w") as f:
-        f.write("\n".join(lines) + "\n")
-print(f"{len(CASES)} cases")
+# ---- commits that a real littlefs appended: the same entries in the same place are its own bytes
+for commit in few(cases(REAL)):
+    add_case(commit)
+
+write(os.path.join(os.path.dirname(os.path.abspath(__file__)), "writes"))

@@ -85,34 +85,38 @@ class Log:
         return self.split or self.tail != (0xFFFFFFFF,) * 2
 
     def slots(self, rule):
-        """The directory machine over the entries, or None: "the committed log isn't regular". By littlefs's rule a name
-        makes the slots up to its own, as long as nothing was created or deleted."""
-        slots, grows = [], rule == LITTLEFS
+        """What the directory machine makes of the entries, or None: "the committed log isn't regular"."""
         if any(not 4 <= check.size <= 1022 for check in self.checks):
             return None
-        for tag, data in self.entries:
-            named = tag.type in (FILE, DIR, SUPER)
-            grows = grows and tag.type not in (CREATE, DELETE)
-            if grows and named and tag.id <= 1022:
-                slots += [{} for _ in range(len(slots), tag.id + 1)]
-            c, inside = len(slots), tag.id < len(slots)
-            if tag.type == CREATE and tag.id <= c and c <= 1022 and tag.size == 0:
-                slots.insert(tag.id, {})
-            elif tag.type == DELETE and inside and tag.size == 0:
-                del slots[tag.id]
-            elif named and inside and 1 <= tag.size <= 1022:
-                slots[tag.id]["name"] = (tag.type, data)
-            elif inside and (tag.type in (DIR_STRUCT, CTZ) and tag.size == 8
-                             or tag.type == INLINE and tag.size <= 1022):
-                slots[tag.id]["struct"] = (tag.type, data)
-            elif 0x300 <= tag.type <= 0x3FF and inside:
-                if tag.removal:
-                    slots[tag.id].pop(tag.type, None)
-                else:
-                    slots[tag.id][tag.type] = data
-            elif tag.id != NO_SLOT or (tag.type, tag.size) not in ((SOFT, 8), (HARD, 8), (FORWARD, 8), (MOVE, 12)):
-                return None
-        return slots
+        return directory([], self.entries, rule)
+
+
+def directory(slots, entries, rule):
+    """The directory machine over the entries, from these slots on, or None where one of them is bad. By littlefs's rule
+    a name makes the slots up to its own, as long as nothing was created or deleted."""
+    grows = rule == LITTLEFS
+    for tag, data in entries:
+        named = tag.type in (FILE, DIR, SUPER)
+        grows = grows and tag.type not in (CREATE, DELETE)
+        if grows and named and tag.id <= 1022:
+            slots += [{} for _ in range(len(slots), tag.id + 1)]
+        c, inside = len(slots), tag.id < len(slots)
+        if tag.type == CREATE and tag.id <= c and c <= 1022 and tag.size == 0:
+            slots.insert(tag.id, {})
+        elif tag.type == DELETE and inside and tag.size == 0:
+            del slots[tag.id]
+        elif named and inside and 1 <= tag.size <= 1022:
+            slots[tag.id]["name"] = (tag.type, data)
+        elif inside and (tag.type in (DIR_STRUCT, CTZ) and tag.size == 8 or tag.type == INLINE and tag.size <= 1022):
+            slots[tag.id]["struct"] = (tag.type, data)
+        elif 0x300 <= tag.type <= 0x3FF and inside:
+            if tag.removal:
+                slots[tag.id].pop(tag.type, None)
+            else:
+                slots[tag.id][tag.type] = data
+        elif tag.id != NO_SLOT or (tag.type, tag.size) not in ((SOFT, 8), (HARD, 8), (FORWARD, 8), (MOVE, 12)):
+            return None
+    return slots
 
 
 def attributes(slot):

@@ -9,37 +9,14 @@ Prints each difference and exits 1, or one line with what was compared. littlefs
 where that was not erased, it would differ.
 """
 import collections
-import glob
-import gzip
-import json
 import os
 import sys
 
 ROOT = os.path.join(os.path.dirname(os.path.abspath(__file__)), "..", "..", "samples")
 sys.path.insert(0, ROOT)
 from reader import FORWARD, Log  # noqa: E402
+from real_commits import blocks  # noqa: E402
 from writer import with_forward  # noqa: E402
-
-
-def of_pairs(directory):
-    """The blocks of the pairs that shown.txt names, with a name and the program size."""
-    with open(os.path.join(directory, "shown.txt")) as f:
-        shown = [line.split() for line in f if line.startswith("pair ")]
-    for _, file, size, prog, *_ in shown:
-        with open(os.path.join(directory, file), "rb") as f:
-            image = f.read()
-        for k in (0, 1):
-            yield f"{file}, block {k}", image[k * int(size):(k + 1) * int(size)], int(prog)
-
-
-def of_volumes(directory):
-    """The same of every pair of the volumes."""
-    for file in sorted(glob.glob(os.path.join(directory, "*.img.gz"))):
-        with gzip.open(file) as f, open(file[:-len(".img.gz")] + ".json") as g:
-            image, volume = f.read(), json.load(g)
-        size, prog = volume["geometry"]["block_size"], volume["geometry"]["prog_size"]
-        for number in (number for pair in volume["seen"]["pairs"] for number in pair["blocks"]):
-            yield f"{os.path.basename(file)}, block {number}", image[number * size:(number + 1) * size], prog
 
 
 def differs(block, prog, at, entries):
@@ -52,16 +29,15 @@ def differs(block, prog, at, entries):
 
 def main(directory):
     counts, sizes, differences = collections.Counter(), collections.Counter(), 0
-    pairs = os.path.exists(os.path.join(directory, "shown.txt"))
-    for name, block, prog in (of_pairs if pairs else of_volumes)(directory):
-        log = Log(block)
+    for block in blocks(directory):
+        log = Log(block.image)
         counts["blocks"] += log.ends is not None
         for at, entries in log.commits:
             counts["commits"] += 1
-            sizes[prog] += sum(tag.type == FORWARD for tag, _ in entries)
-            if differs(block, prog, at, entries):
+            sizes[block.prog] += sum(tag.type == FORWARD for tag, _ in entries)
+            if differs(block.image, block.prog, at, entries):
                 differences += 1
-                print(f"{name}: the commit whose check stands at {at} has another forward check, or one too many")
+                print(f"{block.name}: the commit whose check stands at {at} has another forward check, or one too many")
     found = ", ".join(f"{number} of {prog} bytes" for prog, number in sorted(sizes.items()))
     print(f"forward checks that littlefs wrote: {found}, in {counts['commits']} commits of {counts['blocks']} blocks; "
           f"{differences} differences")

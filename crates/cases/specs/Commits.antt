@@ -106,10 +106,10 @@ listing : (image (deadline ∷ []) seconds 5 ≡ images (laid ++ erased 9 ++ tak
     × (answer flipped (deadline ∷ []) seconds ≡ committed.Refused TopBit)
     × (answer (laid ++ erased 88 ++ (0xfe ∷ [])) (deadline ∷ []) seconds ≡ committed.Refused (NotErased 127))
     × (commitOf geometry first second 7 7 0 0 0 [] [] ≡ committed.Refused Invalid)
-unfolding withForward carriedFor carries commitImages commitOf commitStoresOf verdictOf commitFits pairFits geometryFits fetchOf tooHigh view rank log
-    committed walk walkFrom walkIn classOf readBehind bodyLength tagLength tagFlipped be32 le32 toBe32 toLe32 xor crc
-    crcByte crcBits crcBit mdirOf erasedOf stoppedStraight span eventLength tagAfter countOf counted splitOf tailOf
-    forwardOf seedOf appended Regular regularFrom ruleOf ruleHolds countAfter growsAfter countRaised judge entryBody
-    placed roundedEnd
-    checkSize roomOf erasedRun firstUnerased allErased coincides fill entriesLength tagOf appending commitBytes
+unfolding withForward carriedFor carries commitImages commitOf commitStoresOf verdictOf commitFits pairFits geometryFits
+    fetchOf tooHigh view rank log committed walk walkFrom walkIn classOf readBehind bodyLength tagLength tagFlipped be32
+    le32 toBe32 toLe32 xor crc crcByte crcBits crcBit mdirOf erasedOf stoppedStraight span eventLength tagAfter countOf
+    counted splitOf tailOf forwardOf seedOf appended Regular regularFrom ruleOf ruleHolds countAfter growsAfter
+    countRaised judge entryBody placed roundedEnd checkSize roomOf erasedRun firstUnerased allErased coincides fill
+    entriesLength tagOf appending commitBytes
 listing = (refl, refl, refl, refl, refl, refl, refl, refl, refl, refl, refl, refl, refl, refl)

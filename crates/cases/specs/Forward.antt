@@ -1,6 +1,6 @@
--- Document 02, L5, at its edges, by computation: a forward check that just fits and one that just doesn't; what the mark
--- says where none was carried, with an earlier one in the block and without; one that is not committed; a compaction.
--- Assumes nothing.
+-- Document 02, L5, at its edges, by computation: a forward check that just fits and one that just doesn't; what the
+-- mark says where none was carried, with an earlier one in the block and without; one that is not committed; a
+-- compaction. Assumes nothing.
 use mathlib.Core.Path.{_≡_, refl}
 use mathlib.Core.Bool.{Bool, true, false}
 use mathlib.Core.List.{List, [], _∷_, _++_}
@@ -21,7 +21,7 @@ use Rattle.format.specs.Stores.{erased, allErased, fill, entriesLength, appendi
 use Rattle.format.specs.Entries.{entryBody, judge}
 use Rattle.format.specs.Room.{roomOf}
 use Rattle.format.specs.Writer.{roundedEnd, checkSize, carries, carriedFor, withForward, commitFits, placed, appended}
-use Rattle.format.specs.Writer.{verdictOf, Images, images, unlimited, commitImages, commitOf}
+use Rattle.format.specs.Writer.{verdictOf, images, unlimited, commitImages, commitOf}
 use Rattle.format.specs.Compaction.{slotItems, dirItems, compactionItems, placedAnew, compactable, compactVerdict}
 use Rattle.format.specs.Compaction.{compactImages, compactOf}
 use Rattle.format.specs.declared.Geometry.{Geometry}
@@ -68,8 +68,8 @@ payload n = record { kind = 0x201; id = 0; off = 0; len = n }
 abbrev commit : List ℕ → Entry → List ℕ → Committed
 commit b e dat = commitOf geometry b (blank 128) 0 1 0 0 0 (e ∷ []) dat
 
--- Behind the listing, whose end is 48. Of 40 bytes: with the twelve the check tag stands at 104, the end is 112, and one
--- unit follows. Of 41: the end would be 128; without them it is 112, and no forward check is in the block: the unit
+-- Behind the listing, whose end is 48. Of 40 bytes: with the twelve the check tag stands at 104, the end is 112, and
+-- one unit follows. Of 41: the end would be 128; without them it is 112, and no forward check is in the block: the unit
 -- behind is erased, and the mark says no.
 pub edges : (told (commit listing (payload 40) (blank 41)) ≡ record { end = 112; erased′ = true; fcrc = sixteen })
     × (told (commit listing (payload 41) (blank 41)) ≡ record { end = 112; erased′ = false; fcrc = noForward })
@@ -77,8 +77,8 @@ unfolding withForward carriedFor carries commitImages commitOf verdictOf commitF
     tooHigh view rank log committed walk walkFrom walkIn classOf readBehind bodyLength tagLength tagFlipped be32 le32
     toBe32 toLe32 xor crc crcByte crcBits crcBit mdirOf erasedOf stoppedStraight span eventLength tagAfter countOf
     counted splitOf tailOf forwardOf seedOf appended Regular regularFrom ruleOf ruleHolds countAfter growsAfter
-    countRaised judge entryBody placed roundedEnd checkSize roomOf allErased coincides fill entriesLength tagOf appending
-    commitBytes
+    countRaised judge entryBody placed roundedEnd checkSize roomOf allErased coincides fill entriesLength tagOf
+    appending commitBytes
 edges = (refl, refl)
 
 -- The smallest fresh pair that stays unerased: one slot, an end of 16, an attribute of 84 bytes.
@@ -109,8 +109,8 @@ unfolding withForward carriedFor carries commitImages commitOf verdictOf commitF
     tooHigh view rank log committed walk walkFrom walkIn classOf readBehind bodyLength tagLength tagFlipped be32 le32
     toBe32 toLe32 xor crc crcByte crcBits crcBit mdirOf erasedOf stoppedStraight span eventLength tagAfter countOf
     counted splitOf tailOf forwardOf seedOf appended Regular regularFrom ruleOf ruleHolds countAfter growsAfter
-    countRaised judge entryBody placed roundedEnd checkSize roomOf allErased coincides fill entriesLength tagOf appending
-    commitBytes
+    countRaised judge entryBody placed roundedEnd checkSize roomOf allErased coincides fill entriesLength tagOf
+    appending commitBytes
 marks = (refl, refl, refl)
 
 -- The compaction of the listing: the revision, its four entries, the forward check, the check, and erased bytes.

@@ -131,11 +131,11 @@ texts = (refl, refl, refl)
 pub commits : (verdictOf geometry grown (blank 128) 0 1 0 0 0 [] [] ≡ refused Irregular)
     × (verdictOf geometry grown (blank 128) 0 1 0 0 1 [] [] ≡ accepted false (forwardItem (unitCheck 16) ∷ []) 16)
     × (verdictOf geometry grown (blank 128) 0 1 0 0 2 [] [] ≡ refused Invalid)
-unfolding withForward carriedFor carries verdictOf commitFits pairFits geometryFits fetchOf tooHigh view rank log committed walk walkFrom walkIn
-    classOf readBehind bodyLength tagLength tagFlipped be32 le32 toBe32 toLe32 xor crc crcByte crcBits crcBit mdirOf
-    erasedOf stoppedStraight span eventLength tagAfter countOf counted splitOf tailOf forwardOf seedOf appended Regular
-    regularFrom ruleOf ruleHolds countAfter growsAfter countRaised judge entryBody placed roundedEnd checkSize roomOf
-    allErased coincides fill entriesLength tagOf appending commitBytes
+unfolding withForward carriedFor carries verdictOf commitFits pairFits geometryFits fetchOf tooHigh view rank log
+    committed walk walkFrom walkIn classOf readBehind bodyLength tagLength tagFlipped be32 le32 toBe32 toLe32 xor crc
+    crcByte crcBits crcBit mdirOf erasedOf stoppedStraight span eventLength tagAfter countOf counted splitOf tailOf
+    forwardOf seedOf appended Regular regularFrom ruleOf ruleHolds countAfter growsAfter countRaised judge entryBody
+    placed roundedEnd checkSize roomOf allErased coincides fill entriesLength tagOf appending commitBytes
 commits = (refl, refl, refl)
 
 -- what its compaction lays down: a create for each slot, the empty one too
@@ -156,9 +156,10 @@ wide =
 pub no-room : (compactVerdict geometry wide (blank 128) 0 1 0 0 0 ≡ compactRefused Irregular)
     × (compactVerdict geometry wide (blank 128) 0 1 0 0 1 ≡ compactRefused NoSpace)
     × (compactVerdict geometry wide (blank 128) 0 1 0 0 2 ≡ compactRefused Invalid)
-unfolding withForward carriedFor carries compactVerdict compactable placedAnew compactionItems dirItems slotItems dirOf dir acts act apply reaching upd
-    empty moveOf pairFits geometryFits fetchOf tooHigh view rank log committed walk walkFrom walkIn classOf readBehind
-    bodyLength tagLength tagFlipped be32 le32 toBe32 toLe32 xor crc crcByte crcBits crcBit mdirOf erasedOf
-    stoppedStraight span eventLength tagAfter countOf counted splitOf tailOf forwardOf seedOf Regular regularFrom ruleOf
-    ruleHolds countAfter growsAfter countRaised roundedEnd checkSize coincides fill entriesLength tagOf
+unfolding withForward carriedFor carries compactVerdict compactable placedAnew compactionItems dirItems slotItems dirOf
+    dir acts act apply reaching upd empty moveOf pairFits geometryFits fetchOf tooHigh view rank log committed walk
+    walkFrom walkIn classOf readBehind bodyLength tagLength tagFlipped be32 le32 toBe32 toLe32 xor crc crcByte crcBits
+    crcBit mdirOf erasedOf stoppedStraight span eventLength tagAfter countOf counted splitOf tailOf forwardOf seedOf
+    Regular regularFrom ruleOf ruleHolds countAfter growsAfter countRaised roundedEnd checkSize coincides fill
+    entriesLength tagOf
 no-room = (refl, refl, refl)

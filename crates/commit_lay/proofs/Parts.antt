@@ -1,13 +1,14 @@
 -- The part of the buffer that the code cuts is the entry's data. Assumes nothing.
 use mathlib.Core.Path.{_≡_, refl, sym, _∙_}
 use mathlib.Core.Bool.{Bool, true, false}
-use mathlib.Core.List.{List}
+use mathlib.Core.List.{List, _++_}
 use Prim.Native.Nat.{ℕ, _+_, _-_, _<_, min}
 use native.Mathlib.Omega.{arith}
 use lib.ListN.{length, take, drop, length-drop, drop-of-length-le}
 use lib.Seq.{take-all, take-nil}
 use lib.Dec.{leb}
 use borrow.Author.Tests.{eq-eqb, ne-eqb, leb-true, leb-false}
+use Rattle.format.specs.Word.{toLe32}
 use Rattle.format.specs.Tag.{removalSize}
 use Rattle.commit_lay.specs.Laid.{bodyOf, Part}
 
@@ -46,3 +47,8 @@ module _ (dat : List ℕ) (off len : ℕ) where
     data-part h =
         let e : f + s - f ≡ s = omega arith in
         record { order = omega arith; inside = omega arith; is = rw (ne-eqb len removalSize h, e) cut }
+
+-- the eight bytes of two words, v, are an entry's data
+pub pair-body : (a b : ℕ) (v : List ℕ) → v ≡ toLe32 a ++ toLe32 b → bodyOf v 0 8 ≡ toLe32 a ++ toLe32 b
+unfolding bodyOf toLe32
+pair-body a b v e = rw e

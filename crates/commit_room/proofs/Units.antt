@@ -1,5 +1,5 @@
 -- The checksum of an erased unit, byte by byte, and the forward check by its test. Assumes nothing.
-use mathlib.Core.Path.{_≡_, refl}
+use mathlib.Core.Path.{_≡_}
 use mathlib.Core.Bool.{true}
 use Prim.Native.Nat.{ℕ, suc, _+_, _-_, _≤_, _<_}
 use native.Mathlib.Omega.{arith}
@@ -9,7 +9,6 @@ use Rattle.format.specs.Crc.{crcByte, crc}
 use Rattle.format.specs.Record.{noForward}
 use Rattle.format.specs.Stores.{erased}
 use Rattle.format.specs.Writer.{roundedEnd, forwardLength, carries, carriedFor}
-use Rattle.format.specs.declared.LfsFcrc.{LfsFcrc}
 
 -- ---- `unit_sum`: i bytes are summed
 module _ (prog i sum : ℕ) where

@@ -9,7 +9,6 @@ use borrow.Author.Tests.{not-true, not-false}
 use Rattle.format.specs.Word.{toBe32, toLe32, xor, plus32}
 use Rattle.format.specs.Tag.{tagLength, mkTag, tagOf}
 use Rattle.format.specs.Crc.{crc}
-use Rattle.format.specs.Writer.{forwardItem}
 use Rattle.format.specs.declared.LfsFcrc.{LfsFcrc}
 use Rattle.format.specs.declared.Refusal.{Refusal}
 use Rattle.format.specs.declared.Refusal.the-variants.{BadEntry}
@@ -17,6 +16,7 @@ use Rattle.commit_rules.specs.Rules.{countedBy}
 use Rattle.commit_rules.specs.declared.Ruled.the-variants.{Bad, To}
 use Rattle.commit_lay.specs.Laid.{Laid, laid, putsOf, bodyOf, inBufferOf}
 use Rattle.commit_lay.specs.declared.Run.{Run}
+use Rattle.commit_lay.proofs.Parts.{pair-body}
 use Rattle.commit_lay.proofs.Puts.{puts-app}
 use Rattle.commit_steps.specs.State.{trio, Onto, onto, state, summedOf, judgedOf, forwardSummed, laidTo, layOf}
 use Rattle.commit_steps.specs.State.{laidOf, forwardLaid, into, steppedBy, stepOf, checkedOf, sealedBy, sealedOf}
@@ -67,11 +67,6 @@ summed j n t body i d z s ei ed ez es = λ k. record {
 abbrev forwardTagWord : ℕ
 forwardTagWord = 0x5fff_fc08
 
-forward-body : (f : LfsFcrc) (v : List ℕ) → v ≡ toLe32 (f .size) ++ toLe32 (f .sum)
-    → bodyOf v 0 8 ≡ forwardItem f .body
-unfolding bodyOf toLe32
-forward-body f v e = rw e
-
 module _ (j : Judging) (f : LfsFcrc) where
   pub forward-unsummed : not (f .seen) ≡ true → j ≡ forwardSummed j f
   unfolding forwardSummed
@@ -81,7 +76,7 @@ module _ (j : Judging) (f : LfsFcrc) where
       → k ≡ summedOf j (j .count) forwardTagWord (bodyOf v 0 8) → k ≡ forwardSummed j f
   unfolding forwardSummed tagOf
   forward-summed h v ev k ek =
-      ek ∙ ap (summedOf j (j .count) forwardTagWord) (forward-body f v ev) ∙ rw (not-false (f .seen) h)
+      ek ∙ ap (summedOf j (j .count) forwardTagWord) (pair-body (f .size) (f .sum) v ev) ∙ rw (not-false (f .seen) h)
 
 module _ (l : Laying) (b : List ℕ) where
   pub forward-unlaid : not (l .fcrc .seen) ≡ true → onto l b ≡ forwardLaid l b
@@ -92,7 +87,7 @@ module _ (l : Laying) (b : List ℕ) where
       → (o : Onto) → o ≡ layOf l b forwardTagWord (bodyOf v 0 8) → o ≡ forwardLaid l b
   unfolding forwardLaid tagOf
   forward-laid h v ev o eo =
-      eo ∙ ap (layOf l b forwardTagWord) (forward-body (l .fcrc) v ev) ∙ rw (not-false (l .fcrc .seen) h)
+      eo ∙ ap (layOf l b forwardTagWord) (pair-body (l .fcrc .size) (l .fcrc .sum) v ev) ∙ rw (not-false (l .fcrc .seen) h)
 
 -- ---- `lay`, `lay_entry` and `lay_check`
 module _ (l : Laying) (b : List ℕ) where

@@ -7,8 +7,8 @@ ghost use Prim.Native.Nat.{_≤_, _<_};
 ghost use lib.ListN.{length};
 ghost use Rattle.commit_steps.specs.State.{trio, onto, refusedState, begunOf, startedOf, judgedOf, laidOf};
 ghost use Rattle.commit_lay.specs.Laid.{bodyOf};
-ghost use Rattle.commit_steps.specs.State.{summedOf, forwardSummed, layOf, forwardLaid, stepOf, testedOf, placedOf};
-ghost use Rattle.commit_steps.specs.State.{decidedOf, checkedOf, sealedOf, answeredOf, madeOf};
+ghost use Rattle.commit_steps.specs.State.{summedOf, forwardSummed, layOf, forwardLaid, stepOf, testedOf};
+ghost use Rattle.commit_steps.specs.State.{placedOf, decidedOf, checkedOf, sealedOf, answeredOf, madeOf};
 ghost use Rattle.format.specs.Fetch.{fetchOf};
 ghost use Rattle.format.specs.Regular.{rulesOf};
 ghost use Rattle.format.specs.Writer.{unlimited};
@@ -43,8 +43,8 @@ pub struct Judging {
     pub sum: u32,
 }
 
-// The second pass: the next store, the tag before it, the forward check that is carried behind the entries, or none, and
-// the check that comes last: its tag as it is stored, and the checksum.
+// The second pass: the next store, the tag before it, the forward check that is carried behind the entries, or none,
+// and the check that comes last: its tag as it is stored, and the checksum.
 pub struct Laying {
     pub run: Run,
     pub prev: u32,

@@ -141,12 +141,12 @@ module _ (prog : ℕ) (old new : List ℕ) (dir : LfsMdir) (w : Writable prog ol
       (omega (arith, w .room)) n refl some
 
   pub pass-block : q .block ≡ writtenTo prog old new rev ct n
-  pass-block = stored-block (length new) (n - 1) rev ct I p e b q from entries eq (compaction-good old (w .regular) prog)
-      (omega (arith, w .room)) new n refl refl some
+  pass-block = stored-block (length new) (n - 1) rev ct I p e b q from entries eq
+      (compaction-good old (w .regular) prog) (omega (arith, w .room)) new n refl refl some
 
 -- no store: the block as it was
-pub pass-none : (prog : ℕ) (old new : List ℕ) (rev ct n : ℕ) → n ≡ 0 → (0 ≡ min n (compactStores (renewedItems prog old)))
-    × (new ≡ writtenTo prog old new rev ct n)
+pub pass-none : (prog : ℕ) (old new : List ℕ) (rev ct n : ℕ) → n ≡ 0
+    → (0 ≡ min n (compactStores (renewedItems prog old))) × (new ≡ writtenTo prog old new rev ct n)
 unfolding compacting
 pass-none prog old new rev ct n h =
     let z : min n (compactStores (renewedItems prog old)) ≡ 0 = omega arith in

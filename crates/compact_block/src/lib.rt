@@ -53,7 +53,15 @@ fn begin(rev: u32, run: Run) -> Emit
 }
 
 // The second pass: the erase counts as one store, and then single bytes rise, as many as are left.
-fn write(prog: u32, old: &[u8], new: &mut [u8], dir: LfsMdir, rev: u32, tag: u32, stores: u32) -> u32
+fn write(
+    prog: u32,
+    old: &[u8],
+    new: &mut [u8],
+    dir: LfsMdir,
+    rev: u32,
+    tag: u32,
+    stores: u32,
+) -> u32
     requires { ⌜ Writable prog (now old) (now new) dir ⌝ }
     ensures { λ r. ⌜ r ≡ min stores (compactStores (renewedItems prog (now (old .entry)))) ⌝ }
     ensures { λ _. ⌜ now (new .exit) ≡ writtenTo prog (now (old .entry)) (now (new .entry)) rev tag stores ⌝ }

@@ -24,6 +24,7 @@ use Rattle.format.specs.declared.LfsPair.{LfsPair}
 use Rattle.format.proofs.Words.{mkTag-sum}
 use Rattle.format.proofs.Searched.{hit-in, bytes-length}
 use Rattle.commit_lay.specs.Laid.{Laid, putsOf, bodyOf}
+use Rattle.commit_lay.proofs.Parts.{pair-body}
 use Rattle.commit_lay.proofs.Puts.{puts-app}
 use Rattle.format.specs.Look.{dataSize, bytesOf, FoundIn, HitIn}
 use Rattle.format.specs.declared.Found.{Found}
@@ -163,11 +164,6 @@ pub dir-done : (a s : Standing) (D : List Slot) (id : ℕ) → length D ≤ id �
 unfolding emits dirItems
 dir-done a s D id h ea = sym (ea ∙ rw (drop-of-length-le D {i = id} h))
 
--- ---- eight bytes of two words are an entry's data
-eight-body : (a b : ℕ) (l : List ℕ) → l ≡ toLe32 a ++ toLe32 b → bodyOf l 0 8 ≡ toLe32 a ++ toLe32 b
-unfolding bodyOf toLe32
-eight-body a b l e = rw e
-
 -- ---- the tail
 module _ (s : Standing) (split : Bool) (p : LfsPair) where
   pub tail-none : isNoTail split p ≡ true → s ≡ emits s (tailItems split p)
@@ -188,7 +184,7 @@ module _ (s : Standing) (split : Bool) (p : LfsPair) where
       made-tag k x noSlot 8 ek (rw ex (tail-type split)) (omega arith) (omega arith)
       ∙ ap (λ (y : ℕ). tagOf y noSlot 8) ex in
       er ∙ ap₂ (λ (y : ℕ) (q : List ℕ). emitted s (record { tag = y; body = q })) tag
-      (eight-body (p .n0) (p .n1) l el) ∙ rw h
+      (pair-body (p .n0) (p .n1) l el) ∙ rw h
 
 -- ---- the forward check
 module _ (s : Standing) (f : LfsFcrc) where
@@ -202,4 +198,4 @@ module _ (s : Standing) (f : LfsFcrc) where
   unfolding emits tagOf
   forward-made h l el r er =
       er ∙ ap (λ (q : List ℕ). emitted s (record { tag = 0x5fff_fc08; body = q }))
-      (eight-body (f .size) (f .sum) l el) ∙ rw (not-false (f .seen) h)
+      (pair-body (f .size) (f .sum) l el) ∙ rw (not-false (f .seen) h)

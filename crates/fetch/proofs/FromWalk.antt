@@ -1,16 +1,16 @@
 -- What the code reads off a walk, from the tests that a branch made; and that of the block's own walk it is format's
 -- record. Assumes nothing.
 use mathlib.Core.Path.{_≡_, refl, sym, ap, _∙_}
-use mathlib.Core.Bool.{Bool, true, false, _&&_}
+use mathlib.Core.Bool.{true, false}
 use mathlib.Core.List.{List}
 use Prim.Native.Nat.{ℕ, _+_, _-_, _%_, _<_, _≤_}
 use native.Mathlib.Omega.{arith}
-use lib.Dec.{leb, eqb}
+use lib.Dec.{eqb}
 use lib.ListN.{length, take, drop}
 use borrow.Author.Tests.{eq-eqb, ne-eqb, lt-ltb, le-ltb, le-leb, lt-leb}
 use Rattle.format.specs.Word.{le32, allOnes}
 use Rattle.format.specs.Crc.{crc}
-use Rattle.format.specs.Log.{log, logEnd}
+use Rattle.format.specs.Log.{log}
 use Rattle.format.specs.Record.{seedOf}
 use Rattle.format.specs.Fetch.{erasedOf, mdirOf, fewEnough}
 use Rattle.format.specs.declared.LfsMdir.{LfsMdir}

@@ -1,7 +1,7 @@
 -- The loop's two records over a list of events leave format's folds over what is committed; and the end of a log lies
 -- in its block. Assumes nothing.
 use mathlib.Core.Path.{_≡_, refl, sym, ap, _∙_}
-use mathlib.Core.Bool.{Bool, true, false, cond}
+use mathlib.Core.Bool.{Bool, true, false}
 use mathlib.Core.List.{List, [], _∷_}
 use Prim.Native.Nat.{ℕ, zero, suc, _+_, _≤_}
 use native.Mathlib.Nat.{add-zero, add-assoc, zero-add}
@@ -10,7 +10,6 @@ use lib.Dec.{eqb}
 use lib.ListN.{length, take, drop, length-drop}
 use Rattle.format.specs.Word.{be32, le32, xor, allOnes}
 use Rattle.format.specs.Tag.{tagLength, tagFlipped}
-use Rattle.format.specs.Kind.{isForward}
 use Rattle.format.specs.Crc.{crc}
 use Rattle.format.specs.Walk.{Event, ent, chk, inv, Class, past, invalid, check, entry, classOf, checked, stepOf}
 use Rattle.format.specs.Walk.{walkIn, walkFrom, walk}

@@ -10,7 +10,6 @@ use lib.ListN.{take, drop}
 use mir.Syntax.{w8}
 use mir.Val.{SFits, toZ}
 use borrow.Author.Tests.{eq-eqb, ne-eqb}
-use Rattle.format.specs.Word.{le32}
 use Rattle.format.specs.Tag.{tagType1, tagType2, tagType3, tagChunk, tagSplice, tagId, tagLength}
 use Rattle.format.specs.Kind.{isName, isSplice, isTail, isForward}
 use Rattle.format.specs.Walk.{readBehind, bodyLength, bodyOf}

@@ -1,5 +1,5 @@
 -- Document 01, The added writer: the bytes of a commit, and how the walk meets them. Assumes nothing.
-use mathlib.Core.Bool.{Bool, true, false, _&&_}
+use mathlib.Core.Bool.{Bool, true, _&&_}
 use mathlib.Core.List.{List, [], _∷_, _++_}
 use Prim.Native.Nat.{ℕ}
 use Rattle.format.specs.Word.{toBe32, toLe32, xor}

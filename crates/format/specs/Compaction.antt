@@ -87,8 +87,8 @@ placedAnew prog block second rev is =
     (compactRefused Coincidence)
     (compactAccepted second rev is (checkSize prog (compactCheckAt is))))
 
--- "-202 | the committed log isn't regular"; "revision plus one (wrapping)"; the entries begin behind it, and the forward
--- check stands behind them as in a commit: "compaction included"
+-- "-202 | the committed log isn't regular"; "revision plus one (wrapping)"; the entries begin behind it, and the
+-- forward check stands behind them as in a commit: "compaction included"
 unfoldable pub compactable : Rules → ℕ → Bool → List ℕ → List Event → CompactVerdict
 compactable r prog second b es =
     cond (not (Regular r es)) (compactRefused Irregular)

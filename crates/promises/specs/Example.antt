@@ -28,7 +28,8 @@ use Rattle.format.specs.Entries.{entryBody, judge, itemsOf}
 use Rattle.format.specs.Directory.{empty, upd, dir, reaching, apply, applyAll, act, acts, dirOf, moveOf}
 use Rattle.format.specs.Room.{roomOf}
 use Rattle.format.specs.Writer.{unlimited, roundedEnd, checkSize, commitFits, placed, appended, accepted}
-use Rattle.format.specs.Writer.{unitCheck, forwardItem, carries, carriedFor, withForward, verdictOf, Images, commitImages}
+use Rattle.format.specs.Writer.{unitCheck, forwardItem, carries, carriedFor, withForward, verdictOf, Images}
+use Rattle.format.specs.Writer.{commitImages}
 use Rattle.format.specs.Compaction.{slotItems, dirItems, compactionItems, placedAnew, compactable, compactAccepted}
 use Rattle.format.specs.Compaction.{compactVerdict, compactImages}
 use Rattle.format.specs.Machine.{machineOf, ran, asked, name, attribute}
@@ -102,56 +103,52 @@ pub upTo : ℕ → List ℕ
 upTo zero = zero ∷ []
 upTo (suc n) = upTo n ++ (suc n ∷ [])
 
--- 28 stores, the entry's 8, the forward check's 12 and the check's 8: after each of the first 27 the old deadline, after
--- the last the new one
+-- 28 stores, the entry's 8, the forward check's 12 and the check's 8: after each of the first 27 the old deadline,
+-- after the last the new one
 pub commit-cut : map (λ n. seen (commitImages geometry first second 0 1 0 0 0 (deadline ∷ []) hour n)) (upTo 29)
     ≡ replicate 28 old ++ replicate 2 (record { block = 0; rev = 1; end = 80; due = hour })
-unfolding upTo seenBy withForward carriedFor carries commitImages verdictOf commitFits pairFits geometryFits fetchOf tooHigh view rank log committed
-    walk walkFrom walkIn classOf readBehind bodyLength tagLength tagFlipped be32 le32 toBe32 toLe32 xor crc crcByte
-    crcBits crcBit mdirOf erasedOf stoppedStraight span eventLength tagAfter countOf counted splitOf tailOf forwardOf
-    seedOf appended Regular regularFrom ruleOf ruleHolds countAfter growsAfter countRaised judge entryBody placed
-    roundedEnd checkSize
-    roomOf allErased coincides fill entriesLength tagOf appending commitBytes getsliceBuffer getsliceFits recordFits
-    searched back backs wlook splicedAt asIds
+unfolding upTo seenBy withForward carriedFor carries commitImages verdictOf commitFits pairFits geometryFits fetchOf
+    tooHigh view rank log committed walk walkFrom walkIn classOf readBehind bodyLength tagLength tagFlipped be32 le32
+    toBe32 toLe32 xor crc crcByte crcBits crcBit mdirOf erasedOf stoppedStraight span eventLength tagAfter countOf
+    counted splitOf tailOf forwardOf seedOf appended Regular regularFrom ruleOf ruleHolds countAfter growsAfter
+    countRaised judge entryBody placed roundedEnd checkSize roomOf allErased coincides fill entriesLength tagOf
+    appending commitBytes getsliceBuffer getsliceFits recordFits searched back backs wlook splicedAt asIds
 commit-cut = refl
 
 -- 52 stores, the first the erase: after each of the first 51 the old pair, after the last the second block with the
 -- next revision
 pub compaction-cut : map (λ n. seen (compactImages geometry first second 0 1 0 0 0 n)) (upTo 53)
     ≡ replicate 52 old ++ replicate 2 (record { block = 1; rev = 2; end = 64; due = day })
-unfolding upTo seenBy withForward carriedFor carries compactImages compactVerdict compactable placedAnew compacting compactBytes compactionItems
-    dirItems slotItems dirOf dir acts act apply reaching upd empty moveOf verdictOf commitFits pairFits geometryFits
-    fetchOf
-    tooHigh view rank log committed walk walkFrom walkIn classOf readBehind bodyLength tagLength tagFlipped be32 le32
-    toBe32 toLe32 xor crc crcByte crcBits crcBit mdirOf erasedOf stoppedStraight span eventLength tagAfter countOf
-    counted splitOf tailOf forwardOf seedOf appended Regular regularFrom ruleOf ruleHolds countAfter growsAfter
-    countRaised judge entryBody
-    placed roundedEnd checkSize roomOf allErased coincides fill entriesLength tagOf appending commitBytes
-    getsliceBuffer getsliceFits recordFits searched back backs wlook splicedAt asIds
+unfolding upTo seenBy withForward carriedFor carries compactImages compactVerdict compactable placedAnew compacting
+    compactBytes compactionItems dirItems slotItems dirOf dir acts act apply reaching upd empty moveOf verdictOf
+    commitFits pairFits geometryFits fetchOf tooHigh view rank log committed walk walkFrom walkIn classOf readBehind
+    bodyLength tagLength tagFlipped be32 le32 toBe32 toLe32 xor crc crcByte crcBits crcBit mdirOf erasedOf
+    stoppedStraight span eventLength tagAfter countOf counted splitOf tailOf forwardOf seedOf appended Regular
+    regularFrom ruleOf ruleHolds countAfter growsAfter countRaised judge entryBody placed roundedEnd checkSize roomOf
+    allErased coincides fill entriesLength tagOf appending commitBytes getsliceBuffer getsliceFits recordFits searched
+    back backs wlook splicedAt asIds
 compaction-cut = refl
 
 -- both are accepted, so `commit-stopped` and `compact-stopped` speak of them
 pub takes-commit : verdictOf geometry first second 0 1 0 0 0 (deadline ∷ []) hour
     ≡ accepted false (itemsOf hour (deadline ∷ []) ++ (forwardItem (unitCheck 16) ∷ [])) 8
-unfolding withForward carriedFor carries verdictOf commitFits pairFits geometryFits fetchOf tooHigh view rank log committed walk walkFrom walkIn
-    classOf readBehind bodyLength tagLength tagFlipped be32 le32 toBe32 toLe32 xor crc crcByte crcBits crcBit mdirOf
-    erasedOf stoppedStraight span eventLength tagAfter countOf counted splitOf tailOf forwardOf seedOf appended Regular
-    regularFrom ruleOf ruleHolds countAfter growsAfter countRaised judge entryBody placed roundedEnd checkSize roomOf
-    allErased coincides
-    fill entriesLength tagOf appending commitBytes getsliceBuffer getsliceFits recordFits searched back backs wlook
-    splicedAt asIds
+unfolding withForward carriedFor carries verdictOf commitFits pairFits geometryFits fetchOf tooHigh view rank log
+    committed walk walkFrom walkIn classOf readBehind bodyLength tagLength tagFlipped be32 le32 toBe32 toLe32 xor crc
+    crcByte crcBits crcBit mdirOf erasedOf stoppedStraight span eventLength tagAfter countOf counted splitOf tailOf
+    forwardOf seedOf appended Regular regularFrom ruleOf ruleHolds countAfter growsAfter countRaised judge entryBody
+    placed roundedEnd checkSize roomOf allErased coincides fill entriesLength tagOf appending commitBytes getsliceBuffer
+    getsliceFits recordFits searched back backs wlook splicedAt asIds
 takes-commit = refl
 
 pub takes-compaction : compactVerdict geometry first second 0 1 0 0 0 ≡ compactAccepted false 2
     (compactionItems (log first) ++ (forwardItem (unitCheck 16) ∷ [])) 17
-unfolding withForward carriedFor carries compactVerdict compactable placedAnew compactionItems dirItems slotItems dirOf dir acts act apply reaching upd
-    empty moveOf verdictOf commitFits pairFits geometryFits fetchOf tooHigh view rank log committed walk walkFrom walkIn
-    classOf readBehind bodyLength tagLength tagFlipped be32 le32 toBe32 toLe32 xor crc crcByte crcBits crcBit mdirOf
-    erasedOf stoppedStraight span eventLength tagAfter countOf counted splitOf tailOf forwardOf seedOf appended Regular
-    regularFrom ruleOf ruleHolds countAfter growsAfter countRaised judge entryBody placed roundedEnd checkSize roomOf
-    allErased coincides
-    fill entriesLength tagOf appending commitBytes getsliceBuffer getsliceFits recordFits searched back backs wlook
-    splicedAt asIds
+unfolding withForward carriedFor carries compactVerdict compactable placedAnew compactionItems dirItems slotItems dirOf
+    dir acts act apply reaching upd empty moveOf verdictOf commitFits pairFits geometryFits fetchOf tooHigh view rank
+    log committed walk walkFrom walkIn classOf readBehind bodyLength tagLength tagFlipped be32 le32 toBe32 toLe32 xor
+    crc crcByte crcBits crcBit mdirOf erasedOf stoppedStraight span eventLength tagAfter countOf counted splitOf tailOf
+    forwardOf seedOf appended Regular regularFrom ruleOf ruleHolds countAfter growsAfter countRaised judge entryBody
+    placed roundedEnd checkSize roomOf allErased coincides fill entriesLength tagOf appending commitBytes getsliceBuffer
+    getsliceFits recordFits searched back backs wlook splicedAt asIds
 takes-compaction = refl
 
 -- so of the commit: whatever n, the finished images or the old reading; and what the finished pair holds
@@ -202,11 +199,10 @@ stopped = commitImages geometry first second 0 1 0 0 0 (deadline ∷ []) hour 10
 -- A restart fetches from a seed of its own, and with the block count that it knows: stopped after ten stores, the pair
 -- is found with the old end and the old deadline from the seed 7 and with two blocks.
 pub other-seed : seenBy (stopped .b0) (stopped .b1) (fetchOf geometry (stopped .b0) (stopped .b1) 0 1 2 7) ≡ old
-unfolding seenBy withForward carriedFor carries commitImages verdictOf commitFits pairFits geometryFits fetchOf tooHigh view rank log committed walk
-    walkFrom walkIn classOf readBehind bodyLength tagLength tagFlipped be32 le32 toBe32 toLe32 xor crc crcByte crcBits
-    crcBit mdirOf erasedOf stoppedStraight span eventLength tagAfter countOf counted splitOf tailOf forwardOf seedOf
-    appended Regular regularFrom ruleOf ruleHolds countAfter growsAfter countRaised judge entryBody placed roundedEnd
-    checkSize roomOf
-    allErased coincides fill entriesLength tagOf appending commitBytes getsliceBuffer getsliceFits recordFits searched
-    back backs wlook splicedAt asIds
+unfolding seenBy withForward carriedFor carries commitImages verdictOf commitFits pairFits geometryFits fetchOf tooHigh
+    view rank log committed walk walkFrom walkIn classOf readBehind bodyLength tagLength tagFlipped be32 le32 toBe32
+    toLe32 xor crc crcByte crcBits crcBit mdirOf erasedOf stoppedStraight span eventLength tagAfter countOf counted
+    splitOf tailOf forwardOf seedOf appended Regular regularFrom ruleOf ruleHolds countAfter growsAfter countRaised
+    judge entryBody placed roundedEnd checkSize roomOf allErased coincides fill entriesLength tagOf appending
+    commitBytes getsliceBuffer getsliceFits recordFits searched back backs wlook splicedAt asIds
 other-seed = refl

@@ -8,14 +8,14 @@ use Prim.Native.Nat.{ℕ, _+_, _≤_}
 use lib.ListN.{length}
 use lib.Dec.{ltb}
 use Rattle.format.specs.Log.{log, logEnd}
-use Rattle.format.specs.Fetch.{mdirOf, fetchOf}
+use Rattle.format.specs.Fetch.{mdirOf}
 use Rattle.format.specs.Commit.{Item}
 use Rattle.format.specs.Stores.{entriesLength}
 use Rattle.format.specs.Entries.{itemsOf}
-use Rattle.format.specs.Writer.{roundedEnd, unitCheck, carries, withForward, accepted, blockAt, verdictOf, unlimited}
-use Rattle.format.specs.Writer.{answerOf, commitImages, commitOf}
+use Rattle.format.specs.Writer.{roundedEnd, unitCheck, carries, withForward, accepted, blockAt, verdictOf}
+use Rattle.format.specs.Writer.{answerOf, commitOf}
 use Rattle.format.specs.Compaction.{compactionItems, compactCheckAt, compactAccepted, compactVerdict, compactAnswer}
-use Rattle.format.specs.Compaction.{compactImages, compactOf}
+use Rattle.format.specs.Compaction.{compactOf}
 use Rattle.format.specs.Stopped.{Bytes}
 use Rattle.format.specs.declared.Geometry.{Geometry}
 use Rattle.format.specs.declared.LfsMdir.{LfsMdir}

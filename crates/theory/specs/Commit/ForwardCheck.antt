@@ -1,19 +1,19 @@
 -- Document 02, L5: the forward check is one more entry of a commit. It passes its rule at every count and says nothing
 -- of slots, tail and move state, so that the machine behind a commit is the one without it; and what -28 refuses is
 -- what it refused without it. Assumes nothing.
-use mathlib.Core.Path.{_≡_, refl, ap, _∙_}
+use mathlib.Core.Path.{_≡_, refl, _∙_}
 use mathlib.Core.Bool.{Bool, true, false, cond}
 use mathlib.Core.List.{List, [], _∷_, _++_, append-nil}
-use Prim.Native.Nat.{ℕ, _+_, _-_, _*_, _/_, _%_, _≤_, _<_}
+use Prim.Native.Nat.{ℕ, _+_, _-_, _%_, _≤_}
 use native.Mathlib.Omega.{arith}
 use native.Mathlib.Nat.{div-mul-le-self, le-div-iff-mul-le, mul-le-mul-right}
 use lib.ListN.{length}
-use lib.Dec.{leb, ltb, eqb}
-use borrow.Author.Tests.{leb-true, lt-ltb, le-ltb}
+use lib.Dec.{ltb, eqb}
+use borrow.Author.Tests.{leb-true, le-ltb}
 use Rattle.format.specs.Tag.{tagChunk, tagLength, tagOf}
 use Rattle.format.specs.Kind.{typeForward, noSlot, isTail}
 use Rattle.format.specs.Regular.{ruleOf, ruleHolds, countAfter}
-use Rattle.format.specs.Directory.{apply, applyAll, act, acts, loadOf, isMove, moveOf}
+use Rattle.format.specs.Directory.{apply, applyAll, acts, loadOf, isMove, moveOf}
 use Rattle.format.specs.Record.{pairIn, tailOf, splitOf}
 use Rattle.format.specs.Commit.{Item, written, itemsHold}
 use Rattle.format.specs.Stores.{entriesLength}
@@ -76,8 +76,8 @@ forward-silent f =
       move = rw (of-type3 typeForward noSlot 8 (omega arith) (omega arith) (omega arith));
     }
 
-pub forward-none : (f : LfsFcrc) → AllSilent (forwardItems f)
-forward-none f = go (f .seen)
+pub carried-silent : (f : LfsFcrc) → AllSilent (forwardItems f)
+carried-silent f = go (f .seen)
   where
     go : (b : Bool) → AllSilent (cond b (forwardItem f ∷ []) [])
     go true = (forward-silent f, tt)
@@ -89,15 +89,15 @@ module _ (prog block from : ℕ) (is : List Item) where
 
   pub with-made : AllMade is → AllMade (withForward prog block from is)
   unfolding withForward
-  with-made h = made-behind is (forwardItems fcrc) h (silent-loose (forwardItems fcrc) (forward-none fcrc))
+  with-made h = made-behind is (forwardItems fcrc) h (silent-loose (forwardItems fcrc) (carried-silent fcrc))
 
   pub with-hold : (c : ℕ) → itemsHold c is ≡ true → itemsHold c (withForward prog block from is) ≡ true
   unfolding withForward
-  with-hold c h = hold-behind is (forwardItems fcrc) c h (silent-loose (forwardItems fcrc) (forward-none fcrc))
+  with-hold c h = hold-behind is (forwardItems fcrc) c h (silent-loose (forwardItems fcrc) (carried-silent fcrc))
 
   pub with-ran : (M : Machine) → ran M (written (withForward prog block from is) []) ≡ ran M (written is [])
   unfolding withForward
-  with-ran M = ran-silent M is (forwardItems fcrc) (forward-none fcrc)
+  with-ran M = ran-silent M is (forwardItems fcrc) (carried-silent fcrc)
 
 -- ---- the twelve bytes
 pub length-app : (is js : List Item) → entriesLength (is ++ js) ≡ entriesLength is + entriesLength js
@@ -139,7 +139,8 @@ module _ (prog block from : ℕ) (is : List Item) (some : 4 ≤ prog) where
   pub space-same : ltb block (roundedEnd prog laidEnd) ≡ ltb block (roundedEnd prog end)
   space-same = go (carries prog block end) refl
     where
-      go : (b : Bool) → carries prog block end ≡ b → ltb block (roundedEnd prog laidEnd) ≡ ltb block (roundedEnd prog end)
+      go : (b : Bool) → carries prog block end ≡ b
+          → ltb block (roundedEnd prog laidEnd) ≡ ltb block (roundedEnd prog end)
       go true h =
           let r = carried-end h in
           let fits : roundedEnd prog (end + forwardLength) + prog ≤ block = rw (r .0) at (r .1) in

@@ -61,7 +61,7 @@ use Rattle.theory.specs.Commit.AcceptedVerdict.{check-size}
 use Rattle.theory.specs.Directory.Rebuild.{rebuild}
 use Rattle.theory.specs.Blocks.ActItems.{toItem}
 use Rattle.theory.specs.Commit.MachineAfter.{commit-ran}
-use Rattle.theory.specs.Commit.ForwardCheck.{silent-loose, forward-none, with-ran}
+use Rattle.theory.specs.Commit.ForwardCheck.{silent-loose, carried-silent, with-ran}
 use Rattle.theory.specs.Fetch.FoundBlock.{Sized, found-sized, view-rev}
 
 -- ---- the tests, passed
@@ -114,7 +114,7 @@ module _ (x : List ℕ) (regular : Regular Littlefs (log x) ≡ true) where
         loose-app (behindOf (log x)) (forwardItems F)
         (behind-loose (splitOf false (log x)) (tailOf noTail (log x)) (moveOf option.none (log x))
         (regular-move x (log x) refl regular))
-        (silent-loose (forwardItems F) (forward-none F))
+        (silent-loose (forwardItems F) (carried-silent F))
 
     pub compaction-good : AllGood (withForward prog (length x) 4 (compactionItems (log x)))
     compaction-good =
@@ -332,8 +332,8 @@ module _ (g : Geometry) (b0 b1 : List ℕ) (n0 n1 count seed rules : ℕ) (w : B
       ∙ with-ran (g .«prog_size») (length x) 4 (compactionItems es) (machineOf [])
       ∙ ap (λ (l : List Item). ran (machineOf []) (written l [])) (compaction-items es)
       ∙ sym (commit-ran [] s allOnes I ct) in
-      let t = tail-kept (dirOf es) (splitOf false es) (tailOf noTail es) (moveOf option.none es) s allOnes ct ok few mv in
-      (
+      let t = tail-kept (dirOf es) (splitOf false es) (tailOf noTail es) (moveOf option.none es) s allOnes ct ok few
+      mv in (
         ap (λ (M : Machine). M .tail) bare ∙ t .0,
         ap (λ (M : Machine). M .split) bare ∙ t .1,
         ap (λ (M : Machine). M .move) bare

@@ -183,7 +183,8 @@ module _ (g : Geometry) (b0 b1 : List ℕ) (n0 n1 count seed rules : ℕ) (entri
       let L = image-lengths unlimited in
       let p = refound-place g n0 n1 count seed b0 b1 (f .b0) (f .b1) (L .0) (L .1) (commit-found .0) (commit-found .1)
       (commit-found .2) (appends .rev) finishedLog w in
-      let s = shows g (f .b0) (f .b1) n0 n1 count seed _ _ commit-found-again (rulesOf rules) w p (rw finished-log regular-finished) in
+      let s = shows g (f .b0) (f .b1) n0 n1 count seed _ _ commit-found-again (rulesOf rules) w p
+      (rw finished-log regular-finished) in
       let e : machineOf (log (blockAt w (f .b0) (f .b1))) ≡ ran (machineOf (log x)) (written (itemsOf dat entries) [])
       = ap machineOf finished-log ∙ commit-ran (log x) allOnes (logEndTag (log x)) is (checkTag size)
       ∙ ap (λ (l : List Item). ran (machineOf (log x)) (written l [])) (appends .items)
@@ -207,7 +208,8 @@ module _ (g : Geometry) (b0 b1 : List ℕ) (n0 n1 count seed rules : ℕ) (entri
         (appends .sized .1) (appends .items) (appends .rounded′) carried
 
     pub commit-held : forwardOf noForward finishedLog ≡ unitCheck prog
-    commit-held = rw laid-is (forward-held (log x) allOnes (logEndTag (log x)) (itemsOf dat entries) (checkTag size) prog)
+    commit-held = rw laid-is
+        (forward-held (log x) allOnes (logEndTag (log x)) (itemsOf dat entries) (checkTag size) prog)
 
     pub commit-erased : erasedOf prog (blockAt w (f .b0) (f .b1)) finishedLog ≡ true
     commit-erased =

@@ -193,7 +193,8 @@ module _ (g : Geometry) (b0 b1 : List ℕ) (n0 n1 count seed rules : ℕ) (w : B
       let L = image-lengths unlimited in
       let p = refound-place g n0 n1 count seed b0 b1 (f .b0) (f .b1) (L .0) (L .1) (compact-found .0) (compact-found .1)
       (compact-found .2) rev finishedLog (not w) in
-      let s = shows g (f .b0) (f .b1) n0 n1 count seed _ _ compact-found-again Document (not w) p (rw finished-log regular-finished) in
+      let s = shows g (f .b0) (f .b1) n0 n1 count seed _ _ compact-found-again Document (not w) p
+      (rw finished-log regular-finished) in
       subst (λ (M : Machine). Shows g n0 n1 Document (f .b0) (f .b1) M) (ap machineOf finished-log ∙ same-machine) s
 
   -- the call's own fetch of it

@@ -13,9 +13,9 @@ use Rattle.format.specs.Tag.{tagLength, tagFlipped}
 use Rattle.format.specs.Kind.{typeCheck, typeForward, noSlot, isForward}
 use Rattle.format.specs.Crc.{crc}
 use Rattle.format.specs.Walk.{Event, ent, chk, inv, walk, walkFrom}
-use Rattle.format.specs.Log.{log, eventLength, span, logEnd, logEndTag, stoppedStraight}
+use Rattle.format.specs.Log.{eventLength, span, logEnd, logEndTag, stoppedStraight}
 use Rattle.format.specs.Record.{forwardIn, noForward, forwardOf}
-use Rattle.format.specs.Fetch.{forwardFits, erasedOf}
+use Rattle.format.specs.Fetch.{erasedOf}
 use Rattle.format.specs.Commit.{Item, checkTag, commitBytes, commitSum, written}
 use Rattle.format.specs.Stores.{erased, entriesLength, appending, compacted}
 use Rattle.format.specs.Writer.{roundedEnd, checkSize, unitCheck, forwardItem, carries, carriedFor, withForward}
@@ -24,7 +24,7 @@ use Rattle.format.specs.declared.LfsPair.{LfsPair}
 use Rattle.format.proofs.Tags.{of-type3, of-length}
 use Rattle.theory.specs.Walk.Erased.{length-erased, blank-stop}
 use Rattle.theory.specs.Walk.ReadBack.{AllGood, GoodCheck, decode}
-use Rattle.theory.specs.Log.Stores.{CommitFits, Appends, commitEvents, reach-walk, compact-walk, filled}
+use Rattle.theory.specs.Log.Stores.{CommitFits, commitEvents, reach-walk, compact-walk, filled}
 use Rattle.theory.specs.Back.EventBytes.{Stands, log-stands}
 use Rattle.theory.specs.Blocks.Append.{length-commit, drop-erased-is, AppendOk, appends, as-filled}
 use Rattle.theory.specs.Rules.LooseEntry.{pair-back}
@@ -109,7 +109,8 @@ module _ (prog : ℕ) (some : 4 ≤ prog) (b : List ℕ) (es : List Event) (sum 
 
   end-is : logEnd (es ++ commitEvents sum p is ct) ≡ logEnd es + (entriesLength is + tagLength ct)
   unfolding commitEvents
-  end-is = rw (span-app es (written is (chk ct (commitSum sum p is ct) ∷ [])), span-written is ct (commitSum sum p is ct))
+  end-is = rw
+      (span-app es (written is (chk ct (commitSum sum p is ct) ∷ [])), span-written is ct (commitSum sum p is ct))
       (omega arith)
 
   bytes : length (commitBytes sum p is ct) ≡ entriesLength is + 8
