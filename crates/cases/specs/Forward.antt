@@ -88,12 +88,13 @@ fresh =
     ++ blank 112
 
 -- The listing with the deadline of an hour behind it: the forward check of its second commit stands in the block, and
--- the third commit, of 9 bytes, carries none. "the last one decides": sixteen bytes behind the new end are erased.
+-- the third commit, of 9 bytes, carries none. "a forward check was seen in ANY commit so far", and the last one's fits:
+-- sixteen bytes behind the new end are erased.
 abbrev hourly : List ℕ
 hourly = commitImages geometry listing (blank 128) 0 1 0 0 0 (record { kind = 0x374; id = 0; off = 0; len = 4 } ∷ [])
     (0x10 ∷ 0x0e ∷ 0x00 ∷ 0x00 ∷ []) unlimited .b0
 
--- "an uncommitted one behind the last check must not show": its twelve bytes behind the fresh pair's end, and no check.
+-- "the last committed forward check, or none": one that is not committed, behind the fresh pair's end.
 abbrev uncommitted : List ℕ
 uncommitted =
     (0x01 ∷ 0x00 ∷ 0x00 ∷ 0x00 ∷ 0xbf ∷ 0xef ∷ 0xff ∷ 0xff ∷ 0x10 ∷ 0x1f ∷ 0xfc ∷ 0x04 ∷ 0x30 ∷ 0xd2

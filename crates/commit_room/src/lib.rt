@@ -19,7 +19,7 @@ use format::types::CRC_START;
 const CHECK_LENGTH: usize = 8;
 // "a check tag 0x500, id 1,023", of size 0.
 const LFS_CHECK_TAG: u32 = 0x500f_fc00;
-// "a forward check: tag 0x5ff, id 1,023, size 8".
+// A forward check's tag: "forward check 0x5ff", "id 1,023, length 8".
 pub const LFS_FORWARD_TAG: u32 = 0x5fff_fc08;
 // Its tag and data.
 const FORWARD_LENGTH: usize = 12;

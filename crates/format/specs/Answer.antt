@@ -3,6 +3,7 @@
 use mathlib.Core.Bool.{Bool, true, false}
 use Prim.Native.Nat.{ℕ}
 use lib.IntN.{ℤ, pos, negℤ}
+use Rattle.format.specs.Record.{noForward}
 use Rattle.format.specs.declared.LfsMdir.{LfsMdir}
 use Rattle.format.specs.declared.Refusal.{Refusal}
 use Rattle.format.specs.declared.Refusal.the-variants as refusal
@@ -52,7 +53,7 @@ zeroMdir =
       erased = false;
       split = false;
       tail = record { n0 = 0; n1 = 0 };
-      fcrc = record { seen = false; size = 0; sum = 0 };
+      fcrc = noForward;
     }
 
 abbrev pub refusalMdir : Refusal → LfsMdir

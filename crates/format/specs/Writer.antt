@@ -51,12 +51,13 @@ unfoldable pub checkSize : ℕ → ℕ → ℕ
 checkSize prog at = roundedEnd prog at - (at + 4)
 
 -- ---- the forward check: document 02, L5
--- "a forward check entry: program size and the checksum of that erased unit": its checksum is "from 0xffffffff over
--- that many erased bytes".
+-- "a forward check entry: program size and the checksum of that erased unit", as fetch sums it: "from 0xffffffff over
+-- that many bytes from the end"
 abbrev pub unitCheck : ℕ → LfsFcrc
 unitCheck prog = record { seen = true; size = prog; sum = crc allOnes (erased prog) }
 
--- as an entry: "tag 0x5ff, id 1,023, size 8", and both numbers, little-endian
+-- As an entry it is what fetch reads, "forward check 0x5ff .. 8 bytes .. length and checksum", and what is regular:
+-- "forward checks (id 1,023, length 8)".
 abbrev pub forwardTag : ℕ
 forwardTag = tagOf typeForward noSlot 8
 

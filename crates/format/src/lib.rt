@@ -19,7 +19,7 @@ pub struct LfsPair {
 }
 
 // A forward check (the Rust's `LfsFcrc`): whether there is one, of how many bytes behind the log's end, and their
-// checksum. All 0 where there is none.
+// checksum. All 0 where there is none. In C the record has them as its last three fields.
 #[repr(C)]
 pub struct LfsFcrc {
     pub seen: bool,

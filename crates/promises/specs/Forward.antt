@@ -26,8 +26,8 @@ use Rattle.theory.specs.Commit.ForwardCheck as forward
 use Rattle.theory.specs.Stopped.Commit as commit
 use Rattle.theory.specs.Stopped.Compaction as compaction
 
--- ---- "the commit is laid without it, and -28 goes by the end that is really laid. So what -28 accepts is the same as
--- before": of entries that begin at `from`, and any block size
+-- ---- -28 goes by the end that is really laid, and that passes the block exactly if the entries' own rounded end does,
+-- so that what is accepted is what was: of entries that begin at `from`, and any block size
 pub space-same : (prog block from : ℕ) (is : List Item) → 4 ≤ prog
     → ltb block (roundedEnd prog (from + entriesLength (withForward prog block from is)))
     ≡ ltb block (roundedEnd prog (from + entriesLength is))
@@ -42,7 +42,7 @@ pub record Marked (prog : ℕ) (answer : Committed) : Type 0 where
   pub held : dir .fcrc ≡ unitCheck prog
 
 module _ (g : Geometry) (b0 b1 : List ℕ) (n0 n1 count seed rules : ℕ) where
-  -- "After an accepted commit .. that carried a forward check, fetch's erased mark is yes"
+  -- an accepted commit that carried a forward check: the room was clean, so the unit behind the new end is erased
   pub commit-marked : (entries : List Entry) (dat : List ℕ) (second : Bool) (is : List Item) (size : ℕ)
       → verdictOf g b0 b1 n0 n1 count seed rules entries dat ≡ accepted second is size
       → carries (g .«prog_size») (length (blockAt second b0 b1))
@@ -59,7 +59,7 @@ module _ (g : Geometry) (b0 b1 : List ℕ) (n0 n1 count seed rules : ℕ) where
         held = commit.commit-held g b0 b1 n0 n1 count seed rules entries dat second is size h carried;
       }
 
-  -- ".. or compaction": of images that are bytes
+  -- a compaction, of images that are bytes
   pub compact-marked : (second : Bool) (rev : ℕ) (is : List Item) (size : ℕ)
       → compactVerdict g b0 b1 n0 n1 count seed rules ≡ compactAccepted second rev is size
       → Bytes (blockAt second b0 b1)
