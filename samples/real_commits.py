@@ -26,8 +26,8 @@ Block = collections.namedtuple("Block", "name image prog place numbers")
 
 
 class Commit:
-    """A commit of a block's log: the block before it and after it, littlefs's own bytes as far as the log went, and
-    0xff behind them."""
+    """A commit of a block's log, numbered from 0, and the block before it and after it: littlefs's own bytes as far as
+    the log went then, and 0xff in place of what came later."""
 
     def __init__(self, block, log, number):
         self.name, self.block = f"{block.name}-commit-{number}", block
@@ -77,7 +77,8 @@ def blocks(folder):
 
 
 def appends(folder):
-    """Every commit but the first of its log: that one came with the block's revision, in a compaction."""
+    """Every commit but the first of its log: with that one the block was written anew, and littlefs lays no creates
+    then."""
     for block in blocks(folder):
         log = Log(block.image)
         for number in range(1, len(log.commits)):
@@ -95,8 +96,8 @@ def left_out(commit):
         return "of another program size than 4 to 512"
     if not commit.forward:
         assert commit.ends == size, commit.name
-        before = end_of(prog, laid + CHECK_LENGTH) < size
-        return f"without forward check, the library's {'before the' if before else 'at the same'} end"
+        later = size > end_of(prog, laid + CHECK_LENGTH)
+        return f"without forward check, ending {'later than' if later else 'with'} the library's"
     slots = Log(commit.before).slots(LITTLEFS)
     if slots is None:
         return "behind a log that is not regular"

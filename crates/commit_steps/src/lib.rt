@@ -211,7 +211,7 @@ fn sum_forward(j: Judging, fcrc: LfsFcrc) -> Judging
     sum_up(j, j.count, commit_room::LFS_FORWARD_TAG, &dat, 0, 8)
 }
 
-// "tags chained as above, data"
+// An entry as it was given.
 fn lay_entry(b: &mut [u8], l: Laying, dat: &[u8], kind: u16, id: u16, off: u32, len: u32) -> Laying
     ensures { λ r. ⌜ onto r (now (b .exit)) ≡ laidOf l (now (b .entry)) (now (dat .entry)) kind id off len ⌝ }
 {
@@ -219,6 +219,7 @@ fn lay_entry(b: &mut [u8], l: Laying, dat: &[u8], kind: u16, id: u16, off: u32, 
     lay(b, l, tag, dat, off, len)
 }
 
+// "tags chained as above, data"
 fn lay(b: &mut [u8], l: Laying, tag: u32, dat: &[u8], off: u32, len: u32) -> Laying
     ensures { λ r. ⌜ onto r (now (b .exit)) ≡ layOf l (now (b .entry)) tag (bodyOf (now (dat .entry)) off len) ⌝ }
 {

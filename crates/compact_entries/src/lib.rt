@@ -1,6 +1,7 @@
 // Compaction's entries, in order: "for each id create, newest name .., struct .., user attributes by rising type; then
-// tail ..; then move state". Each is laid into the new block by as many single stores as may still be made, and summed;
-// with none left to make, this measures what would be written and alters nothing.
+// tail ..; then move state", and the forward check behind them. Each is laid into the new block by as many single
+// stores as may still be made, and summed; with none left to make, this measures what would be written and alters
+// nothing.
 ghost use mathlib.Core.Path.{_≡_};
 ghost use mathlib.Core.Bool.{cond};
 ghost use mathlib.Core.List.{_∷_, _++_};
