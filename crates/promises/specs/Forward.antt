@@ -27,7 +27,8 @@ use Rattle.theory.specs.Stopped.Commit as commit
 use Rattle.theory.specs.Stopped.Compaction as compaction
 
 -- ---- -28 goes by the end that is really laid, and that passes the block exactly if the entries' own rounded end does,
--- so that what is accepted is what was: of entries that begin at `from`, and any block size
+-- so that what is accepted is what was. Of entries that begin at `from`, a commit's at the old end and a compaction's
+-- at 4, and of any block size
 pub space-same : (prog block from : ℕ) (is : List Item) → 4 ≤ prog
     → ltb block (roundedEnd prog (from + entriesLength (withForward prog block from is)))
     ≡ ltb block (roundedEnd prog (from + entriesLength is))
