@@ -35,8 +35,8 @@ unfoldable pub written : List Item → List Event → List Event
 written [] es = es
 written (i ∷ is) es = ent (i .tag) (i .body) ∷ written is es
 
--- "Entries run against a count c, starting at the record's": each passes the rule of its type in a log, where forward
--- checks are allowed, at the count that the ones before it leave.
+-- Of what is laid: each passes the rule of its type in a log, where a forward check and the superblock's name may stand
+-- too, at the count that the ones before it leave. For the theory; which entries a call takes is `judge` (Entries).
 unfoldable pub itemsHold : ℕ → List Item → Bool
 itemsHold c [] = true
 itemsHold c (i ∷ is) =

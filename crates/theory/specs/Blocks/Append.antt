@@ -41,6 +41,11 @@ fill-all zero (x ∷ N) h = absurd (omega arith)
 fill-all (suc k) [] h = refl
 fill-all (suc k) (x ∷ N) h = ap (λ z. x ∷ z) (fill-all k N (omega arith))
 
+pub take-erased : (n k : ℕ) → n ≤ k → take n (erased k) ≡ erased n
+take-erased zero k h = refl
+take-erased (suc n) zero h = absurd (omega arith)
+take-erased (suc n) (suc k) h = ap (λ z. 0xff ∷ z) (take-erased n k (omega arith))
+
 pub drop-erased-is : (k n j : ℕ) → k ≤ n → j ≡ n - k → drop k (erased n) ≡ erased j
 drop-erased-is zero n j h e = let q : n ≡ j = omega arith in rw q
 drop-erased-is (suc k) zero j h e = absurd (omega arith)

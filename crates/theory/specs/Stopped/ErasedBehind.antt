@@ -3,7 +3,7 @@
 use mathlib.Core.Path.{_≡_, refl, sym, ap, _∙_}
 use mathlib.Core.Bool.{Bool, true, false, cond}
 use mathlib.Core.List.{List, [], _∷_, _++_}
-use Prim.Native.Nat.{ℕ, zero, suc, _+_, _-_, _%_, _^_, _≤_, _<_}
+use Prim.Native.Nat.{ℕ, suc, _+_, _-_, _%_, _^_, _≤_, _<_}
 use native.Mathlib.Omega.{arith}
 use lib.ListN.{length, take, drop, length-append, length-drop}
 use lib.Seq.{drop-drop, drop-append-add, drop-at, length-take-le}
@@ -26,7 +26,8 @@ use Rattle.theory.specs.Walk.Erased.{length-erased, blank-stop}
 use Rattle.theory.specs.Walk.ReadBack.{AllGood, GoodCheck, decode}
 use Rattle.theory.specs.Log.Stores.{CommitFits, commitEvents, reach-walk, compact-walk, filled}
 use Rattle.theory.specs.Back.EventBytes.{Stands, log-stands}
-use Rattle.theory.specs.Blocks.Append.{length-commit, drop-erased-is, AppendOk, appends, as-filled}
+use Rattle.theory.specs.Blocks.Append.{length-commit, take-erased, drop-erased-is, AppendOk, appends}
+use Rattle.theory.specs.Blocks.Append.{as-filled}
 use Rattle.theory.specs.Rules.LooseEntry.{pair-back}
 use Rattle.theory.specs.Commit.ForwardCheck.{carried-end}
 use Rattle.theory.specs.Commit.AcceptedVerdict.{check-size, check-ends}
@@ -123,11 +124,6 @@ module _ (prog : ℕ) (some : 4 ≤ prog) (b : List ℕ) (es : List Event) (sum 
       sym (drop-drop (entriesLength is + tagLength ct) (logEnd es) b)
       ∙ rw (rest, k) (drop-append-add (commitBytes sum p is ct) (erased m) (tagLength ct - 8)
       ∙ drop-erased-is (tagLength ct - 8) m left (omega (arith, check .long)) refl)
-
-  take-erased : (n k : ℕ) → n ≤ k → take n (erased k) ≡ erased n
-  take-erased zero k h = refl
-  take-erased (suc n) zero h = absurd (omega arith)
-  take-erased (suc n) (suc k) h = ap (λ z. 0xff ∷ z) (take-erased n k (omega arith))
 
   long : logEnd es + (entriesLength is + tagLength ct) + prog ≤ length b
   long =
