@@ -22,10 +22,11 @@ extern "C" {
 
 /* ---- names: the results, the types of entries, the masks of a lookup, and the limits */
 
-/* The version, as littlefs has its own: the major number in the upper half, the minor in the lower. With 0.6
- * lanolin_mdir has the forward check at its end: callers of 0.5 and before are compiled again. */
+/* The version, as littlefs has its own: the major number in the upper half, the minor in the lower. 0.7 has
+ * lanolin_refetch, and nothing else of it is new. With 0.6 lanolin_mdir has the forward check at its end: callers of 0.5
+ * and before are compiled again. */
 #define LANOLIN_VERSION_MAJOR 0
-#define LANOLIN_VERSION_MINOR 6
+#define LANOLIN_VERSION_MINOR 7
 #define LANOLIN_VERSION (LANOLIN_VERSION_MAJOR << 16 | LANOLIN_VERSION_MINOR)
 
 /* Results. The first four refusals are littlefs's LFS_ERR_ numbers, the others are this project's own. */
@@ -95,7 +96,8 @@ extern "C" {
 typedef struct { uint32_t block_size, prog_size; } lanolin_geometry;
 
 /* The record of a metadata pair, as lanolin_fetch reads it. Lookups read pair, off and etag alone. Two records are
- * compared field by field: the bytes between `forward` and `forward_size` may be any. */
+ * compared field by field: the bytes between `forward` and `forward_size` may be any. Where `forward` is false, the two
+ * fields behind it are not read. */
 typedef struct {
     uint32_t pair[2];      /* the answering block's number first */
     uint32_t rev;          /* its revision */
@@ -154,6 +156,23 @@ typedef struct { int32_t result; bool found; uint32_t id; } lanolin_named;
 /* lfs_dir_fetch: the newest valid log of the pair. A block_count of 0 tests no number. */
 lanolin_fetched lanolin_fetch(lanolin_geometry g, const uint8_t *b0, size_t b0_len, const uint8_t *b1, size_t b1_len,
                               uint32_t n0, uint32_t n1, uint32_t block_count, uint32_t seed);
+
+/* lanolin_fetch again, from the end of a record that is known: it walks only what stands behind dir.off, so after a
+ * commit it takes a small part of a fetch's time. `dir` and `seed` are what an earlier lanolin_fetch (or lanolin_refetch)
+ * of the pair answered, or lanolin_commit.
+ *
+ * It answers what lanolin_fetch answers from the seed that the earlier fetch was given, as long as both revisions, the
+ * other block and, of the block dir.pair[0], every byte before dir.off and the four of its last checksum are as they
+ * were. (The last checksum lies before dir.off in all that this library writes.) So behind a commit, of this library or
+ * of another writer, also one that was cut short or refused. It is NOT so behind a compaction, of whomever, nor where the
+ * pair was read anew from a device on which another may have compacted it: then a full lanolin_fetch is due. The answer
+ * of lanolin_compact is one.
+ *
+ * Of any other record and bytes it answers what the definition says: pair and revision are the record's own, and what is
+ * committed behind its end is added to it. LANOLIN_ERR_INVAL also where dir.off is below 8 or above block_size, or
+ * dir.pair is not n0 and n1, in either order. Of dir all is read but `erased`. */
+lanolin_fetched lanolin_refetch(lanolin_geometry g, const uint8_t *b0, size_t b0_len, const uint8_t *b1, size_t b1_len,
+                                uint32_t n0, uint32_t n1, uint32_t block_count, uint32_t seed, lanolin_mdir dir);
 
 /* lfs_dir_getslice: the newest entry that gtag matches under gmask. Answers its tag, length and place, and
  * min(size, gsize) bytes of its data from goff on; the rest of the buffer is zeroed. Tag, length and place are the

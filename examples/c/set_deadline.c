@@ -30,17 +30,24 @@ static int set_deadline(uint8_t *b0, uint8_t *b1, size_t size, uint32_t prog_siz
     const lanolin_entry entry = {LANOLIN_TYPE_USERATTR + 0x74, slot, 0, 4};
     uint8_t data[4];
     lanolin_put_le32(data, sizeof data, 0, seconds);
-    uint32_t end = lanolin_fetch(g, b0, size, b1, size, 0, 1, 0, 0).dir.off;
+    lanolin_fetched known = lanolin_fetch(g, b0, size, b1, size, 0, 1, 0, 0);
     lanolin_committed c = lanolin_commit(g, b0, size, b1, size, 0, 1, 0, 0, rules, &entry, 1, data, sizeof data);
     if (LANOLIN_NEEDS_COMPACTION(c.result)) {
-        say_why(c, end);
+        say_why(c, known.dir.off);
         c = lanolin_compact(g, b0, size, b1, size, 0, 1, 0, 0, rules);
-        if (c.result == LANOLIN_OK) puts("compacted");
-        if (c.result == LANOLIN_OK)
+        if (c.result == LANOLIN_OK) {
+            puts("compacted");
+            /* behind a compaction the old record serves no more; this is a fetch's answer */
+            known.dir = c.dir;
+            known.seed = c.seed;
             c = lanolin_commit(g, b0, size, b1, size, 0, 1, 0, 0, rules, &entry, 1, data, sizeof data);
+        }
     }
     if (c.result != LANOLIN_OK) return fprintf(stderr, "refused: %d\n", (int)c.result), 1;
-    printf("committed: revision %lu, end %lu\n", (unsigned long)c.dir.rev, (unsigned long)c.dir.off);
+    /* behind a commit only what it wrote is walked again */
+    lanolin_fetched now = lanolin_refetch(g, b0, size, b1, size, 0, 1, 0, known.seed, known.dir);
+    if (now.result != LANOLIN_OK) return fprintf(stderr, "refused: %d\n", (int)now.result), 1;
+    printf("committed: revision %lu, end %lu\n", (unsigned long)now.dir.rev, (unsigned long)now.dir.off);
     return 0;
 }
 

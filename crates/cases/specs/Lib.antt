@@ -3,6 +3,7 @@ pub mod Leaves
 pub mod Listing
 pub mod Commits
 pub mod Forward
+pub mod Refetch
 pub mod Room
 pub mod Walks
 pub mod Rules

@@ -43,7 +43,7 @@ body-is dat e = refl
 
 -- ---- one entry
 abbrev pub judging : Judging → ℕ → ℕ → ℕ → ℕ → ℕ → Judging
-judging j i c n t s = record { off = j .off; etag = j .etag; index = i; count = c; size = n; prev = t; sum = s }
+judging j i c n t s = record { old = j .old; index = i; count = c; size = n; prev = t; sum = s }
 
 -- behind a good entry
 abbrev pub behind : List ℕ → Judging → Entry → Judging

@@ -3,14 +3,19 @@ use mathlib.Core.Path.{_≡_, refl, ap, _∙_}
 use mathlib.Core.List.{List}
 use Prim.Native.Nat.{ℕ, suc}
 use lib.ListN.{length}
+use mathlib.Core.Logic.{inl}
 use Rattle.format.specs.Fetch.{fetchOf}
+use Rattle.format.specs.Refetch.{refetchOf}
 use Rattle.format.specs.Writer.{answerOf, verdictOf, unlimited, commitImages, commitOf, commitStoresOf}
 use Rattle.format.specs.Stopped.{CommitStopped, CommitLeaves, CommitStoresLeaves}
 use Rattle.format.specs.declared.Geometry.{Geometry}
+use Rattle.format.specs.declared.LfsMdir.{LfsMdir}
 use Rattle.format.specs.declared.Entry.{Entry}
+use Rattle.format.specs.declared.Fetched.the-variants as fetched
 use Rattle.format.specs.declared.Committed.{Committed}
 use Rattle.format.specs.declared.Stored.{Stored}
 use Rattle.theory.specs.Stopped.Commit.{stopped-commit}
+use Rattle.theory.specs.Stopped.Refetch.{refetch-behind}
 use Rattle.commit_steps.specs.State.{Trio, trio, begunOf, decidedOf, sealedOf, answeredOf, madeOf}
 use Rattle.commit_steps.specs.declared.State.{State}
 use Rattle.commit.proofs.Whole.{ran}
@@ -57,7 +62,7 @@ module _ (b0 b1 : List ℕ) (es : List Entry) (dat : List ℕ) (g : Geometry) (n
 
   pub commit-glue : (n : ℕ) (r0 : State) (x0 y0 : List ℕ) (r1 : Committed) → n ≡ unlimited
       → trio r0 x0 y0 ≡ ranOf g b0 b1 n0 n1 count seed rules es dat n
-      → r1 ≡ answeredOf r0 (fetchOf g x0 y0 n0 n1 count seed)
+      → r1 ≡ answeredOf r0 (refetchOf g x0 y0 n0 n1 count)
       → (r1 ≡ commitOf g b0 b1 n0 n1 count seed rules es dat)
       × CommitLeaves g b0 b1 n0 n1 count seed rules es dat x0 y0
   unfolding commitOf commitImages
@@ -69,9 +74,12 @@ module _ (b0 b1 : List ℕ) (es : List Entry) (dat : List ℕ) (g : Geometry) (n
       ap (λ (u : Trio). u .b0) e ∙ t .first in
       let ey : y0 ≡ commitImages g b0 b1 n0 n1 count seed rules es dat unlimited .b1 =
       ap (λ (u : Trio). u .b1) e ∙ t .second in
+      let again : (m : LfsMdir) (s : ℕ) → fetchOf g b0 b1 n0 n1 count seed ≡ fetched.Found m s
+      → refetchOf g x0 y0 n0 n1 count s m ≡ fetchOf g x0 y0 n0 n1 count seed =
+      λ m s h. rw (ex, ey) (refetch-behind g b0 b1 n0 n1 count seed rules es dat unlimited m s (inl h)) in
       let answers : r1 ≡ commitOf g b0 b1 n0 n1 count seed rules es dat =
-      e1 ∙ ap (λ (u : Trio). answeredOf (u .st) (fetchOf g x0 y0 n0 n1 count seed)) e
-      ∙ t .answers (fetchOf g x0 y0 n0 n1 count seed)
+      e1 ∙ ap (λ (u : Trio). answeredOf (u .st) (refetchOf g x0 y0 n0 n1 count)) e
+      ∙ t .answers (refetchOf g x0 y0 n0 n1 count) (fetchOf g x0 y0 n0 n1 count seed) again
       ∙ (λ i. answerOf (fetchOf g (ex i) (ey i) n0 n1 count seed) (verdictOf g b0 b1 n0 n1 count seed rules es dat)) in
       (answers, (ex, ey, stopped-commit g b0 b1 n0 n1 count seed rules es dat))
 

@@ -1,6 +1,6 @@
 -- The steps of a commit, all of them, leave what format's verdict says: the images, the answer, and the number of
 -- stores. Assumes nothing.
-use mathlib.Core.Path.{_≡_, refl, sym, ap, _∙_, subst}
+use mathlib.Core.Path.{_≡_, refl, sym, ap, ap₂, _∙_, subst}
 use mathlib.Core.Bool.{Bool, true, false, not, cond, _&&_}
 use mathlib.Core.List.{List, [], _∷_, _++_, append-nil}
 use Prim.Native.Nat.{ℕ, _+_, _-_, _≤_, min}
@@ -24,7 +24,7 @@ use Rattle.format.specs.Entries.{itemsOf, Judged, judge, bad, good}
 use Rattle.format.specs.Room.{roomOf}
 use Rattle.format.specs.Writer.{roundedEnd, checkSize, checkAt, allStores, mostData, mostEntries, commitFits}
 use Rattle.format.specs.Writer.{Verdict, refused, accepted, blockAt, roomThen, placed, judgedBy, appended, isSecond}
-use Rattle.format.specs.Writer.{fetchedThen, verdictOf, imagesAfter, storedTo, answerOf, storesMade}
+use Rattle.format.specs.Writer.{fetchedThen, verdictOf, imagesAfter, storedTo, committedAs, answerOf, storesMade}
 use Rattle.format.specs.Writer.{unitCheck, forwardTag, forwardItem, carries, carriedFor, forwardItems, withForward}
 use Rattle.format.specs.declared.LfsFcrc.{LfsFcrc}
 use Rattle.format.specs.declared.Geometry.{Geometry}
@@ -62,21 +62,23 @@ use Rattle.commit.proofs.Chained.{lastTag, lastSum, tag-app, sum-app, m
 use Rattle.commit.proofs.Judges.{after, phaseOf, judge-pass, items-long}
 use Rattle.commit.proofs.Lays.{Tagged, judged-tagged, allLaid, lay-first, lay-second, sealed-done}
 
--- what a state and two blocks must be behind a commit with the limit n and the verdict v
-pub record Ran (b0 b1 : List ℕ) (n : ℕ) (v : Verdict) (t : Trio) : Type 0 where
+-- what a state and two blocks must be behind a commit with the limit n and the verdict v. F is what was fetched first;
+-- the answer is f, if that is what is fetched again behind it.
+pub record Ran (F : Fetched) (b0 b1 : List ℕ) (n : ℕ) (v : Verdict) (t : Trio) : Type 0 where
   pub first : t .b0 ≡ imagesAfter n b0 b1 v .b0
   pub second : t .b1 ≡ imagesAfter n b0 b1 v .b1
-  pub answers : (f : Fetched) → answeredOf (t .st) f ≡ answerOf f v
+  pub answers : (on : ℕ → LfsMdir → Fetched) (f : Fetched)
+      → ((m : LfsMdir) (s : ℕ) → F ≡ fetched.Found m s → on s m ≡ f) → answeredOf (t .st) on ≡ answerOf f v
   pub made : madeOf (t .st) n ≡ storesMade n v
 
-ran-refused : (b0 b1 : List ℕ) (n : ℕ) (w : Bool) (r : Refusal) (t : Trio) → t ≡ trio (state w (Refused r)) b0 b1
-    → Ran b0 b1 n (refused r) t
+ran-refused : (F : Fetched) (b0 b1 : List ℕ) (n : ℕ) (w : Bool) (r : Refusal) (t : Trio)
+    → t ≡ trio (state w (Refused r)) b0 b1 → Ran F b0 b1 n (refused r) t
 unfolding answeredOf madeOf
-ran-refused b0 b1 n w r t e =
+ran-refused F b0 b1 n w r t e =
     record {
       first = ap (λ (u : Trio). u .b0) e;
       second = ap (λ (u : Trio). u .b1) e;
-      answers = λ f. ap (λ (u : Trio). answeredOf (u .st) f) e;
+      answers = λ on f h. ap (λ (u : Trio). answeredOf (u .st) on) e;
       made = ap (λ (u : Trio). madeOf (u .st) n) e;
     }
 
@@ -96,22 +98,24 @@ module _ (b : List ℕ) (is : List Item) (size n : ℕ) (made : AllMade is)
       puts-paste (commitBytes allOnes (logEndTag (log b)) is (checkTag size)) (logEnd (log b)) n b (omega arith) ∙ rw l
 
 -- the block at place w holds them
-ran-accepted : (b0 b1 : List ℕ) (n : ℕ) (w : Bool) (is : List Item) (size a : ℕ) (l : Laying) (p : ℕ) (t : Trio)
-    → t ≡ into w b0 b1 (laidTo l p (laid (runAt a (n - allStores is)) (storedTo (blockAt w b0 b1) is size n)))
-    → Ran b0 b1 n (accepted w is size) t
+ran-accepted : (F : Fetched) (b0 b1 : List ℕ) (n : ℕ) (w : Bool) (is : List Item) (size a : ℕ) (l : Laying) (p : ℕ)
+    (t : Trio) → F ≡ fetched.Found (l .old .dir) (l .old .seed) → t ≡ into w b0 b1 (laidTo l p (laid (runAt a (n - allStores is)) (storedTo (blockAt w b0 b1) is size n)))
+    → Ran F b0 b1 n (accepted w is size) t
 unfolding answeredOf madeOf
-ran-accepted b0 b1 n false is size a l p t e =
+ran-accepted F b0 b1 n false is size a l p t found e =
     record {
       first = ap (λ (u : Trio). u .b0) e;
       second = ap (λ (u : Trio). u .b1) e;
-      answers = λ f. ap (λ (u : Trio). answeredOf (u .st) f) e;
+      answers = λ on f h. ap (λ (u : Trio). answeredOf (u .st) on) e
+          ∙ ap committedAs (h (l .old .dir) (l .old .seed) found);
       made = ap (λ (u : Trio). madeOf (u .st) n) e ∙ ap stored.Made (made-count n (allStores is));
     }
-ran-accepted b0 b1 n true is size a l p t e =
+ran-accepted F b0 b1 n true is size a l p t found e =
     record {
       first = ap (λ (u : Trio). u .b0) e;
       second = ap (λ (u : Trio). u .b1) e;
-      answers = λ f. ap (λ (u : Trio). answeredOf (u .st) f) e;
+      answers = λ on f h. ap (λ (u : Trio). answeredOf (u .st) on) e
+          ∙ ap committedAs (h (l .old .dir) (l .old .seed) found);
       made = ap (λ (u : Trio). madeOf (u .st) n) e ∙ ap stored.Made (made-count n (allStores is));
     }
 
@@ -120,8 +124,10 @@ lay-both : (dat : List ℕ) (es : List Entry) (l : Laying) (w : Bool) (b0 b1 : L
 lay-both dat es l false b0 b1 h = lay-first dat es l b0 b1 h
 lay-both dat es l true b0 b1 h = lay-second dat es l b0 b1 h
 
--- ---- good entries: the block B at place w answers
-module _ (dat : List ℕ) (entries : List Entry) (w : Bool) (b0 b1 : List ℕ) (n prog : ℕ) where
+-- ---- good entries: the block B at place w answers, the record m was found, with the seed s behind it
+module _ (F : Fetched) (dat : List ℕ) (entries : List Entry) (w : Bool) (b0 b1 : List ℕ) (n prog : ℕ) (m : LfsMdir)
+    (s : ℕ) (found : F ≡ fetched.Found m s) (ends : m .off ≡ logEnd (log (blockAt w b0 b1)))
+    (end-tag : m .etag ≡ logEndTag (log (blockAt w b0 b1))) where
   abbrev B : List ℕ
   B = blockAt w b0 b1
 
@@ -144,6 +150,7 @@ module _ (dat : List ℕ) (entries : List Entry) (w : Bool) (b0 b1 : List ℕ) (
   abbrev laying : Laying
   laying =
       record {
+        old = record { dir = m; seed = s };
         run = runAt (logEnd (log B)) n;
         prev = logEndTag (log B);
         fcrc = fcrc;
@@ -154,8 +161,7 @@ module _ (dat : List ℕ) (entries : List Entry) (w : Bool) (b0 b1 : List ℕ) (
   -- what the first pass starts from
   abbrev J0 : Judging
   J0 = record {
-    off = logEnd (log B);
-    etag = logEndTag (log B);
+    old = record { dir = m; seed = s };
     index = 0;
     count = countOf 0 (log B);
     size = 0;
@@ -179,16 +185,15 @@ module _ (dat : List ℕ) (entries : List Entry) (w : Bool) (b0 b1 : List ℕ) (
       (laid (runAt (logEnd (log B) + min n (allStores I)) (n - allStores I))
       (storedTo B I (checkSize prog (checkAt (log B) I)) n)))
   unfolding withForward
-  laid-all h m room =
+  laid-all h made room =
       ap sealT (pass-fold entries dat (trio (state w (Lay laying)) b0 b1) ∙ lay-both dat entries laying w b0 b1 h)
       ∙ sealed-done dat entries laying allOnes (logEndTag (log B)) ct refl refl refl w b0 b1
       ∙ ap (λ (u : Laid). into w b0 b1 (laidTo laying (lastTag (logEndTag (log B)) I) u))
-      (stores-are B I (checkSize prog (checkAt (log B) I)) n m room)
+      (stores-are B I (checkSize prog (checkAt (log B) I)) n made room)
 
   -- j is behind all that is laid
   pub record Behind (j : Judging) (is : List Item) : Type 0 where
-    pub off′ : j .off ≡ logEnd (log B)
-    pub etag′ : j .etag ≡ logEndTag (log B)
+    pub old′ : j .old ≡ record { dir = m; seed = s }
     pub size′ : j .size ≡ entriesLength is
     pub prev′ : j .prev ≡ lastTag (logEndTag (log B)) is
     pub sum′ : j .sum ≡ lastSum allOnes (logEndTag (log B)) is
@@ -198,7 +203,7 @@ module _ (dat : List ℕ) (entries : List Entry) (w : Bool) (b0 b1 : List ℕ) (
       (roomOf prog B (logEnd (log B)) (logEndTag (log B))) (coincides allOnes (logEndTag (log B)) I ct)
   unfolding testedOf
   tested-phase j k =
-      rw (k .off′, k .etag′, k .size′, k .prev′, k .sum′, meets-last I allOnes (logEndTag (log B)) ct)
+      rw (k .old′, ends, end-tag, k .size′, k .prev′, k .sum′, meets-last I allOnes (logEndTag (log B)) ct)
 
   -- the forward check is summed as one entry more
   summed-behind : (len c : ℕ) (i : Item) → i .tag ≡ forwardTag → length entries ≤ mostEntries
@@ -206,8 +211,7 @@ module _ (dat : List ℕ) (entries : List Entry) (w : Bool) (b0 b1 : List ℕ) (
   unfolding summedOf lastTag lastSum entriesLength
   summed-behind len c i is few =
       record {
-        off′ = refl;
-        etag′ = refl;
+        old′ = refl;
         size′ = omega (arith, items-long dat entries, length-app E (i ∷ []), ap tagLength is ∙ forward-long);
         prev′ = sym (tag-app E (i ∷ []) (logEndTag (log B)));
         sum′ = sym (sum-app E (i ∷ []) allOnes (logEndTag (log B)));
@@ -221,7 +225,7 @@ module _ (dat : List ℕ) (entries : List Entry) (w : Bool) (b0 b1 : List ℕ) (
           Behind (cond (f .seen) (summedOf (after J0 E len c) c forwardTag (forwardItem f .body)) (after J0 E len c))
           (E ++ forwardItems f))
       go false = rw (append-nil E)
-          (record { off′ = refl; etag′ = refl; size′ = zero-add (entriesLength E); prev′ = refl; sum′ = refl })
+          (record { old′ = refl; size′ = zero-add (entriesLength E); prev′ = refl; sum′ = refl })
       go true = summed-behind len c (forwardItem (unitCheck prog)) refl few
 
   placed-phase : (len c : ℕ) → length entries ≤ mostEntries → placedOf (after J0 E len c) prog B n
@@ -230,35 +234,38 @@ module _ (dat : List ℕ) (entries : List Entry) (w : Bool) (b0 b1 : List ℕ) (
   unfolding placedOf
   placed-phase len c few =
       let j : Judging = after J0 E len c in
-      ap (λ (k : ℕ). let f : LfsFcrc = carriedFor prog (length B) (logEnd (log B) + k) in
-      testedOf (forwardSummed j f) f prog B n) (zero-add (entriesLength E))
+      ap₂ (λ (e k : ℕ). let f : LfsFcrc = carriedFor prog (length B) (e + k) in
+      testedOf (forwardSummed j f) f prog B n) ends (zero-add (entriesLength E))
       ∙ tested-phase (forwardSummed j fcrc) (behind-forward len c few)
 
-  module _ (some : 4 ≤ prog) (h : Tagged entries) (m : AllMade I) where
+  module _ (some : 4 ≤ prog) (h : Tagged entries) (made : AllMade I) where
     ran-tests : (x : Bool) (y : Room) (z : Bool) → ltb (length B) (roundedEnd prog (checkAt (log B) I)) ≡ x
-        → Ran b0 b1 n (verdict x y z) (laidBy (tests x y z))
-    ran-tests true y z e = ran-refused b0 b1 n w NoSpace _ (laid-refused w NoSpace b0 b1 entries dat)
-    ran-tests false (room.Refused r) z e = ran-refused b0 b1 n w r _ (laid-refused w r b0 b1 entries dat)
+        → Ran F b0 b1 n (verdict x y z) (laidBy (tests x y z))
+    ran-tests true y z e = ran-refused F b0 b1 n w NoSpace _ (laid-refused w NoSpace b0 b1 entries dat)
+    ran-tests false (room.Refused r) z e = ran-refused F b0 b1 n w r _ (laid-refused w r b0 b1 entries dat)
     ran-tests false room.Clean true e =
-        ran-refused b0 b1 n w Coincidence _ (laid-refused w Coincidence b0 b1 entries dat)
+        ran-refused F b0 b1 n w Coincidence _ (laid-refused w Coincidence b0 b1 entries dat)
     ran-tests false room.Clean false e =
         let fit : roundedEnd prog (checkAt (log B) I) ≤ length B =
         ltb-false (length B) (roundedEnd prog (checkAt (log B) I)) e in
-        ran-accepted b0 b1 n w I (checkSize prog (checkAt (log B) I)) (logEnd (log B) + min n (allStores I)) laying
-        (lastTag (logEndTag (log B)) I) _
-        (laid-all h m (omega (arith, rounded prog (checkAt (log B) I) some .0)))
+        ran-accepted F b0 b1 n w I (checkSize prog (checkAt (log B) I)) (logEnd (log B) + min n (allStores I)) laying
+        (lastTag (logEndTag (log B)) I) _ found
+        (laid-all h made (omega (arith, rounded prog (checkAt (log B) I) some .0)))
 
     ran-placed : (len c : ℕ) → length entries ≤ mostEntries
-        → Ran b0 b1 n (placed prog w B (log B) I) (laidBy (placedOf (after J0 E len c) prog B n))
+        → Ran F b0 b1 n (placed prog w B (log B) I) (laidBy (placedOf (after J0 E len c) prog B n))
     unfolding placed
     ran-placed len c few =
-        subst (λ (p : Phase). Ran b0 b1 n (placed prog w B (log B) I) (laidBy p)) (sym (placed-phase len c few))
+        subst (λ (p : Phase). Ran F b0 b1 n (placed prog w B (log B) I) (laidBy p)) (sym (placed-phase len c few))
         (ran-tests (ltb (length B) (roundedEnd prog (checkAt (log B) I)))
         (roomOf prog B (logEnd (log B)) (logEndTag (log B))) (coincides allOnes (logEndTag (log B)) I ct) refl)
 
 -- ---- all of it
 module _ (g : Geometry) (b0 b1 : List ℕ) (n0 n1 count seed rules : ℕ) (entries : List Entry) (dat : List ℕ)
     (n : ℕ) where
+  abbrev F : Fetched
+  F = fetchOf g b0 b1 n0 n1 count seed
+
   abbrev decidedT : Trio → Trio
   decidedT t = sealT (passOf entries dat (decideT g n t))
 
@@ -286,14 +293,16 @@ module _ (g : Geometry) (b0 b1 : List ℕ) (n0 n1 count seed rules : ℕ) (entri
     geometry : geometryFits g ≡ true
     geometry = fits-geometry g (length b0) (length b1) n0 n1 rules (length entries) (length dat) fits
 
-    -- the block at place w answers, its log is regular, by littlefs's rule, the wider one
-    module _ (w : Bool) (regular : Regular Littlefs (log (blockAt w b0 b1)) ≡ true) where
+    -- the block at place w answers, m was found with the seed s; its log is regular, by littlefs's rule, the wider one
+    module _ (w : Bool) (m : LfsMdir) (s : ℕ) (found : F ≡ fetched.Found m s)
+        (ends : m .off ≡ logEnd (log (blockAt w b0 b1))) (end-tag : m .etag ≡ logEndTag (log (blockAt w b0 b1)))
+        (regular : Regular Littlefs (log (blockAt w b0 b1)) ≡ true) where
       low : countOf 0 (log (blockAt w b0 b1)) ≤ mostSlots
       low = subst (λ (k : ℕ). k ≤ mostSlots) (sym (regular-slots (log (blockAt w b0 b1)) regular))
           (regular-count (blockAt w b0 b1) (log (blockAt w b0 b1)) refl regular)
 
       abbrev start : Judging
-      start = J0 dat entries w b0 b1 n (g .«prog_size»)
+      start = J0 F dat entries w b0 b1 n (g .«prog_size») m s found ends end-tag
 
       decided-good : (c : ℕ) → decideT g n
           (trio (state w (Judge (after start (itemsOf dat entries) (length entries) c))) b0 b1)
@@ -303,19 +312,19 @@ module _ (g : Geometry) (b0 b1 : List ℕ) (n0 n1 count seed rules : ℕ) (entri
       decided-good c = rw images
 
       ran-judged : (j : Judged) → judge dat 0 (countOf 0 (log (blockAt w b0 b1))) entries ≡ j
-          → Ran b0 b1 n (judgedBy j (placed (g .«prog_size») w (blockAt w b0 b1) (log (blockAt w b0 b1)) (laidAt w)))
+          → Ran F b0 b1 n (judgedBy j (placed (g .«prog_size») w (blockAt w b0 b1) (log (blockAt w b0 b1)) (laidAt w)))
           (decidedT (trio (state w (phaseOf j start (itemsOf dat entries) (length entries))) b0 b1))
-      ran-judged (bad k) e = ran-refused b0 b1 n w (BadEntry k) _ (decided-refused w (BadEntry k) b0 b1 g n entries dat)
+      ran-judged (bad k) e = ran-refused F b0 b1 n w (BadEntry k) _ (decided-refused w (BadEntry k) b0 b1 g n entries dat)
       ran-judged (good c) e =
           let good-all = judged-good dat entries 0 (countOf 0 (log (blockAt w b0 b1))) c low e in
-          subst (λ (t : Trio). Ran b0 b1 n (placed (g .«prog_size») w (blockAt w b0 b1) (log (blockAt w b0 b1))
+          subst (λ (t : Trio). Ran F b0 b1 n (placed (g .«prog_size») w (blockAt w b0 b1) (log (blockAt w b0 b1))
           (laidAt w)) (sealT (passOf entries dat t))) (sym (decided-good c))
-          (ran-placed dat entries w b0 b1 n (g .«prog_size») (fits-prog g geometry .0)
+          (ran-placed F dat entries w b0 b1 n (g .«prog_size») m s found ends end-tag (fits-prog g geometry .0)
           (judged-tagged dat entries 0 (countOf 0 (log (blockAt w b0 b1))) c low e)
           (with-made (g .«prog_size») (length (blockAt w b0 b1)) (logEnd (log (blockAt w b0 b1))) (itemsOf dat entries)
           (good-all .made)) (length entries) c few)
 
-      ran-regular : Ran b0 b1 n (judgedBy (judge dat 0 (countOf 0 (log (blockAt w b0 b1))) entries)
+      ran-regular : Ran F b0 b1 n (judgedBy (judge dat 0 (countOf 0 (log (blockAt w b0 b1))) entries)
           (placed (g .«prog_size») w (blockAt w b0 b1) (log (blockAt w b0 b1)) (laidAt w)))
           (T (state w (Judge start)))
       ran-regular =
@@ -324,26 +333,25 @@ module _ (g : Geometry) (b0 b1 : List ℕ) (n0 n1 count seed rules : ℕ) (entri
           (itemsOf dat entries) (length entries))) b0 b1 =
           pass-fold entries dat (trio (state w (Judge start)) b0 b1)
           ∙ judge-pass dat w b0 b1 entries start low (omega (arith, few)) (omega (arith, few)) in
-          subst (λ (t : Trio). Ran b0 b1 n (judgedBy (judge dat 0 (countOf 0 (log (blockAt w b0 b1))) entries)
+          subst (λ (t : Trio). Ran F b0 b1 n (judgedBy (judge dat 0 (countOf 0 (log (blockAt w b0 b1))) entries)
           (placed (g .«prog_size») w (blockAt w b0 b1) (log (blockAt w b0 b1)) (laidAt w))) (decidedT t))
           (sym p)
           (ran-judged (judge dat 0 (countOf 0 (log (blockAt w b0 b1))) entries) refl)
 
-    ran-started : (w : Bool) (m : LfsMdir) → m .off ≡ logEnd (log (blockAt w b0 b1))
+    ran-started : (w : Bool) (m : LfsMdir) (s : ℕ) → F ≡ fetched.Found m s → m .off ≡ logEnd (log (blockAt w b0 b1))
         → m .etag ≡ logEndTag (log (blockAt w b0 b1)) → m .count ≡ countOf 0 (log (blockAt w b0 b1))
-        → Ran b0 b1 n (appended (rulesOf rules) (g .«prog_size») w (blockAt w b0 b1) (log (blockAt w b0 b1))
-        entries dat) (T (startedOf (rulesOf rules) w (blockAt w b0 b1) m))
+        → Ran F b0 b1 n (appended (rulesOf rules) (g .«prog_size») w (blockAt w b0 b1) (log (blockAt w b0 b1))
+        entries dat) (T (startedOf (rulesOf rules) w (blockAt w b0 b1) m s))
     unfolding appended startedOf
-    ran-started w m eo et ec = go (Regular (rulesOf rules) (log (blockAt w b0 b1))) refl
+    ran-started w m s found eo et ec = go (Regular (rulesOf rules) (log (blockAt w b0 b1))) refl
       where
         later : Verdict
         later = judgedBy (judge dat 0 (countOf 0 (log (blockAt w b0 b1))) entries)
             (placed (g .«prog_size») w (blockAt w b0 b1) (log (blockAt w b0 b1)) (laidAt w))
 
-        from-record : judgingFrom m ≡ J0 dat entries w b0 b1 n (g .«prog_size»)
+        from-record : judgingFrom m s ≡ J0 F dat entries w b0 b1 n (g .«prog_size») m s found eo et
         from-record = λ k. record {
-          off = eo k;
-          etag = et k;
+          old = record { dir = m; seed = s };
           index = 0;
           count = ec k;
           size = 0;
@@ -352,37 +360,34 @@ module _ (g : Geometry) (b0 b1 : List ℕ) (n0 n1 count seed rules : ℕ) (entri
         }
 
         go : (x : Bool) → Regular (rulesOf rules) (log (blockAt w b0 b1)) ≡ x
-            → Ran b0 b1 n (cond (not x) (refused Irregular) later)
-            (T (cond (not x) (refusedState Irregular) (state w (Judge (judgingFrom m)))))
-        go false e = ran-refused b0 b1 n false Irregular _ (all-refused false Irregular b0 b1 g n entries dat)
-        go true e = subst (λ (j : Judging). Ran b0 b1 n later (T (state w (Judge j)))) (sym from-record)
-            (ran-regular w (widest (rulesOf rules) _ e))
+            → Ran F b0 b1 n (cond (not x) (refused Irregular) later)
+            (T (cond (not x) (refusedState Irregular) (state w (Judge (judgingFrom m s)))))
+        go false e = ran-refused F b0 b1 n false Irregular _ (all-refused false Irregular b0 b1 g n entries dat)
+        go true e = subst (λ (j : Judging). Ran F b0 b1 n later (T (state w (Judge j)))) (sym from-record)
+            (ran-regular w m s found eo et (widest (rulesOf rules) _ e))
 
     abbrev on : LfsMdir → Verdict
     on m = appended (rulesOf rules) (g .«prog_size») (isSecond n0 m) (blockAt (isSecond n0 m) b0 b1)
         (log (blockAt (isSecond n0 m) b0 b1)) entries dat
 
     ran-fetched : (f : Fetched) → fetchOf g b0 b1 n0 n1 count seed ≡ f
-        → Ran b0 b1 n (fetchedThen f on) (T (fetchedBy (rulesOf rules) f n0 b0 b1))
-    ran-fetched (fetched.Refused r) e = ran-refused b0 b1 n false r _ (all-refused false r b0 b1 g n entries dat)
+        → Ran F b0 b1 n (fetchedThen f on) (T (fetchedBy (rulesOf rules) f n0 b0 b1))
+    ran-fetched (fetched.Refused r) e = ran-refused F b0 b1 n false r _ (all-refused false r b0 b1 g n entries dat)
     ran-fetched (fetched.Found m s) e =
         let a = found-answers g b0 b1 n0 n1 count seed m s e in
-        subst (λ (v : Bool). Ran b0 b1 n (appended (rulesOf rules) (g .«prog_size») v (blockAt v b0 b1) (log (blockAt v
-        b0 b1)) entries dat) (T (startedOf (rulesOf rules) v (blockAt v b0 b1) m))) (sym (a .place))
-        (ran-started (a .w) m (a .end) (a .endTag) (a .count))
+        subst (λ (v : Bool). Ran F b0 b1 n (appended (rulesOf rules) (g .«prog_size») v (blockAt v b0 b1) (log (blockAt v
+        b0 b1)) entries dat) (T (startedOf (rulesOf rules) v (blockAt v b0 b1) m s))) (sym (a .place))
+        (ran-started (a .w) m s e (a .end) (a .endTag) (a .count))
 
-  pub ran : Ran b0 b1 n (verdictOf g b0 b1 n0 n1 count seed rules entries dat)
+  pub ran : Ran F b0 b1 n (verdictOf g b0 b1 n0 n1 count seed rules entries dat)
       (ranOf g b0 b1 n0 n1 count seed rules entries dat n)
   unfolding verdictOf ranOf begunOf
   ran = go (commitFits g (length b0) (length b1) n0 n1 rules (length entries) (length dat)) refl
     where
-      F : Fetched
-      F = fetchOf g b0 b1 n0 n1 count seed
-
       go : (x : Bool) → commitFits g (length b0) (length b1) n0 n1 rules (length entries) (length dat) ≡ x
-          → Ran b0 b1 n (cond (not x) (refused Invalid)
+          → Ran F b0 b1 n (cond (not x) (refused Invalid)
           (fetchedThen F (λ m. appended (rulesOf rules) (g .«prog_size») (isSecond n0 m) (blockAt (isSecond n0 m) b0 b1)
           (log (blockAt (isSecond n0 m) b0 b1)) entries dat)))
           (T (cond (not x) (refusedState Invalid) (fetchedBy (rulesOf rules) F n0 b0 b1)))
-      go false e = ran-refused b0 b1 n false Invalid _ (all-refused false Invalid b0 b1 g n entries dat)
+      go false e = ran-refused F b0 b1 n false Invalid _ (all-refused false Invalid b0 b1 g n entries dat)
       go true e = ran-fetched e F refl

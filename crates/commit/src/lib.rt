@@ -97,7 +97,7 @@ pub fn lfs_dir_commit(
         dat,
         all,
     );
-    commit_steps::answer(s, g, b0, b1, n0, n1, block_count, seed)
+    commit_steps::answer(s, g, b0, b1, n0, n1, block_count)
 }
 
 // The same "with a limit of n stores: exactly the first n of demand 3's list are made (all, if n is larger) and the

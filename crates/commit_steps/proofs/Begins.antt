@@ -23,14 +23,15 @@ use Rattle.commit_steps.specs.declared.State.{State}
 use Rattle.commit_steps.specs.declared.Phase.the-variants.{Judge}
 
 -- ---- `start`: r is what `rules_of` answers, x what `log_regular` does
-module _ (second : Bool) (b : List ℕ) (m : LfsMdir) (rules : ℕ) (r : Rules) (asked : r ≡ rulesOf rules) (x : Bool)
+module _ (second : Bool) (b : List ℕ) (m : LfsMdir) (seed rules : ℕ) (r : Rules) (asked : r ≡ rulesOf rules) (x : Bool)
     (is : x ≡ Regular r (log b)) where
-  pub starts-irregular : (s : State) → not x ≡ true → s ≡ refusedState Irregular → s ≡ startedOf (rulesOf rules) second
-      b m
+  pub starts-irregular : (s : State) → not x ≡ true → s ≡ refusedState Irregular
+      → s ≡ startedOf (rulesOf rules) second b m seed
   unfolding startedOf
   starts-irregular s h e = rw (← asked, ← is, h) e
 
-  pub starts-regular : not x ≡ false → state second (Judge (judgingFrom m)) ≡ startedOf (rulesOf rules) second b m
+  pub starts-regular : not x ≡ false
+      → state second (Judge (judgingFrom m seed)) ≡ startedOf (rulesOf rules) second b m seed
   unfolding startedOf
   starts-regular h = rw (← asked, ← is, h)
 
@@ -67,12 +68,12 @@ module _ (g : Geometry) (b0 b1 : List ℕ) (n0 n1 count seed rules entries : ℕ
     begins-refused s r f e = rw (← tested-is, h, f) e
 
     module _ (m : LfsMdir) (t : ℕ) (f : fetchOf g b0 b1 n0 n1 count seed ≡ fetched.Found m t) where
-      pub begins-first : (s : State) → m .pair .n0 ≡ n0 → s ≡ startedOf (rulesOf rules) false b0 m
+      pub begins-first : (s : State) → m .pair .n0 ≡ n0 → s ≡ startedOf (rulesOf rules) false b0 m t
           → s ≡ begunOf g b0 b1 n0 n1 count seed rules entries dat
       unfolding begunOf
       begins-first s q e = rw (← tested-is, h, f, eq-eqb (m .pair .n0) n0 q) e
 
-      pub begins-second : (s : State) → (m .pair .n0 ≡ n0 → ⊥) → s ≡ startedOf (rulesOf rules) true b1 m
+      pub begins-second : (s : State) → (m .pair .n0 ≡ n0 → ⊥) → s ≡ startedOf (rulesOf rules) true b1 m t
           → s ≡ begunOf g b0 b1 n0 n1 count seed rules entries dat
       unfolding begunOf
       begins-second s q e = rw (← tested-is, h, f, ne-eqb (m .pair .n0) n0 q) e

@@ -15,22 +15,22 @@ use Rattle.commit_steps.specs.declared.Laying.{Laying}
 use Rattle.commit_steps.specs.declared.Phase.the-variants.{Refused, Judge, Lay}
 use Rattle.commit_steps.specs.declared.State.{State}
 
-module _ (st : State) (f : Fetched) where
-  pub answer-refused : (r : Refusal) → st .phase ≡ Refused r → committed.Refused r ≡ answeredOf st f
+module _ (st : State) (on : ℕ → LfsMdir → Fetched) where
+  pub answer-refused : (r : Refusal) → st .phase ≡ Refused r → committed.Refused r ≡ answeredOf st on
   unfolding answeredOf
   answer-refused r e = rw e
 
-  pub answer-judge : (j : Judging) → st .phase ≡ Judge j → committed.Refused Invalid ≡ answeredOf st f
+  pub answer-judge : (j : Judging) → st .phase ≡ Judge j → committed.Refused Invalid ≡ answeredOf st on
   unfolding answeredOf
   answer-judge j e = rw e
 
-  -- x is what `lfs_dir_fetch` answers
-  module _ (l : Laying) (e : st .phase ≡ Lay l) (x : Fetched) (is : x ≡ f) where
-    pub answer-found : (m : LfsMdir) (s : ℕ) → x ≡ fetched.Found m s → committed.Done m s ≡ answeredOf st f
+  -- x is what `lfs_dir_refetch` answers
+  module _ (l : Laying) (e : st .phase ≡ Lay l) (x : Fetched) (is : x ≡ on (l .old .seed) (l .old .dir)) where
+    pub answer-found : (m : LfsMdir) (s : ℕ) → x ≡ fetched.Found m s → committed.Done m s ≡ answeredOf st on
     unfolding answeredOf
     answer-found m s h = rw (e, ← is, h)
 
-    pub answer-lost : (r : Refusal) → x ≡ fetched.Refused r → committed.Refused r ≡ answeredOf st f
+    pub answer-lost : (r : Refusal) → x ≡ fetched.Refused r → committed.Refused r ≡ answeredOf st on
     unfolding answeredOf
     answer-lost r h = rw (e, ← is, h)
 

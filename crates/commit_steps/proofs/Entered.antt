@@ -50,12 +50,11 @@ module _ (j : Judging) (dat : List ℕ) (kind id off len : ℕ) where
 -- ---- `sum_up`: i, d, z and s are what the calls answer
 pub summed : (j : Judging) (n t : ℕ) (body : List ℕ) (i d z s : ℕ) → i ≡ plus32 (j .index) 1 → d ≡ tagLength t
     → z ≡ plus32 (j .size) d → s ≡ crc (j .sum) (toBe32 (bitXor t (j .prev)) ++ body)
-    → record { off = j .off; etag = j .etag; index = i; count = n; size = z; prev = t; sum = s }
+    → record { old = j .old; index = i; count = n; size = z; prev = t; sum = s }
     ≡ summedOf j n t body
 unfolding summedOf xor
 summed j n t body i d z s ei ed ez es = λ k. record {
-  off = j .off;
-  etag = j .etag;
+  old = j .old;
   index = ei k;
   count = n;
   size = (ez ∙ ap (plus32 (j .size)) ed) k;
@@ -94,7 +93,7 @@ module _ (l : Laying) (b : List ℕ) where
   -- w is what `put_entry` answers
   pub laid-any : (t : ℕ) (body : List ℕ) (w : Run) (c : List ℕ)
       → laid w c ≡ putsOf (laid (l .run) b) (toBe32 (bitXor t (l .prev)) ++ body)
-      → onto (record { run = w; prev = t; fcrc = l .fcrc; word = l .word; sum = l .sum }) c ≡ layOf l b t body
+      → onto (record { old = l .old; run = w; prev = t; fcrc = l .fcrc; word = l .word; sum = l .sum }) c ≡ layOf l b t body
   unfolding layOf xor
   laid-any t body w c e = ap (laidTo l t) e
 
@@ -107,7 +106,7 @@ module _ (l : Laying) (b : List ℕ) where
   -- v and w are what `put_be32` and `put_le32` answer
   pub laid-check : (v w : Run) (c d : List ℕ) → laid v c ≡ putsOf (laid (l .run) b) (toBe32 (l .word))
       → laid w d ≡ putsOf (laid v c) (toLe32 (l .sum))
-      → onto (record { run = w; prev = l .prev; fcrc = l .fcrc; word = l .word; sum = l .sum }) d ≡ checkedOf l b
+      → onto (record { old = l .old; run = w; prev = l .prev; fcrc = l .fcrc; word = l .word; sum = l .sum }) d ≡ checkedOf l b
   unfolding checkedOf
   laid-check v w c d e f =
       ap (laidTo l (l .prev)) (f ∙ ap (λ (s : Laid). putsOf s (toLe32 (l .sum))) e

@@ -28,19 +28,19 @@ use Rattle.commit_steps.specs.declared.State.{State}
 
 -- ---- `test`: e, x, t and y are what `rounded_end`, `room`, `check_tag` and `coincides` answer
 module _ (j : Judging) (f : LfsFcrc) (prog : ℕ) (b : List ℕ) (stores e : ℕ)
-    (ee : e ≡ roundedEnd prog (j .off + j .size)) where
+    (ee : e ≡ roundedEnd prog (j .old .dir .off + j .size)) where
   pub tested-full : length b < e → Refused NoSpace ≡ testedOf j f prog b stores
   unfolding testedOf
   tested-full h = rw (← ee, lt-ltb (length b) e h)
 
-  module _ (h : e ≤ length b) (x : Room) (ex : x ≡ roomOf prog b (j .off) (j .etag)) where
+  module _ (h : e ≤ length b) (x : Room) (ex : x ≡ roomOf prog b (j .old .dir .off) (j .old .dir .etag)) where
     pub tested-no-room : (r : Refusal) → x ≡ room.Refused r → Refused r ≡ testedOf j f prog b stores
     unfolding testedOf
     tested-no-room r k = rw (← ee, le-ltb (length b) e h, ← ex, k)
 
-    module _ (k : x ≡ room.Clean) (t : ℕ) (et : t ≡ checkTag (checkSize prog (j .off + j .size))) (y : Bool)
+    module _ (k : x ≡ room.Clean) (t : ℕ) (et : t ≡ checkTag (checkSize prog (j .old .dir .off + j .size))) (y : Bool)
         (ey : y ≡ meets (j .sum) (bitXor t (j .prev))) where
-      word-is : bitXor t (j .prev) ≡ xor (checkTag (checkSize prog (j .off + j .size))) (j .prev)
+      word-is : bitXor t (j .prev) ≡ xor (checkTag (checkSize prog (j .old .dir .off + j .size))) (j .prev)
       unfolding xor
       word-is = ap (λ (u : ℕ). bitXor u (j .prev)) et
 
@@ -51,8 +51,9 @@ module _ (j : Judging) (f : LfsFcrc) (prog : ℕ) (b : List ℕ) (stores e : ℕ
       -- s is what `sum_be32` answers
       pub tested-lays : (s : ℕ) → y ≡ false → s ≡ crc (j .sum) (toBe32 (bitXor t (j .prev)))
           → Lay (record {
-            run = record { at = j .off; left = stores };
-            prev = j .etag;
+            old = j .old;
+            run = record { at = j .old .dir .off; left = stores };
+            prev = j .old .dir .etag;
             fcrc = f;
             word = bitXor t (j .prev);
             sum = s;
@@ -60,8 +61,9 @@ module _ (j : Judging) (f : LfsFcrc) (prog : ℕ) (b : List ℕ) (stores e : ℕ
       unfolding testedOf
       tested-lays s q es =
           ap (λ (u : ℕ). Lay (record {
-            run = record { at = j .off; left = stores };
-            prev = j .etag;
+            old = j .old;
+            run = record { at = j .old .dir .off; left = stores };
+            prev = j .old .dir .etag;
             fcrc = f;
             word = bitXor t (j .prev);
             sum = u;
@@ -70,7 +72,7 @@ module _ (j : Judging) (f : LfsFcrc) (prog : ℕ) (b : List ℕ) (stores e : ℕ
 
 -- ---- `place`: f, k and p are what `forward`, `sum_forward` and `test` answer
 pub placed-tested : (j : Judging) (prog : ℕ) (b : List ℕ) (stores : ℕ) (f : LfsFcrc) (k : Judging) (p : Phase)
-    → f ≡ carriedFor prog (length b) (j .off + j .size) → k ≡ forwardSummed j f → p ≡ testedOf k f prog b stores
+    → f ≡ carriedFor prog (length b) (j .old .dir .off + j .size) → k ≡ forwardSummed j f → p ≡ testedOf k f prog b stores
     → p ≡ placedOf j prog b stores
 unfolding placedOf
 placed-tested j prog b stores f k p ef ek ep =

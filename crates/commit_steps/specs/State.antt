@@ -63,10 +63,9 @@ abbrev pub refusedState : Refusal → State
 refusedState r = state false (Refused r)
 
 -- ---- before the entries
-abbrev pub judgingFrom : LfsMdir → Judging
-judgingFrom m = record {
-  off = m .off;
-  etag = m .etag;
+abbrev pub judgingFrom : LfsMdir → ℕ → Judging
+judgingFrom m s = record {
+  old = record { dir = m; seed = s };
   index = 0;
   count = m .count;
   size = 0;
@@ -74,12 +73,13 @@ judgingFrom m = record {
   sum = allOnes;
 }
 
-unfoldable pub startedOf : Rules → Bool → List ℕ → LfsMdir → State
-startedOf r second b m = cond (not (Regular r (log b))) (refusedState Irregular) (state second (Judge (judgingFrom m)))
+unfoldable pub startedOf : Rules → Bool → List ℕ → LfsMdir → ℕ → State
+startedOf r second b m s =
+    cond (not (Regular r (log b))) (refusedState Irregular) (state second (Judge (judgingFrom m s)))
 
 abbrev pub fetchedBy : Rules → Fetched → ℕ → List ℕ → List ℕ → State
 fetchedBy r (fetched.Refused q) n0 b0 b1 = refusedState q
-fetchedBy r (fetched.Found m s) n0 b0 b1 = startedOf r (isSecond n0 m) (blockAt (isSecond n0 m) b0 b1) m
+fetchedBy r (fetched.Found m s) n0 b0 b1 = startedOf r (isSecond n0 m) (blockAt (isSecond n0 m) b0 b1) m s
 
 unfoldable pub begunOf : Geometry → List ℕ → List ℕ → ℕ → ℕ → ℕ → ℕ → ℕ → ℕ → List ℕ → State
 begunOf g b0 b1 n0 n1 count seed rules entries dat =
@@ -91,8 +91,7 @@ begunOf g b0 b1 n0 n1 count seed rules entries dat =
 unfoldable pub summedOf : Judging → ℕ → ℕ → List ℕ → Judging
 summedOf j count t body =
     record {
-      off = j .off;
-      etag = j .etag;
+      old = j .old;
       index = plus32 (j .index) 1;
       count = count;
       size = plus32 (j .size) (tagLength t);
@@ -115,7 +114,14 @@ forwardSummed j f = cond (f .seen) (summedOf j (j .count) forwardTag (forwardIte
 
 -- ---- an entry: laid
 abbrev pub laidTo : Laying → ℕ → Laid → Onto
-laidTo l prev s = onto (record { run = s .run; prev = prev; fcrc = l .fcrc; word = l .word; sum = l .sum }) (s .block)
+laidTo l prev s = onto (record {
+  old = l .old;
+  run = s .run;
+  prev = prev;
+  fcrc = l .fcrc;
+  word = l .word;
+  sum = l .sum;
+}) (s .block)
 
 unfoldable pub layOf : Laying → List ℕ → ℕ → List ℕ → Onto
 layOf l b t body = laidTo l t (putsOf (laid (l .run) b) (toBe32 (xor t (l .prev)) ++ body))
@@ -145,8 +151,9 @@ stepOf st dat b0 b1 kind id off len = steppedBy (st .phase) (st .second) dat b0 
 abbrev pub layingFrom : Judging → LfsFcrc → ℕ → ℕ → Laying
 layingFrom j f word stores =
     record {
-      run = record { at = j .off; left = stores };
-      prev = j .etag;
+      old = j .old;
+      run = record { at = j .old .dir .off; left = stores };
+      prev = j .old .dir .etag;
       fcrc = f;
       word = word;
       sum = crc (j .sum) (toBe32 word);
@@ -160,14 +167,14 @@ roomThenLaid room.Clean p = p
 -- j is behind all entries, the forward check f included
 unfoldable pub testedOf : Judging → LfsFcrc → ℕ → List ℕ → ℕ → Phase
 testedOf j f prog b stores =
-    cond (ltb (length b) (roundedEnd prog (j .off + j .size))) (Refused NoSpace)
-    (roomThenLaid (roomOf prog b (j .off) (j .etag))
-    (cond (meets (j .sum) (xor (checkTag (checkSize prog (j .off + j .size))) (j .prev))) (Refused Coincidence)
-    (Lay (layingFrom j f (xor (checkTag (checkSize prog (j .off + j .size))) (j .prev)) stores))))
+    cond (ltb (length b) (roundedEnd prog (j .old .dir .off + j .size))) (Refused NoSpace)
+    (roomThenLaid (roomOf prog b (j .old .dir .off) (j .old .dir .etag))
+    (cond (meets (j .sum) (xor (checkTag (checkSize prog (j .old .dir .off + j .size))) (j .prev))) (Refused Coincidence)
+    (Lay (layingFrom j f (xor (checkTag (checkSize prog (j .old .dir .off + j .size))) (j .prev)) stores))))
 
 unfoldable pub placedOf : Judging → ℕ → List ℕ → ℕ → Phase
 placedOf j prog b stores =
-    let f : LfsFcrc = carriedFor prog (length b) (j .off + j .size) in
+    let f : LfsFcrc = carriedFor prog (length b) (j .old .dir .off + j .size) in
     testedOf (forwardSummed j f) f prog b stores
 
 abbrev pub decidedBy : Phase → Bool → Geometry → List ℕ → List ℕ → ℕ → State
@@ -195,13 +202,14 @@ unfoldable pub sealedOf : State → List ℕ → List ℕ → Trio
 sealedOf st b0 b1 = sealedBy (st .phase) (st .second) b0 b1
 
 -- ---- the answers
-abbrev pub answeredBy : Phase → Fetched → Committed
-answeredBy (Refused r) f = committed.Refused r
-answeredBy (Judge j) f = committed.Refused Invalid
-answeredBy (Lay l) f = committedAs f
+-- `on`: what is fetched again, from a seed and a record
+abbrev pub answeredBy : Phase → (ℕ → LfsMdir → Fetched) → Committed
+answeredBy (Refused r) on = committed.Refused r
+answeredBy (Judge j) on = committed.Refused Invalid
+answeredBy (Lay l) on = committedAs (on (l .old .seed) (l .old .dir))
 
-unfoldable pub answeredOf : State → Fetched → Committed
-answeredOf st f = answeredBy (st .phase) f
+unfoldable pub answeredOf : State → (ℕ → LfsMdir → Fetched) → Committed
+answeredOf st on = answeredBy (st .phase) on
 
 abbrev pub madeBy : Phase → ℕ → Stored
 madeBy (Refused r) n = stored.Refused r

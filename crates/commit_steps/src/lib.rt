@@ -9,12 +9,13 @@ ghost use Rattle.commit_steps.specs.State.{trio, onto, refusedState, beg
 ghost use Rattle.commit_lay.specs.Laid.{bodyOf};
 ghost use Rattle.commit_steps.specs.State.{summedOf, forwardSummed, layOf, forwardLaid, stepOf, testedOf};
 ghost use Rattle.commit_steps.specs.State.{placedOf, decidedOf, checkedOf, sealedOf, answeredOf, madeOf};
-ghost use Rattle.format.specs.Fetch.{fetchOf};
+ghost use Rattle.format.specs.Refetch.{refetchOf};
 ghost use Rattle.format.specs.Regular.{rulesOf};
 ghost use Rattle.format.specs.Writer.{unlimited};
 use commit_lay::Run;
 use commit_rules::Ruled;
 use fetch::lfs_dir_fetch;
+use fetch::lfs_dir_refetch;
 use format::Committed;
 use format::Fetched;
 use format::Geometry;
@@ -31,11 +32,16 @@ const MOST_DATA: usize = 65_536;
 
 const MOST_ENTRIES: usize = 8_192;
 
-// The first pass: where the log ends and the tag there, the index of the next entry, the count there, the bytes so far,
-// and the tag and the checksum behind them.
+// What fetch found: the old record, and the seed behind it. The commit is laid at its end, and the answer goes on there.
+pub struct Old {
+    pub dir: LfsMdir,
+    pub seed: u32,
+}
+
+// The first pass: the index of the next entry, the count there, the bytes so far, and the tag and the checksum behind
+// them.
 pub struct Judging {
-    pub off: u32,
-    pub etag: u32,
+    pub old: Old,
     pub index: u32,
     pub count: u32,
     pub size: u32,
@@ -46,6 +52,7 @@ pub struct Judging {
 // The second pass: the next store, the tag before it, the forward check that is carried behind the entries, or none,
 // and the check that comes last: its tag as it is stored, and the checksum.
 pub struct Laying {
+    pub old: Old,
     pub run: Run,
     pub prev: u32,
     pub fcrc: LfsFcrc,
@@ -90,11 +97,11 @@ pub fn begin(
     }
     match lfs_dir_fetch(g, b0, b1, n0, n1, block_count, seed) {
         Fetched::Refused(r) => refused(r),
-        Fetched::Found(m, _) => {
+        Fetched::Found(m, s) => {
             if m.pair.n0 == n0 {
-                start(b0, false, m, rules)
+                start(b0, false, m, s, rules)
             } else {
-                start(b1, true, m, rules)
+                start(b1, true, m, s, rules)
             }
         }
     }
@@ -110,16 +117,15 @@ fn refused(r: Refusal) -> State
 }
 
 // The log of the answering block must be regular by the rule. Entries run against the record's count.
-fn start(b: &[u8], second: bool, m: LfsMdir, rules: u32) -> State
+fn start(b: &[u8], second: bool, m: LfsMdir, seed: u32, rules: u32) -> State
     requires { ⌜ 4 ≤ length (now b) ⌝ }
-    ensures { λ r. ⌜ r ≡ startedOf (rulesOf rules) second (now (b .entry)) m ⌝ }
+    ensures { λ r. ⌜ r ≡ startedOf (rulesOf rules) second (now (b .entry)) m seed ⌝ }
 {
     if !commit_regular::log_regular(b, commit_regular::rules_of(rules)) {
         return refused(Refusal::Irregular);
     }
     let judging = Judging {
-        off: m.off,
-        etag: m.etag,
+        old: Old { dir: m, seed },
         index: 0,
         count: m.count as u32,
         size: 0,
@@ -189,9 +195,9 @@ fn judge_entry(j: Judging, dat: &[u8], kind: u16, id: u16, off: u32, len: u32) -
 fn sum_up(j: Judging, count: u32, tag: u32, dat: &[u8], off: u32, len: u32) -> Judging
     ensures { λ r. ⌜ r ≡ summedOf j count tag (bodyOf (now (dat .entry)) off len) ⌝ }
 {
+    let old = j.old;
     Judging {
-        off: j.off,
-        etag: j.etag,
+        old,
         index: std::num::wrapping_add_u32(j.index, 1),
         count,
         size: std::num::wrapping_add_u32(j.size, tag::lfs_tag_dsize(tag)),
@@ -223,10 +229,12 @@ fn lay_entry(b: &mut [u8], l: Laying, dat: &[u8], kind: u16, id: u16, off: u32, 
 fn lay(b: &mut [u8], l: Laying, tag: u32, dat: &[u8], off: u32, len: u32) -> Laying
     ensures { λ r. ⌜ onto r (now (b .exit)) ≡ layOf l (now (b .entry)) tag (bodyOf (now (dat .entry)) off len) ⌝ }
 {
+    let old = l.old;
     let from = l.run;
     let fcrc = l.fcrc;
     let run = commit_lay::put_entry(b, from, tag ^ l.prev, dat, off, len);
     Laying {
+        old,
         run,
         prev: tag,
         fcrc,
@@ -269,7 +277,7 @@ fn place(j: Judging, prog: u32, b: &[u8], stores: u32) -> Phase
     requires { ⌜ length (now b) ≤ 32_768 ⌝ }
     ensures { λ r. ⌜ r ≡ placedOf j prog (now (b .entry)) stores ⌝ }
 {
-    let at = (j.off as usize) + (j.size as usize);
+    let at = (j.old.dir.off as usize) + (j.size as usize);
     let fcrc = commit_room::forward(prog, b.len(), at);
     test(sum_forward(j, fcrc), fcrc, prog, b, stores)
 }
@@ -281,12 +289,13 @@ fn test(j: Judging, fcrc: LfsFcrc, prog: u32, b: &[u8], stores: u32) -> Phase
     requires { ⌜ length (now b) ≤ 32_768 ⌝ }
     ensures { λ r. ⌜ r ≡ testedOf j fcrc prog (now (b .entry)) stores ⌝ }
 {
-    let off = j.off as usize;
+    let old = j.old;
+    let off = old.dir.off as usize;
     let at = off + (j.size as usize);
     if b.len() < commit_room::rounded_end(prog, at) {
         return Phase::Refused(Refusal::NoSpace);
     }
-    match commit_room::room(prog, b, off, j.etag) {
+    match commit_room::room(prog, b, off, old.dir.etag) {
         Room::Refused(r) => Phase::Refused(r),
         Room::Clean => {
             let word = commit_room::check_tag(prog, at) ^ j.prev;
@@ -298,8 +307,9 @@ fn test(j: Judging, fcrc: LfsFcrc, prog: u32, b: &[u8], stores: u32) -> Phase
                 left: stores,
             };
             Phase::Lay(Laying {
+                old,
                 run,
-                prev: j.etag,
+                prev: old.dir.etag,
                 fcrc,
                 word,
                 sum: commit_lay::sum_be32(j.sum, word),
@@ -349,11 +359,13 @@ fn lay_forward(b: &mut [u8], l: Laying) -> Laying
 fn lay_check(b: &mut [u8], l: Laying) -> Laying
     ensures { λ r. ⌜ onto r (now (b .exit)) ≡ checkedOf l (now (b .entry)) ⌝ }
 {
+    let old = l.old;
     let from = l.run;
     let fcrc = l.fcrc;
     let behind = commit_lay::put_be32(b, from, l.word);
     let run = commit_lay::put_le32(b, behind, l.sum);
     Laying {
+        old,
         run,
         prev: l.prev,
         fcrc,
@@ -362,7 +374,8 @@ fn lay_check(b: &mut [u8], l: Laying) -> Laying
     }
 }
 
-// "An accepted call answers what fetch gives on the finished pair from the same seed."
+// "An accepted call answers what fetch gives on the finished pair from the same seed": a refetch from the old record gives
+// the same, and walks no more than the commit that was laid.
 pub fn answer(
     st: State,
     g: Geometry,
@@ -371,19 +384,21 @@ pub fn answer(
     n0: u32,
     n1: u32,
     block_count: u32,
-    seed: u32,
 ) -> Committed
-    ensures { λ r. ⌜ r ≡ answeredOf st (fetchOf g (now (b0 .entry)) (now (b1 .entry)) n0 n1 «block_count» seed) ⌝ }
+    ensures { λ r. ⌜ r ≡ answeredOf st (refetchOf g (now (b0 .entry)) (now (b1 .entry)) n0 n1 «block_count») ⌝ }
 {
     let phase = st.phase;
     match phase {
         Phase::Refused(r) => Committed::Refused(r),
         // never: `decide` leaves no state that judges, and neither `step` nor `seal` makes one that does not
         Phase::Judge(_) => Committed::Refused(Refusal::Invalid),
-        Phase::Lay(_) => match lfs_dir_fetch(g, b0, b1, n0, n1, block_count, seed) {
-            Fetched::Found(m, s) => Committed::Done(m, s),
-            Fetched::Refused(r) => Committed::Refused(r),
-        },
+        Phase::Lay(l) => {
+            let old = l.old;
+            match lfs_dir_refetch(g, b0, b1, n0, n1, block_count, old.seed, old.dir) {
+                Fetched::Found(m, s) => Committed::Done(m, s),
+                Fetched::Refused(r) => Committed::Refused(r),
+            }
+        }
     }
 }
 

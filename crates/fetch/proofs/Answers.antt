@@ -1,6 +1,6 @@
 -- Which block answers: a log with no commit ends where it starts; the blocks in rank; and fetch's tests in order.
 -- Assumes nothing.
-use mathlib.Core.Path.{_≡_, refl, ap, _∙_}
+use mathlib.Core.Path.{_≡_, refl, ap, ap₂, _∙_}
 use mathlib.Core.Bool.{true, false}
 use mathlib.Core.List.{List, [], _∷_}
 use mathlib.Core.Logic.{_≢_}
@@ -80,21 +80,23 @@ rank-none : (r s : ℕ) → rank false r s [] [] ≡ none
 unfolding rank
 rank-none r s = refl
 
--- w and v are what the two walks leave, r is what `answer` answers
+-- w and v are what the two walks leave, x the revision that was read, r is what `answer` answers
 module _ (prog n : ℕ) (b : List ℕ) (m : ℕ) (c : List ℕ) (seed : ℕ) (w : Walked) (e : w ≡ walkedOf b seed) where
-  pub first-answers : (r : Fetched) → (w .taken .off ≡ 4 → ⊥) → r ≡ answerBy prog n m b w
-      → r ≡ inOrder prog n b m c seed
+  pub first-answers : (x : ℕ) (r : Fetched) → (w .taken .off ≡ 4 → ⊥) → x ≡ le32 b
+      → r ≡ answerBy prog (record { n0 = n; n1 = m }) x b w → r ≡ inOrder prog n b m c seed
   unfolding inOrder
-  first-answers r h er =
-      er ∙ ap (answerBy prog n m b) e ∙ answer-is prog n m b seed
+  first-answers x r h ex er =
+      er ∙ ap₂ (λ (y : ℕ) (u : Walked). answerBy prog (record { n0 = n; n1 = m }) y b u) ex e
+      ∙ answer-is prog n m b seed
       ∙ rw (rank-first (le32 b) (le32 c) (log b) (log c) (some-log b seed w e h))
 
   module _ (empty : w .taken .off ≡ 4) (v : Walked) (f : v ≡ walkedOf c seed) where
-    pub second-answers : (r : Fetched) → (v .taken .off ≡ 4 → ⊥) → r ≡ answerBy prog m n c v
-        → r ≡ inOrder prog n b m c seed
+    pub second-answers : (x : ℕ) (r : Fetched) → (v .taken .off ≡ 4 → ⊥) → x ≡ le32 c
+        → r ≡ answerBy prog (record { n0 = m; n1 = n }) x c v → r ≡ inOrder prog n b m c seed
     unfolding inOrder
-    second-answers r h er =
-        er ∙ ap (answerBy prog m n c) f ∙ answer-is prog m n c seed
+    second-answers x r h ex er =
+        er ∙ ap₂ (λ (y : ℕ) (u : Walked). answerBy prog (record { n0 = m; n1 = n }) y c u) ex f
+        ∙ answer-is prog m n c seed
         ∙ rw (none-log b seed w e empty, rank-second (le32 b) (le32 c) (log c) (some-log c seed v f h))
 
     pub none-answers : v .taken .off ≡ 4 → Refused Corrupt ≡ inOrder prog n b m c seed
@@ -138,7 +140,6 @@ module _ (prog : ℕ) (b c : List ℕ) (sizes : Readables prog b c) where
   pub walked-first : (seed : ℕ) (w : Walked) → w ≡ walkedOf b seed → Readable prog b w
   walked-first seed w e = record {
     divides = sizes .divides;
-    low = sizes .low;
     high = sizes .high;
     within = taken-within b seed w e (sizes .low);
   }
@@ -146,7 +147,6 @@ module _ (prog : ℕ) (b c : List ℕ) (sizes : Readables prog b c) where
   pub walked-second : (seed : ℕ) (w : Walked) → w ≡ walkedOf c seed → Readable prog c w
   walked-second seed w e = record {
     divides = sizes .divides;
-    low = sizes .other-low;
     high = sizes .other-high;
     within = taken-within c seed w e (sizes .other-low);
   }

@@ -13,12 +13,15 @@ use Rattle.format.specs.Crc.{crc}
 use Rattle.format.specs.Log.{log}
 use Rattle.format.specs.Record.{seedOf}
 use Rattle.format.specs.Fetch.{erasedOf, mdirOf, fewEnough}
+use Rattle.format.specs.Refetch.{mdirBehind, continued}
+use Rattle.format.specs.declared.LfsPair.{LfsPair}
 use Rattle.format.specs.declared.LfsMdir.{LfsMdir}
 use Rattle.format.specs.declared.Refusal.the-variants.{TooMany}
 use Rattle.format.specs.declared.Fetched.the-variants.{Found, Refused}
-use Rattle.fetch_walk.specs.Block.{walkedOf}
+use Rattle.fetch_walk.specs.Block.{walkedOf, walkedAgain}
 use Rattle.fetch_walk.specs.declared.Walked.{Walked}
 use Rattle.fetch.specs.Read.{erasedBy, mdirBy, answerBy}
+use Rattle.fetch.specs.Known.{knownBy}
 
 -- ---- the erased mark, from the tests in order
 module _ (prog : ℕ) (b : List ℕ) (w : Walked) where
@@ -53,17 +56,25 @@ module _ (prog : ℕ) (b : List ℕ) (w : Walked) where
             simp (s, eq-eqb _ _ m, f, le-leb _ _ h) (cc)
 
 -- ---- the answer: k is what `mdir` answers
-module _ (prog n m : ℕ) (b : List ℕ) (w : Walked) (k : LfsMdir) (e : k ≡ mdirBy prog n m b w) where
-  pub too-many : 1_023 < k .count → Refused (TooMany k (w .taken .seed)) ≡ answerBy prog n m b w
+module _ (prog : ℕ) (pair : LfsPair) (rev : ℕ) (b : List ℕ) (w : Walked) (k : LfsMdir)
+    (e : k ≡ mdirBy prog pair rev b w) where
+  pub too-many : 1_023 < k .count → Refused (TooMany k (w .taken .seed)) ≡ answerBy prog pair rev b w
   unfolding answerBy
   too-many h = sym (ap (λ (d : LfsMdir). fewEnough d (w .taken .seed)) (sym e) ∙ rw (lt-ltb 1_023 (k .count) h))
 
-  pub few : k .count ≤ 1_023 → Found k (w .taken .seed) ≡ answerBy prog n m b w
+  pub few : k .count ≤ 1_023 → Found k (w .taken .seed) ≡ answerBy prog pair rev b w
   unfolding answerBy
   few h = sym (ap (λ (d : LfsMdir). fewEnough d (w .taken .seed)) (sym e) ∙ rw (le-ltb 1_023 (k .count) h))
 
 -- ---- of the block's own walk
 pub answer-is : (prog n m : ℕ) (b : List ℕ) (seed : ℕ)
-    → answerBy prog n m b (walkedOf b seed) ≡ fewEnough (mdirOf prog n m b (le32 b) (log b)) (seedOf seed (log b))
+    → answerBy prog (record { n0 = n; n1 = m }) (le32 b) b (walkedOf b seed)
+    ≡ fewEnough (mdirOf prog n m b (le32 b) (log b)) (seedOf seed (log b))
 unfolding answerBy mdirBy walkedOf mdirOf erasedBy erasedOf
 answer-is prog n m b seed = refl
+
+-- ---- of the walk that goes on from a record
+pub again-is : (prog : ℕ) (b : List ℕ) (seed : ℕ) (m : LfsMdir)
+    → answerBy prog (m .pair) (m .rev) b (walkedAgain b (knownBy seed m)) ≡ continued prog b seed m
+unfolding answerBy mdirBy walkedAgain knownBy mdirBehind erasedBy
+again-is prog b seed m = refl

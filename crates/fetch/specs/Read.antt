@@ -9,6 +9,7 @@ use Rattle.format.specs.Word.{le32}
 use Rattle.format.specs.Log.{log}
 use Rattle.format.specs.View.{rank}
 use Rattle.format.specs.Fetch.{forwardFits, fewEnough, viewed}
+use Rattle.format.specs.declared.LfsPair.{LfsPair}
 use Rattle.format.specs.declared.LfsMdir.{LfsMdir}
 use Rattle.format.specs.declared.Fetched.{Fetched}
 use Rattle.fetch_walk.specs.declared.Walked.{Walked}
@@ -24,7 +25,6 @@ pub record Readables (prog : ℕ) (b c : List ℕ) : Type 0 where
 -- the same of a block that was walked: the end of what was taken lies in it
 pub record Readable (prog : ℕ) (b : List ℕ) (w : Walked) : Type 0 where
   pub divides : 0 < prog
-  pub low : 4 ≤ length b
   pub high : length b ≤ 32_768
   pub within : w .taken .off ≤ length b
 
@@ -33,12 +33,12 @@ erasedBy prog b w =
     let k = w .taken in
     w .straight && eqb (k .off % prog) 0 && forwardFits b (k .off) (k .dir .fcrc)
 
-unfoldable pub mdirBy : ℕ → ℕ → ℕ → List ℕ → Walked → LfsMdir
-mdirBy prog n m b w =
+unfoldable pub mdirBy : ℕ → LfsPair → ℕ → List ℕ → Walked → LfsMdir
+mdirBy prog pair rev b w =
     let k = w .taken in
     record {
-      pair = record { n0 = n; n1 = m };
-      rev = le32 b;
+      pair = pair;
+      rev = rev;
       off = k .off;
       etag = k .etag;
       count = k .dir .count;
@@ -48,8 +48,8 @@ mdirBy prog n m b w =
       fcrc = k .dir .fcrc;
     }
 
-unfoldable pub answerBy : ℕ → ℕ → ℕ → List ℕ → Walked → Fetched
-answerBy prog n m b w = fewEnough (mdirBy prog n m b w) (w .taken .seed)
+unfoldable pub answerBy : ℕ → LfsPair → ℕ → List ℕ → Walked → Fetched
+answerBy prog pair rev b w = fewEnough (mdirBy prog pair rev b w) (w .taken .seed)
 
 -- the block n with the bytes b is tried first
 unfoldable pub inOrder : ℕ → ℕ → List ℕ → ℕ → List ℕ → ℕ → Fetched

@@ -16,7 +16,7 @@ use Rattle.format.specs.Walk.{walkIn, walkFrom, walk}
 use Rattle.format.specs.Log.{keptBefore, committed, log, eventLength, span, tagAfter}
 use Rattle.format.specs.Record.{countOf, tailOf, splitOf, forwardOf, seedOf}
 use Rattle.format.proofs.Classes.{check-says, entry-says}
-use Rattle.fetch_walk.specs.Block.{takenOf}
+use Rattle.fetch_walk.specs.Block.{takenOf, takenFrom, walkAgain}
 use Rattle.fetch_walk.specs.Dir.{emptyDir, entered}
 use Rattle.fetch_walk.specs.State.{takenNone, step, settles}
 use Rattle.fetch_walk.specs.declared.Taken.{Taken}
@@ -58,31 +58,17 @@ settles-steps : (s : Taken) (es : List Event) → settles s s es ≡ steps s (co
 settles-steps s es = settles-after s s es ∙ same-start s (committed es)
 
 -- ---- THE FOLDS: each part of the record goes its own way
-abbrev foldsFrom : Taken → List Event → Taken
-foldsFrom k es =
-    record {
-      dir = record {
-        count = countOf (k .dir .count) es;
-        split = splitOf (k .dir .split) es;
-        tail = tailOf (k .dir .tail) es;
-        fcrc = forwardOf (k .dir .fcrc) es;
-      };
-      off = k .off + span es;
-      etag = tagAfter (k .etag) es;
-      seed = seedOf (k .seed) es;
-    }
-
 moved : (k : Taken) (es : List Event) (n : ℕ) → n ≡ k .off + span es
-    → record { dir = foldsFrom k es .dir; off = n; etag = foldsFrom k es .etag; seed = foldsFrom k es .seed }
-    ≡ foldsFrom k es
+    → record { dir = takenFrom k es .dir; off = n; etag = takenFrom k es .etag; seed = takenFrom k es .seed }
+    ≡ takenFrom k es
 moved k es n e = λ i. record {
-  dir = foldsFrom k es .dir;
+  dir = takenFrom k es .dir;
   off = e i;
-  etag = foldsFrom k es .etag;
-  seed = foldsFrom k es .seed;
+  etag = takenFrom k es .etag;
+  seed = takenFrom k es .seed;
 }
 
-steps-folds : (k : Taken) (es : List Event) → steps k es ≡ foldsFrom k es
+steps-folds : (k : Taken) (es : List Event) → steps k es ≡ takenFrom k es
 unfolding steps countOf tailOf splitOf forwardOf seedOf span eventLength tagAfter entered
 steps-folds k [] = moved k [] (k .off) (sym (add-zero (k .off)))
 steps-folds k (ent t x ∷ es) =
@@ -103,6 +89,9 @@ steps-taken seed es = steps-folds (takenNone seed) es
 pub settles-taken : (seed : ℕ) (es : List Event) → settles (takenNone seed) (takenNone seed) es
     ≡ takenOf seed (committed es)
 settles-taken seed es = settles-steps (takenNone seed) es ∙ steps-taken seed (committed es)
+
+pub settles-again : (k : Taken) (es : List Event) → settles k k es ≡ takenFrom k (committed es)
+settles-again k es = settles-steps k es ∙ steps-folds k (committed es)
 
 -- ---- the end of a log lies in its block
 span-kept : (e : Event) (es : List Event) → span (keptBefore e es) ≤ eventLength e + span es
@@ -151,4 +140,16 @@ log-within b h =
       span-committed (walkIn (suc (length (drop 4 b))) s allOnes (drop 4 b)),
       span-walk (suc (length (drop 4 b))) s allOnes (drop 4 b),
       length-drop 4 b,
+    )
+
+-- and so does the end of what a walk adds to it
+pub again-within : (b : List ℕ) (k : Taken) → k .off ≤ length b
+    → k .off + span (committed (walkAgain b k)) ≤ length b
+unfolding walkFrom
+again-within b k h =
+    omega (
+      arith,
+      span-committed (walkIn (suc (length (drop (k .off) b))) allOnes (k .etag) (drop (k .off) b)),
+      span-walk (suc (length (drop (k .off) b))) allOnes (k .etag) (drop (k .off) b),
+      length-drop (k .off) b,
     )

@@ -7,7 +7,7 @@ use Prim.Native.Nat.{ℕ, _+_, _≤_}
 use native.Mathlib.Omega.{arith}
 use lib.ListN.{length, drop, length-drop}
 use lib.Seq.{drop-drop}
-use Rattle.format.specs.Word.{toLe32}
+use Rattle.format.specs.Word.{toLe32, allOnes}
 use Rattle.format.specs.Tag.{tagLength, tagFlipped}
 use Rattle.format.specs.Kind.{isCheck}
 use Rattle.format.specs.Crc.{crc}
@@ -15,7 +15,7 @@ use Rattle.format.specs.Walk.{ent, chk, readBehind, bodyOf, walk}
 use Rattle.format.specs.Log.{log, stoppedStraight}
 use Rattle.format.proofs.Words.{tagLength-ge}
 use Rattle.format.proofs.Tags.{flipped-check}
-use Rattle.fetch_walk.specs.Block.{walkedOf}
+use Rattle.fetch_walk.specs.Block.{walkedOf, walkAgain, walkedAgain}
 use Rattle.fetch_walk.specs.Next.{nextOf, startOf, tagAt}
 use Rattle.fetch_walk.specs.Dir.{entered}
 use Rattle.fetch_walk.specs.State.{takenNone, begun, holding, taking, from, working, step, settles, leaves}
@@ -26,13 +26,20 @@ use Rattle.fetch_walk.specs.declared.WalkState.{WalkState}
 use Rattle.fetch_walk.specs.declared.Walked.{Walked}
 use Rattle.fetch_walk.proofs.Seen.{follow, from-next, entry-seen, check-seen}
 use Rattle.fetch_walk.proofs.Steps.{entered-body}
-use Rattle.fetch_walk.proofs.Folds.{settles-taken}
+use Rattle.fetch_walk.proofs.Folds.{settles-taken, settles-again}
 
 -- c and w are what `start` and `begin` answer
 pub begun-leaves : (b : List ℕ) (seed : ℕ) (c : Cursor) (w : WalkState) → c ≡ startOf b → w ≡ begun seed
     → leaves b w c ≡ walkedOf b seed
 unfolding leaves walkedOf begun startOf from working takenNone log walk
 begun-leaves b seed c w ec ew = rw (ec, ew, settles-taken seed (walk b))
+
+-- c and w are what `walk_again` makes of what is known
+pub known-leaves : (b : List ℕ) (k : Taken) (c : Cursor) (w : WalkState)
+    → c ≡ record { at = k .off; prev = k .etag; sum = allOnes } → w ≡ record { dir = k .dir; taken = k }
+    → leaves b w c ≡ walkedAgain b k
+unfolding leaves walkedAgain from working
+known-leaves b k c w ec ew = rw (ec, ew, settles-again k (walkAgain b k))
 
 -- ---- a turn
 left : List ℕ → Taken → Taken → Bool → Cursor → Walked

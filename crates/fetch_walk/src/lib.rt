@@ -7,7 +7,7 @@ ghost use lib.ListN.{length};
 ghost use Rattle.format.specs.Word.{toLe32};
 ghost use Rattle.format.specs.Crc.{crc};
 ghost use Rattle.format.specs.Walk.{readBehind};
-ghost use Rattle.fetch_walk.specs.Block.{walkedOf};
+ghost use Rattle.fetch_walk.specs.Block.{walkedOf, walkedAgain};
 ghost use Rattle.fetch_walk.specs.State.{begun, holding, taking, leaves};
 
 pub mod cursor;
@@ -16,6 +16,7 @@ pub mod dir;
 use cursor::Cursor;
 use cursor::Seen;
 use dir::DirState;
+use format::types::CRC_START;
 use format::types::FIRST_PREV;
 
 // What the last commit took: "count, tail, split, end and end tag", and the seed. An end of 4: there is no commit.
@@ -94,6 +95,19 @@ pub fn walk_block(b: &[u8], seed: u32) -> Walked
     ensures { λ r. ⌜ r ≡ walkedOf (now (b .entry)) seed ⌝ }
 {
     walk_on(b, Cursor::start(b), WalkState::begin(seed))
+}
+
+// The walk that goes on where another ended: what that one took is known, and "the checksum restarts" behind its check.
+pub fn walk_again(b: &[u8], known: Taken) -> Walked
+    ensures { λ r. ⌜ r ≡ walkedAgain (now (b .entry)) known ⌝ }
+{
+    let from = Cursor {
+        at: known.off,
+        prev: known.etag,
+        sum: CRC_START,
+    };
+    let dir = known.dir;
+    walk_on(b, from, WalkState { dir, taken: known })
 }
 
 // The walk from a cursor and a state.

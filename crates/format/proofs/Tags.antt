@@ -85,6 +85,10 @@ pub flipped-low : (t : ℕ) → t < 2 ^ 31 → tagFlipped t % 2 ^ 31 ≡ t
 unfolding tagFlipped
 flipped-low t h = omega arith
 
+pub flipped-length : (t : ℕ) → tagLength (tagFlipped t) ≡ tagLength t
+unfolding tagLength tagFlipped
+flipped-length t = let e : tagSize (t + t / 2 ^ 20 % 2 * 2 ^ 31) ≡ tagSize t = omega arith in rw e
+
 high-bit : (x t : ℕ) → x < 2 → tagType2 (t + x * 2 ^ 31) ≡ tagType2 t
 high-bit zero t h = omega arith
 high-bit (suc zero) t h = omega arith

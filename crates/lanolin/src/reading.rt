@@ -1,8 +1,9 @@
-// Reading for C callers: fetch, lookups, and a slot by its name. Each export hands its numbers, slices and records to the call of the same
-// name.
+// Reading for C callers: fetch, the refetch from a record's end, lookups, and a slot by its name. Each export hands its
+// numbers, slices and records to the call of the same name.
 ghost use mathlib.Core.Path.{_≡_};
 ghost use Rattle.format.specs.Answer.{alteredResult};
 ghost use Rattle.format.specs.Fetch.{fetchOf};
+ghost use Rattle.format.specs.Refetch.{refetchOf};
 ghost use Rattle.format.specs.Find.{findOf};
 ghost use Rattle.format.specs.Lookup.{getsliceOf, getsliceBuffer, getOf, getBuffer, getinfoOf, getgstateOf};
 ghost use Rattle.format.specs.Lookup.{getgstateState};
@@ -35,6 +36,26 @@ pub extern "C" fn lanolin_fetch(
     fetched_out(
         seed,
         fetch::lfs_dir_fetch(g, b0, b1, n0, n1, block_count, seed),
+    )
+}
+
+#[no_mangle]
+pub extern "C" fn lanolin_refetch(
+    g: Geometry,
+    b0: &[u8],
+    b1: &[u8],
+    n0: u32,
+    n1: u32,
+    block_count: u32,
+    seed: u32,
+    dir: LfsMdir,
+) -> FetchedOut
+    ensures { λ r. ⌜ r ≡ fetchedOut seed (refetchOf g (now (b0 .entry)) (now (b1 .entry)) n0 n1 «block_count» seed
+        dir) ⌝ }
+{
+    fetched_out(
+        seed,
+        fetch::lfs_dir_refetch(g, b0, b1, n0, n1, block_count, seed, dir),
     )
 }
 

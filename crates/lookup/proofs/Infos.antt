@@ -23,7 +23,8 @@ use Rattle.format.specs.declared.Got.the-variants as got
 use Rattle.format.specs.declared.Altered.the-variants as altered
 use Rattle.format.specs.declared.Informed.{Informed}
 use Rattle.lookup.specs.Info.{infoNamed}
-use Rattle.lookup.proofs.Records.{both, end-inside}
+use Rattle.sizes.proofs.Sized.{both}
+use Rattle.sizes.proofs.Records.{end-inside}
 use Rattle.lookup_search.proofs.Slices.{slice-length}
 use Rattle.lookup.proofs.Moves.{tag-made}
 

@@ -1,5 +1,4 @@
--- What the lookups rest on: the domain, the slice, the move state, the info.
-pub mod Records
+-- What the lookups rest on: the slice, the move state, the info.
 pub mod Slices
 pub mod Moves
 pub mod Infos

@@ -15,7 +15,8 @@ use Rattle.format.specs.declared.LfsGstate.{LfsGstate}
 use Rattle.format.specs.declared.Refusal.the-variants.{Invalid}
 use Rattle.format.specs.declared.Got.{Got}
 use Rattle.format.specs.declared.Got.the-variants as got
-use Rattle.lookup.proofs.Records.{both, end-inside}
+use Rattle.sizes.proofs.Sized.{both}
+use Rattle.sizes.proofs.Records.{end-inside}
 
 -- ---- `lfs_dir_getslice`; fits is what `record_fits` answers
 module _ (g : Geometry) (b0 b1 : List ℕ) (n0 n1 : ℕ) (dir : LfsMdir) (gdisk : LfsGstate) (mask key goff : ℕ)

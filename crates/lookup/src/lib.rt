@@ -14,7 +14,6 @@ use format::LfsPair;
 use format::Refusal;
 use format::types::NO_SLOT;
 
-mod domain;
 mod info;
 mod moved;
 
@@ -40,7 +39,7 @@ pub fn lfs_dir_getslice(
     ensures { λ _. ⌜ now (buffer .exit) ≡ getsliceBuffer g (now (b0 .entry)) (now (b1 .entry)) n0 n1 dir gdisk gmask
         gtag goff (now (buffer .entry)) ⌝ }
 {
-    let fits = domain::record_fits(g, b0.len(), b1.len(), n0, n1, dir);
+    let fits = sizes::record_fits(g, b0.len(), b1.len(), n0, n1, dir);
     if !(fits & (buffer.len() <= LONGEST_BUFFER)) {
         return Got::Refused(Refusal::Invalid);
     }
@@ -107,7 +106,7 @@ pub fn lfs_dir_getinfo(
 ) -> Informed
     ensures { λ r. ⌜ r ≡ getinfoOf g (now (b0 .entry)) (now (b1 .entry)) n0 n1 dir gdisk «name_max» id ⌝ }
 {
-    let fits = domain::record_fits(g, b0.len(), b1.len(), n0, n1, dir);
+    let fits = sizes::record_fits(g, b0.len(), b1.len(), n0, n1, dir);
     if !(fits & (1 <= name_max) & (name_max <= 255) & (id <= NO_SLOT)) {
         return info::refused(Refusal::Invalid);
     }
@@ -142,7 +141,7 @@ pub fn getgstate_of(
     ensures { λ r. ⌜ (r .answer ≡ getgstateOf g (now (b0 .entry)) (now (b1 .entry)) n0 n1 dir gdisk)
         × (r .gstate ≡ getgstateState g (now (b0 .entry)) (now (b1 .entry)) n0 n1 dir gdisk gstate) ⌝ }
 {
-    if !domain::record_fits(g, b0.len(), b1.len(), n0, n1, dir) {
+    if !sizes::record_fits(g, b0.len(), b1.len(), n0, n1, dir) {
         return GotGstate {
             answer: Altered::Refused(Refusal::Invalid),
             gstate: gstate,

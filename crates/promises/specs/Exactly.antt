@@ -23,11 +23,11 @@ use Rattle.format.specs.declared.Fetched.{Fetched}
 use Rattle.format.specs.declared.Fetched.the-variants.{Found, Refused}
 
 -- two answers that are not equal
-apart : {A : Type 0} → _≡_ {A = ℕ} 0 1 → A
+pub apart : {A : Type 0} → _≡_ {A = ℕ} 0 1 → A
 apart e = absurd (omega arith)
 
 -- a block that answers is refused for its count only
-few-refuses : (m : LfsMdir) (s : ℕ) (r : Refusal) → fewEnough m s ≡ Refused r → r ≡ TooMany m s
+pub few-refuses : (m : LfsMdir) (s : ℕ) (r : Refusal) → fewEnough m s ≡ Refused r → r ≡ TooMany m s
 few-refuses m s r h = go (ltb 1_023 (m .count)) h
   where
     go : (q : Bool) → cond q (Refused (TooMany m s)) (Found m s) ≡ Refused r → r ≡ TooMany m s

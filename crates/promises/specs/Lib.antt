@@ -20,6 +20,8 @@ pub mod Numbers
 pub mod FoundEntry
 -- Document 01's rule and littlefs's, by which a log is regular.
 pub mod Rules
+-- Document 02, L6: the refetch from a record's end.
+pub mod Refetch
 -- The directory machine; that a slot by its name is what asking slot by slot gives; and demand 3.
 pub mod Directory
 pub mod Find

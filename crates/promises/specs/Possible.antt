@@ -138,7 +138,7 @@ alignup-possible a m = aligndown-possible (minus32 (plus32 a m) 1) m
 abbrev pub Fetches : Fetched → Type 0
 Fetches f = FetchedOr FetchRefuses f
 
-few-possible : (m : LfsMdir) (s : ℕ) → Fetches (fewEnough m s)
+pub few-possible : (m : LfsMdir) (s : ℕ) → Fetches (fewEnough m s)
 few-possible m s = through Fetches (ltb 1_023 (m .count)) fetch2 tt
 
 viewed-possible : (prog n0 n1 : ℕ) (b0 b1 : List ℕ) (seed : ℕ) (v : View) → Fetches (viewed prog n0 n1 b0 b1 seed v)

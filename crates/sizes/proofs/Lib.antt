@@ -1,2 +1,3 @@
 -- What the tests tell their callers.
 pub mod Sized
+pub mod Records

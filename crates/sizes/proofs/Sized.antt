@@ -9,7 +9,7 @@ use Rattle.format.specs.Fetch.{geometryFits, imagesFit, pairFits}
 use Rattle.format.specs.declared.Geometry.{Geometry}
 
 -- what both parts of a test say
-both : (a b : Bool) → a && b ≡ true → (a ≡ true) × (b ≡ true)
+pub both : (a b : Bool) → a && b ≡ true → (a ≡ true) × (b ≡ true)
 both true b e = (refl, e)
 both false b e = let z : _≡_ {A = ℕ} 0 1 = cc in absurd (omega arith)
 

@@ -1,8 +1,11 @@
-// Document 01's domain: which sizes and block numbers a call accepts. Fetch, lookups and the writer make these tests
-// before they read a block. Every function takes any numbers.
+// Document 01's domain: which sizes, block numbers and records a call accepts. Fetch, lookups and the writer make these
+// tests before they read a block. Every function takes any numbers.
 ghost use mathlib.Core.Path.{_≡_};
 ghost use Rattle.format.specs.Fetch.{geometryFits, imagesFit, pairFits, tooHigh};
+ghost use Rattle.format.specs.Lookup.{recordFits};
 use format::Geometry;
+use format::LfsMdir;
+use format::LfsPair;
 
 // "Block size 128 to 32,768; program size 4 to 512; block size a multiple of it."
 pub fn geometry_fits(g: Geometry) -> bool
@@ -37,4 +40,14 @@ pub fn too_high(block_count: u32, n: u32) -> bool
     ensures { λ r. ⌜ r ≡ tooHigh «block_count» n ⌝ }
 {
     (block_count != 0) & (block_count <= n)
+}
+
+// A record that a lookup takes, or a refetch: its pair is the two numbers, in either order, and its end does not pass
+// the block.
+pub fn record_fits(g: Geometry, len0: usize, len1: usize, n0: u32, n1: u32, dir: LfsMdir) -> bool
+    ensures { λ r. ⌜ r ≡ recordFits g len0 len1 n0 n1 dir ⌝ }
+{
+    pair_fits(g, len0, len1, n0, n1)
+        & util::lfs_pair_issync(dir.pair, LfsPair { n0: n0, n1: n1 })
+        & (dir.off <= g.block_size)
 }

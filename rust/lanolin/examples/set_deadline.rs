@@ -33,16 +33,20 @@ fn set_deadline(pair: &mut PairMut, slot: u16, seconds: u32) -> Result<Fetched, 
     let deadline = [Entry::user_attr(0x74, slot, 0, 4)];
     let data = seconds.to_le_bytes();
     let rules = Rules::Littlefs; // the pair may be one that littlefs itself compacted
-    let end = pair.as_pair().fetch(0, 0)?.record.off;
-    match pair.commit(0, 0, rules, &deadline, &data) {
-        Err(refusal) if refusal.needs_compaction() => {
-            println!("no room, {}: {}", refusal.number(), why(refusal, end));
-            pair.compact(0, 0, rules)?;
-            println!("compacted");
-            pair.commit(0, 0, rules, &deadline, &data)
+    let mut known = pair.as_pair().fetch(0, 0)?;
+    if let Err(refusal) = pair.commit(0, 0, rules, &deadline, &data) {
+        if !refusal.needs_compaction() {
+            return Err(refusal);
         }
-        other => other,
+        let said = why(refusal, known.record.off);
+        println!("no room, {}: {said}", refusal.number());
+        // Behind a compaction the old record serves no more; this is a fetch's answer.
+        known = pair.compact(0, 0, rules)?;
+        println!("compacted");
+        pair.commit(0, 0, rules, &deadline, &data)?;
     }
+    // Behind a commit only what it wrote is walked again.
+    pair.as_pair().refetch(0, known)
 }
 
 fn main() -> ExitCode {

@@ -1,5 +1,5 @@
-//! littlefs metadata pairs from Rust: fetch, lookup, finding by name, commit and
-//! compaction of one pair, each proved against its definition, through the
+//! littlefs metadata pairs from Rust: fetch and refetch, lookup, finding by name,
+//! commit and compaction of one pair, each proved against its definition, through the
 //! C-callable archive `liblanolin.a`, which `./lanolin lib` builds.
 //!
 //! The deadline of a slot, its user attribute 0x74:
@@ -234,6 +234,44 @@ impl Pair<'_> {
         refusal::of_fetch(answer.result, 0, answer.dir.into(), answer.seed)
     }
 
+    /// [`Pair::fetch`] again, from the end of a record that is known: it walks only
+    /// what stands behind it, so that after a commit it takes a small part of a
+    /// fetch's time. `known` is what an earlier fetch of the pair answered, or a
+    /// refetch, a commit or a compaction.
+    ///
+    /// Proved: the answer equals `refetchOf`, for every input, and that is what a
+    /// fetch answers from the seed that the earlier one was given
+    /// (`refetch-is-fetch`), as long as both revisions, the other block and, of the
+    /// record's block, every byte before its end and in its last checksum are as they
+    /// were. So it is behind a commit, of this library or of another writer, also one
+    /// that was cut short or refused (`refetch-behind-commit`). **It is not so behind
+    /// a compaction**, which alters the other block: take [`PairMut::compact`]'s
+    /// answer, or fetch anew; and fetch anew where the pair comes from a device on
+    /// which another writer may have compacted it. With any other record the answer is
+    /// the definition's, and says nothing of the directory.
+    ///
+    /// It is [`Refusal::Invalid`] also where the record's end is below 8 or passes the
+    /// block, or its pair is not the two numbers, in either order.
+    ///
+    /// ```
+    /// # use lanolin::*;
+    /// # let mut image = *include_bytes!(concat!(env!("CARGO_MANIFEST_DIR"), "/../../samples/q212.pair"));
+    /// # let (b0, b1) = image.split_at_mut(128);
+    /// # let geometry = Geometry { block_size: 128, prog_size: 16 };
+    /// # let mut pair = PairMut { geometry, images: [b0, b1], numbers: [0, 1] };
+    /// let known = pair.as_pair().fetch(0, 0)?;
+    /// let deadline = [Entry::user_attr(0x74, 0, 0, 4)];
+    /// pair.commit(0, 0, Rules::Document, &deadline, &3600u32.to_le_bytes())?;
+    /// let now = pair.as_pair().refetch(0, known)?;
+    /// assert_eq!((known.record.off, now.record.off), (48, 80));
+    /// assert_eq!(Ok(now), pair.as_pair().fetch(0, 0));
+    /// # Ok::<(), lanolin::Refusal>(())
+    /// ```
+    pub fn refetch(&self, block_count: u32, known: Fetched) -> Result<Fetched, Refusal> {
+        let answer = raw::refetch(self, block_count, known.seed, known.record);
+        refusal::of_fetch(answer.result, 0, answer.dir.into(), answer.seed)
+    }
+
     /// The newest entry that `key` matches under `mask`: its tag, length and
     /// place, and of its data as many bytes from `offset` on as there are and the
     /// buffer holds. The rest of the buffer is zeroed.
@@ -455,7 +493,8 @@ impl PairMut<'_> {
     /// its stores the pair reads as finished or as never begun; only the old
     /// record's erased mark may differ (`commit-stopped`).
     ///
-    /// After a stop the room may be torn: `NotErased`, until [`PairMut::compact`].
+    /// After a stop the room may be torn: `NotErased`, until [`PairMut::compact`]. Who
+    /// has the record from before the commit reads the pair by [`Pair::refetch`].
     ///
     /// ```
     /// # use lanolin::*;

@@ -131,6 +131,10 @@ extern "C" {
         geometry: Geometry, b0: *const u8, b0_len: usize, b1: *const u8, b1_len: usize,
         n0: u32, n1: u32, block_count: u32, seed: u32,
     ) -> Fetched;
+    fn lanolin_refetch(
+        geometry: Geometry, b0: *const u8, b0_len: usize, b1: *const u8, b1_len: usize,
+        n0: u32, n1: u32, block_count: u32, seed: u32, dir: Mdir,
+    ) -> Fetched;
     fn lanolin_getslice(
         geometry: Geometry, b0: *const u8, b0_len: usize, b1: *const u8, b1_len: usize,
         n0: u32, n1: u32, dir: Mdir, gdisk: Gstate,
@@ -174,6 +178,15 @@ pub fn fetch(pair: &crate::Pair, block_count: u32, seed: u32) -> Fetched {
     let (p0, l0, p1, l1) = (b0.as_ptr(), b0.len(), b1.as_ptr(), b1.len());
     // SAFETY: the images are valid for their lengths; any number is answered.
     unsafe { lanolin_fetch(g, p0, l0, p1, l1, n0, n1, block_count, seed) }
+}
+
+pub fn refetch(pair: &crate::Pair, block_count: u32, seed: u32, record: Record) -> Fetched {
+    let (g, [b0, b1], [n0, n1]) = (pair.geometry, pair.images, pair.numbers);
+    let (p0, l0, p1, l1) = (b0.as_ptr(), b0.len(), b1.as_ptr(), b1.len());
+    let dir = record.into();
+    // SAFETY: the images are valid for their lengths; any number and record is
+    // answered.
+    unsafe { lanolin_refetch(g, p0, l0, p1, l1, n0, n1, block_count, seed, dir) }
 }
 
 pub fn get_slice(

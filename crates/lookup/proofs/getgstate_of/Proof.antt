@@ -2,7 +2,7 @@
 -- first number the block. Assumes nothing.
 use mathlib.Core.Path.{sym, _∙_}
 use borrow.Author.Tests.{not-false}
-use Rattle.lookup.proofs.Records.{end-inside, block-first, block-second}
+use Rattle.sizes.proofs.Records.{end-inside, block-first, block-second}
 use Rattle.lookup.proofs.Moves.{getgstate-refused, getgstate-read}
 use borrow.Author.Needs.{needs}
 use Rattle.lookup.proofs.getgstate_of.Statement.{statement}

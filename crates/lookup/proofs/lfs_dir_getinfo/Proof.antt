@@ -1,7 +1,7 @@
 -- `lookup::lfs_dir_getinfo` meets its contract: the tests decide the definition's case (`Infos.antt`), and the record's
 -- first number the block. Assumes nothing.
 use native.Mathlib.Omega.{arith}
-use Rattle.lookup.proofs.Records.{block-first, block-second}
+use Rattle.sizes.proofs.Records.{block-first, block-second}
 use Rattle.lookup.proofs.Infos.{getinfo-refused, getinfo-inside, getinfo-root, getinfo-read}
 use borrow.Author.Needs.{needs}
 use Rattle.lookup.proofs.lfs_dir_getinfo.Statement.{statement}

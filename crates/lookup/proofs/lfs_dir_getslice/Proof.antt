@@ -1,6 +1,6 @@
 -- `lookup::lfs_dir_getslice` meets its contract: the tests decide the definitions' case (`Slices.antt`), and the
 -- record's first number the block. Assumes nothing.
-use Rattle.lookup.proofs.Records.{block-first, block-second}
+use Rattle.sizes.proofs.Records.{block-first, block-second}
 use Rattle.lookup.proofs.Slices.{getslice-refused, getslice-inside, getslice-read}
 use borrow.Author.Needs.{needs}
 use Rattle.lookup.proofs.lfs_dir_getslice.Statement.{statement}

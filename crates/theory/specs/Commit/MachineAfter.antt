@@ -12,24 +12,11 @@ use Rattle.format.specs.Record.{pairIn, noTail, tailOf, splitOf}
 use Rattle.format.specs.Directory.{Load, applyAll, act, acts, dirOf, loadOf, isMove, moveOf}
 use Rattle.format.specs.Commit.{Item, commitSum, written}
 use Rattle.format.specs.declared.LfsPair.{LfsPair}
+use Rattle.theory.specs.Log.Folds.{tailOf-app, splitOf-app}
 use Rattle.theory.specs.Log.Stores.{commitEvents}
 use Rattle.theory.specs.Blocks.Append.{itemActs, commit-dir}
 use Rattle.theory.specs.Lookup.MoveState.{moveOf-app}
 use Rattle.format.specs.Machine.{machineOf, ran}
-
-tailOf-app : (es more : List Event) (p : LfsPair) → tailOf p (es ++ more) ≡ tailOf (tailOf p es) more
-unfolding tailOf
-tailOf-app [] more p = refl
-tailOf-app (ent t d ∷ es) more p = tailOf-app es more (cond (isTail t) (pairIn d) p)
-tailOf-app (chk t c ∷ es) more p = tailOf-app es more p
-tailOf-app (inv ∷ es) more p = tailOf-app es more p
-
-splitOf-app : (es more : List Event) (s : Bool) → splitOf s (es ++ more) ≡ splitOf (splitOf s es) more
-unfolding splitOf
-splitOf-app [] more s = refl
-splitOf-app (ent t d ∷ es) more s = splitOf-app es more (cond (isTail t) (eqb (tagChunk t % 2) 1) s)
-splitOf-app (chk t c ∷ es) more s = splitOf-app es more s
-splitOf-app (inv ∷ es) more s = splitOf-app es more s
 
 -- the check behind the entries says nothing of tail and move state, and is no act
 acts-entries : (is : List Item) → itemActs is ≡ acts (written is [])

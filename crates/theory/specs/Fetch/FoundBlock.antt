@@ -43,22 +43,29 @@ pub record Sized (g : Geometry) (b0 b1 : List ℕ) : Type 0 where
   pub first : length b0 ≡ g .«block_size»
   pub second : length b1 ≡ g .«block_size»
 
-pub found-sized : (g : Geometry) (b0 b1 : List ℕ) (n0 n1 count seed : ℕ) (m : LfsMdir) (s : ℕ)
-    → fetchOf g b0 b1 n0 n1 count seed ≡ fetched.Found m s → Sized g b0 b1
-unfolding fetchOf pairFits
-found-sized g b0 b1 n0 n1 count seed m s h =
-    let p = past-test (not (pairFits g (length b0) (length b1) n0 n1)) _ _ m s h in
+pub pair-sized : (g : Geometry) (b0 b1 : List ℕ) (n0 n1 : ℕ) → pairFits g (length b0) (length b1) n0 n1 ≡ true
+    → Sized g b0 b1 × (eqb n0 n1 ≡ false)
+unfolding pairFits
+pair-sized g b0 b1 n0 n1 h =
     let t = both-true (geometryFits g && eqb (length b0) (g .«block_size») && eqb (length b1) (g .«block_size»))
-    (not (eqb n0 n1)) (not-false _ (p .0)) in
+    (not (eqb n0 n1)) h in
     let u = both-true (geometryFits g && eqb (length b0) (g .«block_size»)) (eqb (length b1) (g .«block_size»))
     (t .0) in
-    let v = both-true (geometryFits g) (eqb (length b0) (g .«block_size»)) (u .0) in
-    record {
-      prog = fits-prog g (v .0);
-      block = fits-block g (v .0);
-      first = eqb-true (length b0) (g .«block_size») (v .1);
-      second = eqb-true (length b1) (g .«block_size») (u .1);
-    }
+    let v = both-true (geometryFits g) (eqb (length b0) (g .«block_size»)) (u .0) in (
+      record {
+        prog = fits-prog g (v .0);
+        block = fits-block g (v .0);
+        first = eqb-true (length b0) (g .«block_size») (v .1);
+        second = eqb-true (length b1) (g .«block_size») (u .1);
+      },
+      not-true (eqb n0 n1) (t .1),
+    )
+
+pub found-sized : (g : Geometry) (b0 b1 : List ℕ) (n0 n1 count seed : ℕ) (m : LfsMdir) (s : ℕ)
+    → fetchOf g b0 b1 n0 n1 count seed ≡ fetched.Found m s → Sized g b0 b1
+unfolding fetchOf
+found-sized g b0 b1 n0 n1 count seed m s h =
+    pair-sized g b0 b1 n0 n1 (not-false _ (past-test (not (pairFits g (length b0) (length b1) n0 n1)) _ _ m s h .0)) .0
 
 -- the revision that a view names stands in the block that answers
 pub view-rev : (w : Bool) (x o : List ℕ) (v : ℕ) (es : List Event) → viewAt w x o ≡ at w v es → v ≡ le32 x
@@ -110,10 +117,9 @@ module _ (prog n0 n1 : ℕ) (b0 b1 : List ℕ) (seed : ℕ) (m : LfsMdir) (s : �
 
 pub found-reads : (g : Geometry) (b0 b1 : List ℕ) (n0 n1 count seed : ℕ) (m : LfsMdir) (s : ℕ)
     → fetchOf g b0 b1 n0 n1 count seed ≡ fetched.Found m s → Reads b0 b1 n0 m
-unfolding fetchOf pairFits
+unfolding fetchOf
 found-reads g b0 b1 n0 n1 count seed m s h =
     let p = past-test (not (pairFits g (length b0) (length b1) n0 n1)) _ _ m s h in
     let q = past-test (tooHigh count n0 || tooHigh count n1) _ _ m s (p .1) in
-    let r = both-true (geometryFits g && eqb (length b0) (g .«block_size») && eqb (length b1) (g .«block_size»))
-    (not (eqb n0 n1)) (not-false _ (p .0)) in
-    viewed-reads (g .«prog_size») n0 n1 b0 b1 seed m s (not-true (eqb n0 n1) (r .1)) (view b0 b1) refl (q .1)
+    viewed-reads (g .«prog_size») n0 n1 b0 b1 seed m s (pair-sized g b0 b1 n0 n1 (not-false _ (p .0)) .1) (view b0 b1)
+    refl (q .1)

@@ -9,7 +9,6 @@ use Rattle.format.specs.Tag.{tagLength}
 use Rattle.format.specs.Crc.{crc}
 use Rattle.format.specs.Walk.{Event, ent, chk, inv}
 use Rattle.format.specs.Log.{keptBefore, committed}
-use Rattle.theory.specs.Walk.Locality.{sumAfter}
 use Rattle.theory.specs.Walk.Erased.{NoCheck}
 
 pub committed-none : (es : List Event) → NoCheck es → committed es ≡ []
@@ -85,15 +84,3 @@ committed-twice (inv ∷ es) = kept-twice inv (committed es) refl (committed-twi
 pub kept-more : (e : Event) (l es : List Event) → keptBefore e l ≡ e ∷ es → es ≡ [] → ⊥
 kept-more e [] es h k = let q : _≡_ {A = ℕ} 0 1 = cc in omega arith
 kept-more e (x ∷ l) es h k = let q : _≡_ {A = ℕ} 0 1 = cc in omega arith
-
--- behind a check the checksum starts anew
-pub sum-restarts : (es : List Event) (sum : ℕ) (a : List ℕ) → committed es ≡ es → (es ≡ [] → sum ≡ allOnes)
-    → sumAfter sum es a ≡ allOnes
-unfolding committed sumAfter
-sum-restarts [] sum a h n = n refl
-sum-restarts (chk t c ∷ es) sum a h n = sum-restarts es allOnes (drop (tagLength t) a) (cc) (λ q. refl)
-sum-restarts (ent t d ∷ es) sum a h n =
-    sum-restarts es (crc sum (take (tagLength t) a)) (drop (tagLength t) a) (kept-same (ent t d) (committed es) es h)
-    (λ q. absurd (kept-more (ent t d) (committed es) es h q))
-sum-restarts (inv ∷ es) sum a h n = sum-restarts es sum a (kept-same inv (committed es) es h)
-    (λ q. absurd (kept-more inv (committed es) es h q))

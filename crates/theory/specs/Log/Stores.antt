@@ -19,13 +19,13 @@ use Rattle.format.specs.Commit.{Item, commitBytes, commitSum, written}
 use Rattle.format.specs.Stores.{erased, fill, compactBytes, compacted}
 use Rattle.format.proofs.Words.{length-toLe32}
 use Rattle.format.proofs.Checksum.{crc-word}
-use Rattle.theory.specs.Walk.Locality.{AllContained, local}
+use Rattle.theory.specs.Walk.Locality.{AllContained}
 use Rattle.theory.specs.Walk.ReadBack.{AllGood, GoodCheck, decode}
 use Rattle.theory.specs.Walk.Erased.{NoCheck, Start, drop-erased, blanks, length-erased, length-fill, fill-front}
 use Rattle.theory.specs.Walk.Erased.{erased-append, fill-back}
 use Rattle.theory.specs.Walk.Cut.{NoCoincidence, cut, Cut}
-use Rattle.theory.specs.Log.Committed.{committed-none, committed-twice, committed-split, sum-restarts}
-use Rattle.theory.specs.Log.Committed.{committed-app}
+use Rattle.theory.specs.Log.Committed.{committed-none}
+use Rattle.theory.specs.Log.Continued.{logRead, log-whole, walk-continues, log-continues, contained-end}
 
 committed-written : (is : List Item) (t c : ℕ) (more : List Event) → NoCheck more
     → committed (written is (chk t c ∷ more)) ≡ written is (chk t c ∷ [])
@@ -61,31 +61,21 @@ committed-done sum p is ct m f =
 
 -- ---- append: `pre` is the block up to the old end, M erased bytes follow
 module _ (pre : List ℕ) (M : ℕ) (es : List Event) (h : log (pre ++ erased M) ≡ es) (nonempty : es ≢ [])
-    (reg : AllContained es) (end : length pre ≡ logEnd es) (y : List ℕ) (len : length y ≡ M) where
-  whole : committed es ≡ es
-  unfolding log
-  whole = rw h at (committed-twice (walk (pre ++ erased M)))
+    (reg : AllContained es) (end : length pre ≡ logEnd es) (y : List ℕ) where
+  known : logRead es ≤ length pre
+  known = omega (
+    arith,
+    contained-end es allOnes (rw h at (log-whole (pre ++ erased M))) nonempty reg,
+  )
 
   -- whatever stands behind the old end, the walk comes to it as it did
   pub reach-walk : walk (pre ++ y) ≡ es ++ walkFrom allOnes (logEndTag es) y
-  unfolding log walk
-  reach-walk =
-      let four : 4 ≤ length pre = omega arith in
-      let h′ : committed (walkFrom (crc allOnes (take 4 pre)) allOnes (drop 4 pre ++ erased M)) ≡ es =
-      rw (take-append-le 4 pre (erased M) four, drop-append-le 4 pre (erased M) four) at h in
-      let r = committed-split (walkFrom (crc allOnes (take 4 pre)) allOnes (drop 4 pre ++ erased M)) in
-      let l = local es (r .0) (crc allOnes (take 4 pre)) allOnes (drop 4 pre) (erased M) y (rw h′ at (r .1)) reg
-      (omega (arith, length-drop 4 pre)) (length-erased M ∙ sym len) in
-      rw (
-        take-append-le 4 pre y four,
-        drop-append-le 4 pre y four,
-        l .1,
-        sum-restarts es (crc allOnes (take 4 pre)) (drop 4 pre) whole (λ q. absurd (nonempty q)),
-      )
+  reach-walk = walk-continues pre (erased M) es h nonempty known y
+      ∙ ap (λ (l : List ℕ). es ++ walkFrom allOnes (logEndTag es) l) (drop-at pre y (logEnd es) end)
 
   pub reach : log (pre ++ y) ≡ es ++ committed (walkFrom allOnes (logEndTag es) y)
-  unfolding log
-  reach = rw reach-walk (committed-app es (walkFrom allOnes (logEndTag es) y) whole)
+  reach = log-continues pre (erased M) es h nonempty known y
+      ∙ ap (λ (l : List ℕ). es ++ committed (walkFrom allOnes (logEndTag es) l)) (drop-at pre y (logEnd es) end)
 
 -- what is asked of an append: `pre` is the old block up to its end, M erased bytes follow; the new bytes and m erased
 -- ones fit there
@@ -116,14 +106,11 @@ append-cut pre M es is ct m k a =
     N : List ℕ
     N = commitBytes allOnes (logEndTag es) is ct
 
-    len : length (fill k N ++ erased m) ≡ M
-    len = rw (length-append (fill k N) (erased m), length-fill k N, length-erased m) (a .all)
-
     go : (fill k N ++ erased m ≡ N ++ erased m) ⊎ NoCheck (walkFrom allOnes (logEndTag es) (fill k N ++ erased m))
         → (fill k N ++ erased m ≡ N ++ erased m) ⊎ (log (pre ++ (fill k N ++ erased m)) ≡ es)
     go (inl e) = inl e
     go (inr n) =
-        inr (reach pre M es (a .old) (a .nonempty) (a .reg) (a .end) (fill k N ++ erased m) len
+        inr (reach pre M es (a .old) (a .nonempty) (a .reg) (a .end) (fill k N ++ erased m)
         ∙ rw (committed-none (walkFrom allOnes (logEndTag es) (fill k N ++ erased m)) n) (append-nil es))
 
 pub append-done : (pre : List ℕ) (M : ℕ) (es : List Event) (is : List Item) (ct m : ℕ) → Appends pre M es is ct m
@@ -131,8 +118,7 @@ pub append-done : (pre : List ℕ) (M : ℕ) (es : List Event) (is : List Item) 
 unfolding filled
 append-done pre M es is ct m a =
     let N : List ℕ = commitBytes allOnes (logEndTag es) is ct in
-    let len : length (N ++ erased m) ≡ M = rw (length-append N (erased m), length-erased m) (a .all) in
-    reach pre M es (a .old) (a .nonempty) (a .reg) (a .end) (N ++ erased m) len
+    reach pre M es (a .old) (a .nonempty) (a .reg) (a .end) (N ++ erased m)
     ∙ ap (λ z. es ++ z) (committed-done allOnes (logEndTag es) is ct m (a .fits))
 
 -- ---- compaction: a block erased, then the revision and one commit

@@ -84,7 +84,7 @@ rank-right-is true r s l (e ∷ k) v es h = (cc, cc, λ q. let z : _≡_ {A = �
 rank-right-is true r s [] [] v es h = (cc, cc, λ q. let z : _≡_ {A = ℕ} 0 1 = cc in omega arith)
 rank-right-is true r s (e ∷ l) [] v es h = (cc, cc, λ q. let z : _≡_ {A = ℕ} 0 1 = cc in omega arith)
 
-app-some : (es more : List Event) → es ≢ [] → es ++ more ≢ []
+pub app-some : (es more : List Event) → es ≢ [] → es ++ more ≢ []
 app-some [] more n = absurd (n refl)
 app-some (e ∷ es) more n = λ q. let z : _≡_ {A = ℕ} 0 1 = cc in omega arith
 
@@ -104,7 +104,7 @@ unfolding view
 view-same false x y o r l = rw (r, l)
 view-same true x y o r l = rw (r, l)
 
-view-grow : (w : Bool) (x y o : List ℕ) (v : ℕ) (es : List Event) → viewAt w x o ≡ at w v es → le32 x ≡ le32 y
+pub view-grow : (w : Bool) (x y o : List ℕ) (v : ℕ) (es : List Event) → viewAt w x o ≡ at w v es → le32 x ≡ le32 y
     → log y ≢ [] → viewAt w y o ≡ at w v (log y)
 unfolding view
 view-grow false x y o v es h r n =

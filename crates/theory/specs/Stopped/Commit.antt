@@ -54,7 +54,7 @@ module _ (g : Geometry) (b0 b1 : List ℕ) (n0 n1 count seed rules : ℕ) (entri
   abbrev o : List ℕ
   o = blockAt (not w) b0 b1
 
-  commit-found : (m : LfsMdir) × (s : ℕ) × (fetchOf g b0 b1 n0 n1 count seed ≡ fetched.Found m s)
+  pub commit-found : (m : LfsMdir) × (s : ℕ) × (fetchOf g b0 b1 n0 n1 count seed ≡ fetched.Found m s)
   unfolding verdictOf
   commit-found =
       let f = found-then (fetchOf g b0 b1 n0 n1 count seed) _ w is size
@@ -102,7 +102,7 @@ module _ (g : Geometry) (b0 b1 : List ℕ) (n0 n1 count seed rules : ℕ) (entri
   stored-length k hk = length-paste x (logEnd (log x)) (commitBytes allOnes (logEndTag (log x)) is (checkTag size)) k
       (omega (arith, room)) (omega (arith, bytes-length))
 
-  stored-front : (k : ℕ) → take (logEnd (log x)) (appending x (log x) is (checkTag size) k) ≡ take (logEnd (log x)) x
+  pub stored-front : (k : ℕ) → take (logEnd (log x)) (appending x (log x) is (checkTag size) k) ≡ take (logEnd (log x)) x
   unfolding appending
   stored-front k =
       let e : ℕ = logEnd (log x) in

@@ -24,6 +24,7 @@ use Rattle.format.specs.declared.LfsPair.{LfsPair}
 use Rattle.format.proofs.Tags.{of-type3, of-length}
 use Rattle.theory.specs.Walk.Erased.{length-erased, blank-stop}
 use Rattle.theory.specs.Walk.ReadBack.{AllGood, GoodCheck, decode}
+use Rattle.theory.specs.Log.Folds.{span-app, forward-app}
 use Rattle.theory.specs.Log.Stores.{CommitFits, commitEvents, reach-walk, compact-walk, filled}
 use Rattle.theory.specs.Back.EventBytes.{Stands, log-stands}
 use Rattle.theory.specs.Blocks.Append.{length-commit, take-erased, drop-erased-is, AppendOk, appends}
@@ -52,24 +53,12 @@ erased-stop p n h k =
     rw e (blank-stop allOnes p (n - 4) h)
 
 -- ---- where a log ends with a commit more
-span-app : (es more : List Event) → span (es ++ more) ≡ span es + span more
-unfolding span
-span-app [] more = omega arith
-span-app (e ∷ es) more = rw (span-app es more) (omega arith)
-
 span-written : (is : List Item) (t c : ℕ) → span (written is (chk t c ∷ [])) ≡ entriesLength is + tagLength t
 unfolding span written eventLength entriesLength
 span-written [] t c = omega arith
 span-written (i ∷ is) t c = rw (span-written is t c) (omega arith)
 
 -- ---- the last forward check of it
-forward-app : (es more : List Event) (f : LfsFcrc) → forwardOf f (es ++ more) ≡ forwardOf (forwardOf f es) more
-unfolding forwardOf
-forward-app [] more f = refl
-forward-app (ent t d ∷ es) more f = forward-app es more (cond (isForward t) (forwardIn d) f)
-forward-app (chk t c ∷ es) more f = forward-app es more f
-forward-app (inv ∷ es) more f = forward-app es more f
-
 forward-reads : (f : LfsFcrc) → f .seen ≡ true → forwardIn (forwardItem f .body) ≡ f
 forward-reads f h =
     let p : LfsPair = record { n0 = f .size; n1 = f .sum } in
@@ -168,7 +157,7 @@ append-erased prog some b es is ct ok aligned unit held =
     rw (as-filled b es is ct ok)
     (erased-behind prog some (take e b ++ y) es allOnes (logEndTag es) is ct m
     (rw (ok .old) at (log-stands b))
-    (reach-walk (take e b) M es (a .old) (a .nonempty) (a .reg) (a .end) y n)
+    (reach-walk (take e b) M es (a .old) (a .nonempty) (a .reg) (a .end) y)
     (drop-at (take e b) y e (length-take-le e b (omega (arith, ok .fits)))) (ok .items) (ok .check) (ok .plain)
     (omega (arith, ok .check .long)) aligned held)
 

@@ -9,19 +9,28 @@ use lib.ListN.{length, take, drop, length-drop, length-append}
 use lib.Seq.{drop-append-le, take-append-le}
 use Rattle.format.specs.Word.{be32, le32, allOnes}
 use Rattle.format.specs.Tag.{tagLength, tagFlipped}
-use Rattle.format.specs.Kind.{isWide}
+use Rattle.format.specs.Kind.{isCheck, isWide}
 use Rattle.format.specs.Crc.{crc}
-use Rattle.format.specs.Walk.{Event, bodyLength, walkFrom, ent, chk, inv}
+use Rattle.format.specs.Walk.{Event, readBehind, bodyLength, walkFrom, ent, chk, inv}
 use Rattle.format.specs.Log.{eventLength, span, tagAfter}
 use Rattle.format.proofs.Words.{tagLength-ge}
+use Rattle.format.proofs.Classes.{behind-check}
 use Rattle.theory.specs.Walk.Step.{meets-entry, entry-met, meets-check, check-met}
 
--- an entry that is as long as what is read of it lies where it ends
-pub body-fits : (t n : ℕ) → (isWide t ≡ true → 12 ≤ tagLength t) → tagLength t ≤ n → 4 + bodyLength t ≤ n
+-- ---- what is read of an entry lies in n bytes, if the entry does and, where eight are read, twelve do
+body-fits : (t n : ℕ) → (isWide t ≡ true → 12 ≤ n) → tagLength t ≤ n → 4 + bodyLength t ≤ n
 unfolding bodyLength
 body-fits t n wide h = go (isWide t) wide
   where
-    go : (w : Bool) → (w ≡ true → 12 ≤ tagLength t) → 4 + cond w 8 (tagLength t - 4) ≤ n
+    go : (w : Bool) → (w ≡ true → 12 ≤ n) → 4 + cond w 8 (tagLength t - 4) ≤ n
+    go true k = omega (arith, k refl)
+    go false k = omega (arith, tagLength-ge t)
+
+reach-fits : (t n : ℕ) → isCheck t ≡ false → (isWide t ≡ true → 12 ≤ n) → tagLength t ≤ n → 4 + readBehind t ≤ n
+unfolding readBehind
+reach-fits t n plain wide h = rw plain (go (isWide t) wide)
+  where
+    go : (w : Bool) → (w ≡ true → 12 ≤ n) → 4 + cond w 8 0 ≤ n
     go true k = omega (arith, k refl)
     go false k = omega (arith, tagLength-ge t)
 
@@ -54,23 +63,23 @@ data-front n a x y h =
       take-append-le n (drop 4 a) y l,
     )
 
-same-length : (a x y : List ℕ) → length x ≡ length y → length (a ++ x) ≡ length (a ++ y)
-same-length a x y e = simp length-append (omega arith)
-
 -- an entry that lies in front is read alike whatever follows
 pub head-ent : (sum prev t : ℕ) (d : List ℕ) (rest : List Event) (a x y : List ℕ)
-    → walkFrom sum prev (a ++ x) ≡ ent t d ∷ rest → (isWide t ≡ true → 12 ≤ tagLength t) → tagLength t ≤ length a
-    → length x ≡ length y
+    → walkFrom sum prev (a ++ x) ≡ ent t d ∷ rest → (isWide t ≡ true → 12 ≤ length a) → tagLength t ≤ length a
     → (rest ≡ walkFrom (crc sum (take (tagLength t) a)) t (drop (tagLength t) a ++ x))
     × (walkFrom sum prev (a ++ y) ≡ ent t d ∷ walkFrom (crc sum (take (tagLength t) a)) t (drop (tagLength t) a ++ y))
-head-ent sum prev t d rest a x y e wide fits len =
+head-ent sum prev t d rest a x y e wide fits =
     let m = meets-entry sum prev (a ++ x) t d rest e in
     let four : 4 ≤ length a = omega (arith, tagLength-ge t) in (
       rw (take-append-le (tagLength t) a x fits, drop-append-le (tagLength t) a x fits) at (m .next),
       entry-met sum prev (a ++ y) t d (walkFrom (crc sum (take (tagLength t) a)) t (drop (tagLength t) a ++ y))
           (record {
             raw = rw (be32-front a y x four) (m .raw);
-            whole = rw (same-length a y x (sym len)) (m .whole);
+            whole = record {
+              small = m .whole .small;
+              fits = omega (arith, length-append a y);
+              reach = omega (arith, length-append a y, reach-fits t (length a) (m .plain) wide fits);
+            };
             plain = m .plain;
             bytes = m .bytes ∙ data-front (bodyLength t) a x y (body-fits t (length a) wide fits);
             next = rw (take-append-le (tagLength t) a y fits, drop-append-le (tagLength t) a y fits);
@@ -79,10 +88,10 @@ head-ent sum prev t d rest a x y e wide fits len =
 
 -- and so is a check
 pub head-chk : (sum prev t c : ℕ) (rest : List Event) (a x y : List ℕ)
-    → walkFrom sum prev (a ++ x) ≡ chk t c ∷ rest → 8 ≤ tagLength t → tagLength t ≤ length a → length x ≡ length y
+    → walkFrom sum prev (a ++ x) ≡ chk t c ∷ rest → 8 ≤ length a → tagLength t ≤ length a
     → (rest ≡ walkFrom allOnes (tagFlipped t) (drop (tagLength t) a ++ x))
     × (walkFrom sum prev (a ++ y) ≡ chk t c ∷ walkFrom allOnes (tagFlipped t) (drop (tagLength t) a ++ y))
-head-chk sum prev t c rest a x y e long fits len =
+head-chk sum prev t c rest a x y e eight fits =
     let m = meets-check sum prev (a ++ x) t c rest e in
     let four : 4 ≤ length a = omega arith in
     let tag : take 4 (a ++ y) ≡ take 4 (a ++ x) = rw (take-append-le 4 a x four, take-append-le 4 a y four) in
@@ -93,7 +102,11 @@ head-chk sum prev t c rest a x y e long fits len =
       check-met sum prev (a ++ y) t c (walkFrom allOnes (tagFlipped t) (drop (tagLength t) a ++ y))
           (record {
             raw = rw (be32-front a y x four) (m .raw);
-            whole = rw (same-length a y x (sym len)) (m .whole);
+            whole = record {
+              small = m .whole .small;
+              fits = omega (arith, length-append a y);
+              reach = omega (arith, length-append a y, behind-check t (m .is));
+            };
             is = m .is;
             fits = rw (tag, stored) (m .fits);
             stored = m .stored ∙ sym stored;
@@ -111,35 +124,3 @@ Contained inv = ⊥
 abbrev pub AllContained : List Event → Type 0
 AllContained [] = Unit {0}
 AllContained (e ∷ es) = Contained e × AllContained es
-
--- the checksum behind a list of events that lie in `a`
-unfoldable pub sumAfter : ℕ → List Event → List ℕ → ℕ
-sumAfter sum [] a = sum
-sumAfter sum (ent t d ∷ es) a = sumAfter (crc sum (take (tagLength t) a)) es (drop (tagLength t) a)
-sumAfter sum (chk t c ∷ es) a = sumAfter allOnes es (drop (tagLength t) a)
-sumAfter sum (inv ∷ es) a = sumAfter sum es a
-
-pub local : (es more : List Event) (sum p : ℕ) (a x y : List ℕ)
-    → walkFrom sum p (a ++ x) ≡ es ++ more → AllContained es → span es ≡ length a → length x ≡ length y
-    → (more ≡ walkFrom (sumAfter sum es a) (tagAfter p es) x)
-    × (walkFrom sum p (a ++ y) ≡ es ++ walkFrom (sumAfter sum es a) (tagAfter p es) y)
-unfolding span eventLength tagAfter sumAfter
-local [] more sum p [] x y e reg sp len = (sym e, refl)
-local [] more sum p (b ∷ a) x y e reg sp len = absurd (omega arith)
-local (ent t d ∷ es) more sum p a x y e reg sp len =
-    let fits : tagLength t ≤ length a = omega arith in
-    let h : (es ++ more ≡ walkFrom (crc sum (take (tagLength t) a)) t (drop (tagLength t) a ++ x))
-    × (walkFrom sum p (a ++ y) ≡ ent t d ∷ walkFrom (crc sum (take (tagLength t) a)) t (drop (tagLength t) a ++ y))
-    = head-ent sum p t d (es ++ more) a x y e (reg .0) fits len in
-    let i = local es more (crc sum (take (tagLength t) a)) t (drop (tagLength t) a) x y (sym (h .0)) (reg .1)
-    (omega (arith, length-drop (tagLength t) a)) len in
-    (i .0, h .1 ∙ ap (λ z. ent t d ∷ z) (i .1))
-local (chk t c ∷ es) more sum p a x y e reg sp len =
-    let fits : tagLength t ≤ length a = omega arith in
-    let h : (es ++ more ≡ walkFrom allOnes (tagFlipped t) (drop (tagLength t) a ++ x))
-    × (walkFrom sum p (a ++ y) ≡ chk t c ∷ walkFrom allOnes (tagFlipped t) (drop (tagLength t) a ++ y))
-    = head-chk sum p t c (es ++ more) a x y e (reg .0) fits len in
-    let i = local es more allOnes (tagFlipped t) (drop (tagLength t) a) x y (sym (h .0)) (reg .1)
-    (omega (arith, length-drop (tagLength t) a)) len in
-    (i .0, h .1 ∙ ap (λ z. chk t c ∷ z) (i .1))
-local (inv ∷ es) more sum p a x y e reg sp len = absurd (reg .0)

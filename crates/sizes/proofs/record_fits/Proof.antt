@@ -1,8 +1,8 @@
--- `lookup::domain::record_fits` meets its contract: the tests are the definition's. Assumes nothing.
+-- `sizes::record_fits` meets its contract: the tests are the definition's. Assumes nothing.
 use Rattle.format.specs.Lookup.{recordFits}
 use borrow.Author.Needs.{needs}
-use Rattle.lookup.proofs.domain.record_fits.Statement.{statement}
-use Rattle.lookup.proofs.domain.record_fits.Tie as tie
+use Rattle.sizes.proofs.record_fits.Statement.{statement}
+use Rattle.sizes.proofs.record_fits.Tie as tie
 
 returns : tie.Need-returns
 unfolding recordFits
