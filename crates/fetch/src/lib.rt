@@ -4,7 +4,7 @@ ghost use mathlib.Core.Path.{_≡_};
 ghost use Prim.Native.Nat.{_<_};
 ghost use Rattle.format.specs.Count.{secondFirst};
 ghost use Rattle.format.specs.Fetch.{fetchOf};
-ghost use Rattle.format.specs.Refetch.{continued, refetchOf};
+ghost use Rattle.format.specs.Refetch.{heldForward, continued, refetchOf};
 ghost use Rattle.fetch.specs.Read.{Readable, Readables, erasedBy, mdirBy, answerBy, inOrder};
 ghost use Rattle.fetch.specs.Known.{Known, knownBy};
 use fetch_walk::Taken;
@@ -12,6 +12,7 @@ use fetch_walk::Walked;
 use fetch_walk::dir::DirState;
 use format::Fetched;
 use format::Geometry;
+use format::LfsFcrc;
 use format::LfsMdir;
 use format::LfsPair;
 use format::Refusal;
@@ -138,18 +139,28 @@ pub fn lfs_dir_fetch(
     }
 }
 
-// What a record says of its block, and the seed behind it. A record without a forward check has none, whatever its size
-// and sum say.
+// A record without a forward check has none, whatever its size and sum say.
+fn forward_of(dir: LfsMdir) -> LfsFcrc
+    ensures { λ r. ⌜ r ≡ heldForward dir ⌝ }
+{
+    let fcrc = dir.fcrc;
+    if fcrc.seen {
+        return fcrc;
+    }
+    DirState::empty().fcrc
+}
+
+// What a record says of its block, and the seed behind it.
 fn known(dir: LfsMdir, seed: u32) -> Taken
     ensures { λ r. ⌜ r ≡ knownBy seed dir ⌝ }
 {
-    let mut state = DirState::empty();
-    state.count = dir.count;
-    state.split = dir.split;
-    state.tail = dir.tail;
-    if dir.fcrc.seen {
-        state.fcrc = dir.fcrc;
-    }
+    let tail = dir.tail;
+    let state = DirState {
+        count: dir.count,
+        split: dir.split,
+        tail,
+        fcrc: forward_of(dir),
+    };
     Taken {
         dir: state,
         off: dir.off as usize,

@@ -9,4 +9,4 @@ unfolding mdirBy
 returns c = cc
 
 pub mdir-spec : {M : Type 1} → statement M
-mdir-spec = tie.close (tie.spec (λ c κs. search needs) (λ c. search needs) (λ c κs. search needs) returns)
+mdir-spec = tie.close (tie.spec (λ c. search needs) (λ c κs. search needs) returns)
