@@ -1,4 +1,4 @@
--- `commit_steps::answer` meets its contract: the refusal, or what fetch answers. Assumes nothing.
+-- `commit_steps::answer` meets its contract: the refusal, or what is fetched again. Assumes nothing.
 use Rattle.commit_steps.proofs.Ended.{answer-refused, answer-judge, answer-found, answer-lost}
 use borrow.Author.Needs.{needs}
 use Rattle.commit_steps.proofs.answer.Statement.{statement}
@@ -11,13 +11,14 @@ returns-2 : tie.Need-returns-2
 returns-2 c = answer-judge _ _ _ (c .enum-told .given .1)
 
 returns-3 : tie.Need-returns-3
-returns-3 c = answer-found (c .before .before .before .before .before .before .before .before .args .st) _ _
-    (c .before .before .before .before .enum-told2 .given .1) _ (c .before .before .before .lfs-dir-fetch .ensures) _ _
+returns-3 c = answer-found (c .before .before .before .before .before .before .before .before .before .before .args .st) _ _
+    (c .before .before .before .before .before .before .phase2 .given .1) _ (c .before .before .before .lfs-dir-refetch .ensures) _ _
     (c .before .m .given .1)
 
 returns-4 : tie.Need-returns-4
-returns-4 c = answer-lost _ _ _ (c .before .before .before .before .enum-told2 .given .1) _
-    (c .before .before .before .lfs-dir-fetch .ensures) _ (c .before .r .given .1)
+returns-4 c = answer-lost (c .before .before .before .before .before .before .before .before .before .before .args .st) _ _
+    (c .before .before .before .before .before .before .phase2 .given .1) _ (c .before .before .before .lfs-dir-refetch .ensures) _
+    (c .before .r .given .1)
 
 pub answer-spec : {M : Type 1} → statement M
 answer-spec =

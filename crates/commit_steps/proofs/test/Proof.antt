@@ -7,17 +7,18 @@ use Rattle.commit_steps.proofs.test.Tie as tie
 
 rounded-end-requires : tie.Need-rounded-end-requires
 rounded-end-requires c κs =
-    record { low = c .before .before .before .pre .0; high = c .before .before .before .pre .1 .0; near = omega arith }
+    let pre = c .before .before .before .before .pre in
+    record { low = pre .0; high = pre .1 .0; near = omega arith }
 
 returns : tie.Need-returns
 returns c = tested-full _ _ _ _ _ _ (c .before .rounded-end .ensures) (c .if1 .taken)
 
 room-requires : tie.Need-room-requires
-room-requires c κs = let pre = c .before .before .before .before .before .pre in (pre .0, pre .1 .1)
+room-requires c κs = let pre = c .before .before .before .before .before .before .pre in (pre .0, pre .1 .1)
 
 check-tag-requires : tie.Need-check-tag-requires
 check-tag-requires c κs =
-    let pre = c .before .before .before .before .before .before .before .before .pre in
+    let pre = c .before .before .before .before .before .before .before .before .before .pre in
     record { low = pre .0; high = pre .1 .0; near = omega arith }
 
 returns-2 : tie.Need-returns-2
