@@ -45,7 +45,7 @@ use Rattle.format.specs.Stopped.{CommitLeaves}
 use Rattle.commit_steps.specs.State.{trio}
 use Rattle.commit.specs.Passes.{ranOf}
 use Rattle.commit_steps.specs.State.{answeredOf}
-use Rattle.format.specs.Fetch.{fetchOf}
+use Rattle.format.specs.Refetch.{refetchOf}
 use Rattle.format.specs.Writer.{unlimited}
 use Rattle.commit.proofs.Again.{LentAgain, lends-at, comes-at, LentShared, shares-at, unshared-at}
 use Rattle.commit.proofs.Rules.{commit-glue}
@@ -83,7 +83,7 @@ use Rattle.commit.proofs.lfs_dir_commit.Code.Mir.{t-1, t-2, t-7, t-12}
 --   pub commit-glue : (xs-b0 : List ℕ) (xs-b1 : List ℕ) (xs-entries : List Entry) (xs-dat : List ℕ) (x-g : Geometry) (x-n0 : ℕ) (x-n1 : ℕ) (x-blockcount : ℕ) (x-seed : ℕ) (x-rules : ℕ) (r0 : ℕ) (r1 : State) (y1b0 : List ℕ) (y1b1 : List ℕ) (r2 : Committed)
 --       → r0 ≡ unlimited
 --       → trio r1 y1b0 y1b1 ≡ ranOf x-g xs-b0 xs-b1 x-n0 x-n1 x-blockcount x-seed x-rules xs-entries xs-dat r0
---       → r2 ≡ answeredOf r1 (fetchOf x-g y1b0 y1b1 x-n0 x-n1 x-blockcount x-seed)
+--       → r2 ≡ answeredOf r1 (refetchOf x-g y1b0 y1b1 x-n0 x-n1 x-blockcount)
 --       → (r2 ≡ commitOf x-g xs-b0 xs-b1 x-n0 x-n1 x-blockcount x-seed x-rules xs-entries xs-dat) × CommitLeaves x-g xs-b0 xs-b1 x-n0 x-n1 x-blockcount x-seed x-rules xs-entries xs-dat y1b0 y1b1
 
 abbrev mach-Committed : Committed → Val
@@ -224,9 +224,9 @@ module _ {M : Type 1} (𝓤 : URA M) (H : Heap 𝓤) (A : Atoms 𝓤) (W : Given
           qed W ((‵ (flft (ν-b0 ∷ []) fullShare) ⊛ ‵ (flft (ν-b1 ∷ []) fullShare) ⊛ ‵ (flft κ-entries q-entries) ⊛ ‵ (flft κ-dat q-dat) ⊛ ‵ (MutSlice (named 0) (ν-b0 ∷ []) u8 .own (ref-b0 δ-b0 z-b0) (s-b0 ∷ [])) ⊛ ‵ (MutSlice (named 1) (ν-b1 ∷ []) u8 .own (ref-b1 δ-b1 z-b1) (s-b1 ∷ [])) ⊛ ‵ Own-entries ⊛ ‵ Own-dat) ∷ []) ∵ split ! $ move ! (1 ∷ []) $ split ! $ move ! (1 ∷ []) $ split ! $ move ! (1 ∷ []) $ split ! $ move ! (1 ∷ []) $ split ! $ move ! (1 ∷ []) $ split ! $ move ! (1 ∷ []) $ split ! $ move ! (1 ∷ []) $ nothing ! $ move ! (5 ∷ 0 ∷ []) $ join ! $ move ! (5 ∷ 0 ∷ []) $ join ! $ move ! (5 ∷ 0 ∷ []) $ join ! $ move ! (5 ∷ 0 ∷ []) $ join ! $ nothing ! $ owned ! u32 (Is u32) (uint-makes 𝓤 H A W w32) x-stores _ i-stores $ fjoin ! $ move ! (2 ∷ 0 ∷ []) $ fjoin ! $ move ! (2 ∷ 0 ∷ []) $ fjoin ! $ owned ! u32 (Is u32) (uint-makes 𝓤 H A W w32) x-rules _ i-rules $ fjoin ! $ owned ! u32 (Is u32) (uint-makes 𝓤 H A W w32) x-seed _ i-seed $ fjoin ! $ owned ! u32 (Is u32) (uint-makes 𝓤 H A W w32) x-blockcount _ i-blockcount $ fjoin ! $ owned ! u32 (Is u32) (uint-makes 𝓤 H A W w32) x-n1 _ i-n1 $ fjoin ! $ owned ! u32 (Is u32) (uint-makes 𝓤 H A W w32) x-n0 _ i-n0 $ fjoin ! $ move ! (2 ∷ 0 ∷ []) $ fjoin ! $ move ! (2 ∷ 0 ∷ []) $ fjoin ! $ owned ! Geometry-ty.the-row (Is Geometry-ty.the-row) (LL.makes Geometry-ty.the-type Geometry-laws.the-plain 𝓤 H A) x-g _ i-g $ fjoin ! $ move ! (1 ∷ 0 ∷ []) $ join ! $ frame ! $ done !
 
       -- what call 2, of `answer`, is passed
-      goes-2 : (x-st : State) (v-st : Val) (i-st : Is State-ty.the-row x-st (v-st ∷ [])) (x-g : Geometry) (v-g : Val) (i-g : Is Geometry-ty.the-row x-g (v-g ∷ [])) (ν-b0 : ℕ) (δ-b0 : GName) (z-b0 : List ℕ) (ν-b1 : ℕ) (δ-b1 : GName) (z-b1 : List ℕ) (x-n0 : ℕ) (v-n0 : Val) (i-n0 : Is u32 x-n0 (v-n0 ∷ [])) (x-n1 : ℕ) (v-n1 : Val) (i-n1 : Is u32 x-n1 (v-n1 ∷ [])) (x-blockcount : ℕ) (v-blockcount : Val) (i-blockcount : Is u32 x-blockcount (v-blockcount ∷ [])) (x-seed : ℕ) (v-seed : Val) (i-seed : Is u32 x-seed (v-seed ∷ [])) → ent 𝓤 (⋆ 𝓤 H A ((‵ (flft (ν-b0 ∷ []) fullShare) ⊛ ‵ (flft (ν-b1 ∷ []) fullShare) ⊛ ‵ (ShrSlice (named 0) (ν-b0 ∷ []) u8 .own (ref-b0 δ-b0 z-b0) (s-b0 ∷ [])) ⊛ ‵ (ShrSlice (named 1) (ν-b1 ∷ []) u8 .own (ref-b1 δ-b1 z-b1) (s-b1 ∷ []))) ∷ [])) (K-answer .pre ((((ν-b0 ∷ [], (ν-b1 ∷ [], tt))), ((fullShare, (fullShare, tt))), tt, (x-st, (x-g, ((ref-b0 δ-b0 z-b0), ((ref-b1 δ-b1 z-b1), (x-n0, (x-n1, (x-blockcount, (x-seed, tt)))))))), (v-st ∷ [], (v-g ∷ [], (s-b0 ∷ [], (s-b1 ∷ [], (v-n0 ∷ [], (v-n1 ∷ [], (v-blockcount ∷ [], (v-seed ∷ [], tt))))))))), tt))
-      goes-2 x-st v-st i-st x-g v-g i-g ν-b0 δ-b0 z-b0 ν-b1 δ-b1 z-b1 x-n0 v-n0 i-n0 x-n1 v-n1 i-n1 x-blockcount v-blockcount i-blockcount x-seed v-seed i-seed =
-          qed W ((‵ (flft (ν-b0 ∷ []) fullShare) ⊛ ‵ (flft (ν-b1 ∷ []) fullShare) ⊛ ‵ (ShrSlice (named 0) (ν-b0 ∷ []) u8 .own (ref-b0 δ-b0 z-b0) (s-b0 ∷ [])) ⊛ ‵ (ShrSlice (named 1) (ν-b1 ∷ []) u8 .own (ref-b1 δ-b1 z-b1) (s-b1 ∷ []))) ∷ []) ∵ split ! $ move ! (1 ∷ []) $ split ! $ move ! (1 ∷ []) $ split ! $ move ! (1 ∷ []) $ nothing ! $ move ! (3 ∷ 0 ∷ []) $ join ! $ move ! (3 ∷ 0 ∷ []) $ join ! $ nothing ! $ owned ! u32 (Is u32) (uint-makes 𝓤 H A W w32) x-seed _ i-seed $ fjoin ! $ owned ! u32 (Is u32) (uint-makes 𝓤 H A W w32) x-blockcount _ i-blockcount $ fjoin ! $ owned ! u32 (Is u32) (uint-makes 𝓤 H A W w32) x-n1 _ i-n1 $ fjoin ! $ owned ! u32 (Is u32) (uint-makes 𝓤 H A W w32) x-n0 _ i-n0 $ fjoin ! $ move ! (2 ∷ 0 ∷ []) $ fjoin ! $ move ! (2 ∷ 0 ∷ []) $ fjoin ! $ owned ! Geometry-ty.the-row (Is Geometry-ty.the-row) (LL.makes Geometry-ty.the-type Geometry-laws.the-plain 𝓤 H A) x-g _ i-g $ fjoin ! $ owned ! State-ty.the-row (Is State-ty.the-row) (LL.makes State-ty.the-type State-laws.the-plain 𝓤 H A) x-st _ i-st $ fjoin ! $ move ! (1 ∷ 0 ∷ []) $ join ! $ frame ! $ done !
+      goes-2 : (x-st : State) (v-st : Val) (i-st : Is State-ty.the-row x-st (v-st ∷ [])) (x-g : Geometry) (v-g : Val) (i-g : Is Geometry-ty.the-row x-g (v-g ∷ [])) (ν-b0 : ℕ) (δ-b0 : GName) (z-b0 : List ℕ) (ν-b1 : ℕ) (δ-b1 : GName) (z-b1 : List ℕ) (x-n0 : ℕ) (v-n0 : Val) (i-n0 : Is u32 x-n0 (v-n0 ∷ [])) (x-n1 : ℕ) (v-n1 : Val) (i-n1 : Is u32 x-n1 (v-n1 ∷ [])) (x-blockcount : ℕ) (v-blockcount : Val) (i-blockcount : Is u32 x-blockcount (v-blockcount ∷ [])) → ent 𝓤 (⋆ 𝓤 H A ((‵ (flft (ν-b0 ∷ []) fullShare) ⊛ ‵ (flft (ν-b1 ∷ []) fullShare) ⊛ ‵ (ShrSlice (named 0) (ν-b0 ∷ []) u8 .own (ref-b0 δ-b0 z-b0) (s-b0 ∷ [])) ⊛ ‵ (ShrSlice (named 1) (ν-b1 ∷ []) u8 .own (ref-b1 δ-b1 z-b1) (s-b1 ∷ []))) ∷ [])) (K-answer .pre ((((ν-b0 ∷ [], (ν-b1 ∷ [], tt))), ((fullShare, (fullShare, tt))), tt, (x-st, (x-g, ((ref-b0 δ-b0 z-b0), ((ref-b1 δ-b1 z-b1), (x-n0, (x-n1, (x-blockcount, tt))))))), (v-st ∷ [], (v-g ∷ [], (s-b0 ∷ [], (s-b1 ∷ [], (v-n0 ∷ [], (v-n1 ∷ [], (v-blockcount ∷ [], tt)))))))), tt))
+      goes-2 x-st v-st i-st x-g v-g i-g ν-b0 δ-b0 z-b0 ν-b1 δ-b1 z-b1 x-n0 v-n0 i-n0 x-n1 v-n1 i-n1 x-blockcount v-blockcount i-blockcount =
+          qed W ((‵ (flft (ν-b0 ∷ []) fullShare) ⊛ ‵ (flft (ν-b1 ∷ []) fullShare) ⊛ ‵ (ShrSlice (named 0) (ν-b0 ∷ []) u8 .own (ref-b0 δ-b0 z-b0) (s-b0 ∷ [])) ⊛ ‵ (ShrSlice (named 1) (ν-b1 ∷ []) u8 .own (ref-b1 δ-b1 z-b1) (s-b1 ∷ []))) ∷ []) ∵ split ! $ move ! (1 ∷ []) $ split ! $ move ! (1 ∷ []) $ split ! $ move ! (1 ∷ []) $ nothing ! $ move ! (3 ∷ 0 ∷ []) $ join ! $ move ! (3 ∷ 0 ∷ []) $ join ! $ nothing ! $ owned ! u32 (Is u32) (uint-makes 𝓤 H A W w32) x-blockcount _ i-blockcount $ fjoin ! $ owned ! u32 (Is u32) (uint-makes 𝓤 H A W w32) x-n1 _ i-n1 $ fjoin ! $ owned ! u32 (Is u32) (uint-makes 𝓤 H A W w32) x-n0 _ i-n0 $ fjoin ! $ move ! (2 ∷ 0 ∷ []) $ fjoin ! $ move ! (2 ∷ 0 ∷ []) $ fjoin ! $ owned ! Geometry-ty.the-row (Is Geometry-ty.the-row) (LL.makes Geometry-ty.the-type Geometry-laws.the-plain 𝓤 H A) x-g _ i-g $ fjoin ! $ owned ! State-ty.the-row (Is State-ty.the-row) (LL.makes State-ty.the-type State-laws.the-plain 𝓤 H A) x-st _ i-st $ fjoin ! $ move ! (1 ∷ 0 ∷ []) $ join ! $ frame ! $ done !
 
       module _ (𝓣 : Tables 𝓤 H) (fm : FmC 𝓤 H (W .laws) (𝓣 .C)) (known-unlimited : Triple 𝓤 (𝓣 .C #unlimited) K-unlimited) (known-run : Triple 𝓤 (𝓣 .C #run) K-run) (known-answer : Triple 𝓤 (𝓣 .C #answer) K-answer) where
         abbrev C : Calls 𝓤 H
@@ -257,7 +257,7 @@ module _ {M : Type 1} (𝓤 : URA M) (H : Heap 𝓤) (A : Atoms 𝓤) (W : Given
           abbrev Start : List (Item 𝓤)
           Start = At xs-b0 xs-b1 (‵ (froom Committed-laws.mir l0 0)) (‵ (froom (tyInt w32) l11 0)) (‵ (froom State-laws.mir l12 0))
 
-          part-3 : (r0 : ℕ) (v0 : Val) (is0 : Is u32 r0 (v0 ∷ [])) (said0 : r0 ≡ unlimited) (r1 : State) (v1 : Val) (is1 : Is State-ty.the-row r1 (v1 ∷ [])) (y1b0 : List ℕ) (m1b0 : length y1b0 ≡ length xs-b0) (y1b1 : List ℕ) (m1b1 : length y1b1 ≡ length xs-b1) (said1 : trio r1 y1b0 y1b1 ≡ ranOf x-g xs-b0 xs-b1 x-n0 x-n1 x-blockcount x-seed x-rules xs-entries xs-dat r0) (r2 : Committed) (v2 : Val) (is2 : Is Committed-ty.the-row r2 (v2 ∷ [])) (said2 : r2 ≡ answeredOf r1 (fetchOf x-g y1b0 y1b1 x-n0 x-n1 x-blockcount x-seed)) → ent 𝓤 (⋆ 𝓤 H A (At y1b0 y1b1 (‵ (fat fullShare Committed-laws.mir l0 0 v2)) (‵ (fat fullShare (tyInt w32) l11 0 v0)) (‵ (fat fullShare State-laws.mir l12 0 v1)))) (Wp 𝓤 H C Λ En t-12 (atReturn 𝓤 H En Post))
+          part-3 : (r0 : ℕ) (v0 : Val) (is0 : Is u32 r0 (v0 ∷ [])) (said0 : r0 ≡ unlimited) (r1 : State) (v1 : Val) (is1 : Is State-ty.the-row r1 (v1 ∷ [])) (y1b0 : List ℕ) (m1b0 : length y1b0 ≡ length xs-b0) (y1b1 : List ℕ) (m1b1 : length y1b1 ≡ length xs-b1) (said1 : trio r1 y1b0 y1b1 ≡ ranOf x-g xs-b0 xs-b1 x-n0 x-n1 x-blockcount x-seed x-rules xs-entries xs-dat r0) (r2 : Committed) (v2 : Val) (is2 : Is Committed-ty.the-row r2 (v2 ∷ [])) (said2 : r2 ≡ answeredOf r1 (refetchOf x-g y1b0 y1b1 x-n0 x-n1 x-blockcount)) → ent 𝓤 (⋆ 𝓤 H A (At y1b0 y1b1 (‵ (fat fullShare Committed-laws.mir l0 0 v2)) (‵ (fat fullShare (tyInt w32) l11 0 v0)) (‵ (fat fullShare State-laws.mir l12 0 v1)))) (Wp 𝓤 H C Λ En t-12 (atReturn 𝓤 H En Post))
           part-3 r0 v0 is0 said0 r1 v1 is1 y1b0 m1b0 y1b1 m1b1 said1 r2 v2 is2 said2 =
               qed W (At y1b0 y1b1 (‵ (fat fullShare Committed-laws.mir l0 0 v2)) (‵ (fat fullShare (tyInt w32) l11 0 v0)) (‵ (fat fullShare State-laws.mir l12 0 v1))) ∵ exec ! C Λ En t-12 (atRet En Post) $
               returns ! (look ! 8 refl) $
@@ -274,14 +274,14 @@ module _ {M : Type 1} (𝓤 : URA M) (H : Heap 𝓤) (A : Atoms 𝓤) (W : Given
               assigns ! (agg ! (and-then ! (load ! (from ! (stop !)) (look ! 27 refl)) (and-then ! (load ! (from ! (fld ! refl (stop !))) (look-in ! 11 (sub ! 1 refl (whole !)))) (no-more !)))) (from ! (stop !)) (init ! 28 refl (tt, (tt, (record { fits = g-b1 .0 }, tt)))) $
               lft-new ! tt (λ ν2b0. move ! (1 ∷ 5 ∷ []) $ use2 W (later (some (λ (δ : GName). ‵ (ShrSlice (named 0) (ν2b0 ∷ []) u8 .own (ref-b0 δ y1b0) (s-b0 ∷ [])) ⊛ ‵ (LentShared u8 κ-b0 (ν2b0 ∷ []) q-b0 γ-b0 b-b0 o-b0 y1b0)))) (shares-at u8 κ-b0 (ν2b0 ∷ []) q-b0 γ-b0 b-b0 o-b0 𝓤 H A W (named 0) (named 0) y1b0 (length xs-b0) m1b0) $ await ! tt $ pick ! (λ δ2b0. split ! $
               lft-new ! tt (λ ν2b1. move ! (4 ∷ 7 ∷ []) $ use2 W (later (some (λ (δ : GName). ‵ (ShrSlice (named 1) (ν2b1 ∷ []) u8 .own (ref-b1 δ y1b1) (s-b1 ∷ [])) ⊛ ‵ (LentShared u8 κ-b1 (ν2b1 ∷ []) q-b1 γ-b1 b-b1 o-b1 y1b1)))) (shares-at u8 κ-b1 (ν2b1 ∷ []) q-b1 γ-b1 b-b1 o-b1 𝓤 H A W (named 1) (named 1) y1b1 (length xs-b1) m1b1) $ await ! tt $ pick ! (λ δ2b1. split ! $
-              move ! (5 ∷ 2 ∷ 3 ∷ 0 ∷ []) $ group ! 4 $ use1 W (raw (K-answer .pre (((((ν2b0 ∷ []), ((ν2b1 ∷ []), tt))), ((fullShare, (fullShare, tt))), tt, (r1, (x-g, ((ref-b0 δ2b0 y1b0), ((ref-b1 δ2b1 y1b1), (x-n0, (x-n1, (x-blockcount, (x-seed, tt)))))))), (v1 ∷ [], (v-g ∷ [], (s-b0 ∷ [], (s-b1 ∷ [], (v-n0 ∷ [], (v-n1 ∷ [], (v-blockcount ∷ [], (v-seed ∷ [], tt))))))))), tt))) (goes-2 r1 v1 is1 x-g v-g g-g ν2b0 δ2b0 y1b0 ν2b1 δ2b1 y1b1 x-n0 v-n0 g-n0 x-n1 v-n1 g-n1 x-blockcount v-blockcount g-blockcount x-seed v-seed g-seed) $
-              calls-at ! fm K-answer known-answer (((((ν2b0 ∷ []), ((ν2b1 ∷ []), tt))), ((fullShare, (fullShare, tt))), tt, (r1, (x-g, ((ref-b0 δ2b0 y1b0), ((ref-b1 δ2b1 y1b1), (x-n0, (x-n1, (x-blockcount, (x-seed, tt)))))))), (v1 ∷ [], (v-g ∷ [], (s-b0 ∷ [], (s-b1 ∷ [], (v-n0 ∷ [], (v-n1 ∷ [], (v-blockcount ∷ [], (v-seed ∷ [], tt))))))))), tt) (and-then ! (load ! (from ! (stop !)) (look ! 19 refl)) (and-then ! (load ! (from ! (stop !)) (look ! 8 refl)) (and-then ! (load ! (from ! (stop !)) (look ! 25 refl)) (and-then ! (load ! (from ! (stop !)) (look ! 27 refl)) (and-then ! (load ! (from ! (stop !)) (look ! 11 refl)) (and-then ! (load ! (from ! (stop !)) (look ! 12 refl)) (and-then ! (load ! (from ! (stop !)) (look ! 13 refl)) (and-then ! (load ! (from ! (stop !)) (look ! 14 refl)) (no-more !))))))))) (λ v2.
-              use1 W (later (some (λ (r2 : Committed). ((‵ (flft (ν2b0 ∷ []) fullShare) ⊛ ‵ (flft (ν2b1 ∷ []) fullShare) ⊛ ‵ ftrue) ⊛ ‵ (Committed-ty.the-row .own r2 (v2 ∷ []))) ⊛ raw (ensured 𝓤 H A answer-fn.ended (answer-fn.clauses 𝓤 H A at-mem run) ((ν2b0 ∷ []), ((ν2b1 ∷ []), tt)) (r1, (x-g, ((ref-b0 δ2b0 y1b0), ((ref-b1 δ2b1 y1b1), (x-n0, (x-n1, (x-blockcount, (x-seed, tt)))))))) tt r2)))) (id⊢ 𝓤 _) $ await ! tt $ pick ! (λ r2. split ! $ move ! (1 ∷ []) $
-              use1 W (some (λ (ws2 : Unit {0} × (Unit {0} × (Unit {0} × (Unit {0} × (Unit {0} × (Unit {0} × (Unit {0} × (Unit {0} × Unit {0})))))))). ‵ (lasts answer-fn.ended ((ν2b0 ∷ []), ((ν2b1 ∷ []), tt)) (r1, (x-g, ((ref-b0 δ2b0 y1b0), ((ref-b1 δ2b1 y1b1), (x-n0, (x-n1, (x-blockcount, (x-seed, tt)))))))) ws2) ⊛ raw (fact 𝓤 (r2 ≡ answeredOf r1 (fetchOf x-g y1b0 y1b1 x-n0 x-n1 x-blockcount x-seed))))) (id⊢ 𝓤 _) $ pick ! (λ ws2. split ! $ move ! (1 ∷ []) $ heard ! (r2 ≡ answeredOf r1 (fetchOf x-g y1b0 y1b1 x-n0 x-n1 x-blockcount x-seed)) (λ said2.
-              fsplit ! $ move ! (1 ∷ []) $ fsplit ! $ move ! (1 ∷ []) $ fsplit ! $ move ! (1 ∷ []) $ fsplit ! $ move ! (1 ∷ []) $ fsplit ! $ move ! (1 ∷ []) $ fsplit ! $ move ! (1 ∷ []) $ fsplit ! $ move ! (1 ∷ []) $ fsplit ! $ move ! (9 ∷ []) $ split ! $ move ! (1 ∷ []) $ facts ! Committed-ty.the-row (Is Committed-ty.the-row) (shows 𝓤 H A Committed-ty.the-row) r2 (v2 ∷ []) (λ is2. land ! (from ! (stop !)) (init ! 16 refl (typed-Committed r2 v2 is2)) $
-              split ! $ move ! (1 ∷ []) $ split ! $ move ! (2 ∷ []) $ lft-end ! tt $ move ! (0 ∷ 13 ∷ []) $ use2 W (later (‵ (Own-b0 y1b0) ⊛ ‵ (flft κ-b0 q-b0))) (unshared-at u8 κ-b0 (ν2b0 ∷ []) q-b0 γ-b0 b-b0 o-b0 𝓤 H A W (named 0) (named 0) y1b0 (length xs-b0) m1b0 g-b0) $ await ! tt $ split ! $
-              move ! (2 ∷ []) $ lft-end ! tt $ move ! (0 ∷ 13 ∷ []) $ use2 W (later (‵ (Own-b1 y1b1) ⊛ ‵ (flft κ-b1 q-b1))) (unshared-at u8 κ-b1 (ν2b1 ∷ []) q-b1 γ-b1 b-b1 o-b1 𝓤 H A W (named 1) (named 1) y1b1 (length xs-b1) m1b1 g-b1) $ await ! tt $ split ! $
-              keep ! (2 ∷ 0 ∷ 14 ∷ 15 ∷ 3 ∷ 1 ∷ 16 ∷ 17 ∷ 18 ∷ 19 ∷ 20 ∷ 21 ∷ 22 ∷ 23 ∷ 24 ∷ 25 ∷ 26 ∷ 27 ∷ 28 ∷ 29 ∷ 30 ∷ 31 ∷ 32 ∷ 33 ∷ 34 ∷ 35 ∷ 36 ∷ 37 ∷ 38 ∷ 39 ∷ []) $
+              move ! (5 ∷ 2 ∷ 3 ∷ 0 ∷ []) $ group ! 4 $ use1 W (raw (K-answer .pre (((((ν2b0 ∷ []), ((ν2b1 ∷ []), tt))), ((fullShare, (fullShare, tt))), tt, (r1, (x-g, ((ref-b0 δ2b0 y1b0), ((ref-b1 δ2b1 y1b1), (x-n0, (x-n1, (x-blockcount, tt))))))), (v1 ∷ [], (v-g ∷ [], (s-b0 ∷ [], (s-b1 ∷ [], (v-n0 ∷ [], (v-n1 ∷ [], (v-blockcount ∷ [], tt)))))))), tt))) (goes-2 r1 v1 is1 x-g v-g g-g ν2b0 δ2b0 y1b0 ν2b1 δ2b1 y1b1 x-n0 v-n0 g-n0 x-n1 v-n1 g-n1 x-blockcount v-blockcount g-blockcount) $
+              calls-at ! fm K-answer known-answer (((((ν2b0 ∷ []), ((ν2b1 ∷ []), tt))), ((fullShare, (fullShare, tt))), tt, (r1, (x-g, ((ref-b0 δ2b0 y1b0), ((ref-b1 δ2b1 y1b1), (x-n0, (x-n1, (x-blockcount, tt))))))), (v1 ∷ [], (v-g ∷ [], (s-b0 ∷ [], (s-b1 ∷ [], (v-n0 ∷ [], (v-n1 ∷ [], (v-blockcount ∷ [], tt)))))))), tt) (and-then ! (load ! (from ! (stop !)) (look ! 19 refl)) (and-then ! (load ! (from ! (stop !)) (look ! 8 refl)) (and-then ! (load ! (from ! (stop !)) (look ! 25 refl)) (and-then ! (load ! (from ! (stop !)) (look ! 27 refl)) (and-then ! (load ! (from ! (stop !)) (look ! 11 refl)) (and-then ! (load ! (from ! (stop !)) (look ! 12 refl)) (and-then ! (load ! (from ! (stop !)) (look ! 13 refl)) (no-more !)))))))) (λ v2.
+              use1 W (later (some (λ (r2 : Committed). ((‵ (flft (ν2b0 ∷ []) fullShare) ⊛ ‵ (flft (ν2b1 ∷ []) fullShare) ⊛ ‵ ftrue) ⊛ ‵ (Committed-ty.the-row .own r2 (v2 ∷ []))) ⊛ raw (ensured 𝓤 H A answer-fn.ended (answer-fn.clauses 𝓤 H A at-mem run) ((ν2b0 ∷ []), ((ν2b1 ∷ []), tt)) (r1, (x-g, ((ref-b0 δ2b0 y1b0), ((ref-b1 δ2b1 y1b1), (x-n0, (x-n1, (x-blockcount, tt))))))) tt r2)))) (id⊢ 𝓤 _) $ await ! tt $ pick ! (λ r2. split ! $ move ! (1 ∷ []) $
+              use1 W (some (λ (ws2 : Unit {0} × (Unit {0} × (Unit {0} × (Unit {0} × (Unit {0} × (Unit {0} × (Unit {0} × Unit {0}))))))). ‵ (lasts answer-fn.ended ((ν2b0 ∷ []), ((ν2b1 ∷ []), tt)) (r1, (x-g, ((ref-b0 δ2b0 y1b0), ((ref-b1 δ2b1 y1b1), (x-n0, (x-n1, (x-blockcount, tt))))))) ws2) ⊛ raw (fact 𝓤 (r2 ≡ answeredOf r1 (refetchOf x-g y1b0 y1b1 x-n0 x-n1 x-blockcount))))) (id⊢ 𝓤 _) $ pick ! (λ ws2. split ! $ move ! (1 ∷ []) $ heard ! (r2 ≡ answeredOf r1 (refetchOf x-g y1b0 y1b1 x-n0 x-n1 x-blockcount)) (λ said2.
+              fsplit ! $ move ! (1 ∷ []) $ fsplit ! $ move ! (1 ∷ []) $ fsplit ! $ move ! (1 ∷ []) $ fsplit ! $ move ! (1 ∷ []) $ fsplit ! $ move ! (1 ∷ []) $ fsplit ! $ move ! (1 ∷ []) $ fsplit ! $ move ! (8 ∷ []) $ split ! $ move ! (1 ∷ []) $ facts ! Committed-ty.the-row (Is Committed-ty.the-row) (shows 𝓤 H A Committed-ty.the-row) r2 (v2 ∷ []) (λ is2. land ! (from ! (stop !)) (init ! 15 refl (typed-Committed r2 v2 is2)) $
+              split ! $ move ! (1 ∷ []) $ split ! $ move ! (2 ∷ []) $ lft-end ! tt $ move ! (0 ∷ 12 ∷ []) $ use2 W (later (‵ (Own-b0 y1b0) ⊛ ‵ (flft κ-b0 q-b0))) (unshared-at u8 κ-b0 (ν2b0 ∷ []) q-b0 γ-b0 b-b0 o-b0 𝓤 H A W (named 0) (named 0) y1b0 (length xs-b0) m1b0 g-b0) $ await ! tt $ split ! $
+              move ! (2 ∷ []) $ lft-end ! tt $ move ! (0 ∷ 12 ∷ []) $ use2 W (later (‵ (Own-b1 y1b1) ⊛ ‵ (flft κ-b1 q-b1))) (unshared-at u8 κ-b1 (ν2b1 ∷ []) q-b1 γ-b1 b-b1 o-b1 𝓤 H A W (named 1) (named 1) y1b1 (length xs-b1) m1b1 g-b1) $ await ! tt $ split ! $
+              keep ! (2 ∷ 0 ∷ 13 ∷ 14 ∷ 3 ∷ 1 ∷ 15 ∷ 16 ∷ 17 ∷ 18 ∷ 19 ∷ 20 ∷ 21 ∷ 22 ∷ 23 ∷ 24 ∷ 25 ∷ 26 ∷ 27 ∷ 28 ∷ 29 ∷ 30 ∷ 31 ∷ 32 ∷ 33 ∷ 34 ∷ 35 ∷ 36 ∷ 37 ∷ 38 ∷ []) $
               forget ! 25 refl $ forget ! 26 refl $ forget ! 27 refl $ forget ! 28 refl $ by ! (part-3 r0 v0 is0 said0 r1 v1 is1 y1b0 m1b0 y1b1 m1b1 said1 r2 v2 is2 said2))))))))))
 
           part-1 : (r0 : ℕ) (v0 : Val) (is0 : Is u32 r0 (v0 ∷ [])) (said0 : r0 ≡ unlimited) → ent 𝓤 (⋆ 𝓤 H A (At xs-b0 xs-b1 (‵ (froom Committed-laws.mir l0 0)) (‵ (fat fullShare (tyInt w32) l11 0 v0)) (‵ (froom State-laws.mir l12 0)))) (Wp 𝓤 H C Λ En t-2 (atReturn 𝓤 H En Post))
