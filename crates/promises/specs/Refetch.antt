@@ -7,17 +7,18 @@ use mathlib.Core.Bool.{Bool, true, false, not, cond, _||_}
 use mathlib.Core.List.{List}
 use Prim.Native.Nat.{ℕ}
 use lib.ListN.{length, take}
-use lib.Dec.{ltb}
+use Rattle.format.specs.Log.{committed}
+use Rattle.format.specs.Record.{seedOf}
 use Rattle.format.specs.Fetch.{tooHigh, fewEnough, fetchOf}
 use Rattle.format.specs.Lookup.{blockOf}
-use Rattle.format.specs.Refetch.{refetchFits, continued, refetchOf, knownTo, Gave}
+use Rattle.format.specs.Refetch.{refetchFits, walkBehind, mdirBehind, refetchOf, knownTo, Gave}
 use Rattle.format.specs.Writer.{Images, commitImages}
 use Rattle.format.specs.declared.Geometry.{Geometry}
 use Rattle.format.specs.declared.LfsMdir.{LfsMdir}
 use Rattle.format.specs.declared.Entry.{Entry}
-use Rattle.format.specs.declared.Refusal.the-variants.{Invalid, Corrupt, TooMany}
+use Rattle.format.specs.declared.Refusal.the-variants.{Invalid, Corrupt}
 use Rattle.format.specs.declared.Fetched.{Fetched}
-use Rattle.format.specs.declared.Fetched.the-variants.{Found, Refused}
+use Rattle.format.specs.declared.Fetched.the-variants.{Refused}
 use Rattle.theory.specs.Fetch.Refetched as theory
 use Rattle.theory.specs.Stopped.Refetch as commit
 use Rattle.promises.specs.Decided.{Decides, decided}
@@ -56,40 +57,44 @@ module _ (g : Geometry) (b0 b1 : List ℕ) (n0 n1 count seed : ℕ) (m : LfsMdir
   high : Bool
   high = tooHigh count n0 || tooHigh count n1
 
-  on : Fetched
-  on = continued (g .«prog_size») (blockOf b0 b1 n0 m) seed m
+  -- what is read, and the seed behind it
+  read : LfsMdir
+  read = mdirBehind (g .«prog_size») (blockOf b0 b1 n0 m) m (walkBehind (blockOf b0 b1 n0 m) m)
+
+  behind : ℕ
+  behind = seedOf seed (committed (walkBehind (blockOf b0 b1 n0 m) m))
 
   -- refetch, of the answers to its two tests
   tested : Bool → Bool → Fetched
-  tested f h = cond (not f) (Refused Invalid) (cond h (Refused Corrupt) on)
+  tested f h = cond (not f) (Refused Invalid) (cond h (Refused Corrupt) (fewEnough read behind))
 
   -- "A record whose end passes the block or is below 8, or whose pair isn't the given one, is -22", as a broken size or
   -- number is: exactly then
   pub refetch-invalid-exactly : (refetchOf g b0 b1 n0 n1 count seed m ≡ Refused Invalid) ↔
       (refetchFits g (length b0) (length b1) n0 n1 m ≡ false)
-  unfolding refetchOf fits high tested on
+  unfolding refetchOf fits high tested read behind
   refetch-invalid-exactly = (only fits high, λ e. rw e)
     where
       only : (f h : Bool) → tested f h ≡ Refused Invalid → f ≡ false
       only false h e = refl
       only true true e = apart (cc)
-      only true false e = let z = few-refuses _ _ Invalid e in apart (cc)
+      only true false e = let z = few-refuses read behind Invalid e in apart (cc)
 
   -- -84 exactly if the record is sound, and a number is not below a non-zero block count: the bytes are not asked
   pub refetch-corrupt-exactly : refetchFits g (length b0) (length b1) n0 n1 m ≡ true
       → (refetchOf g b0 b1 n0 n1 count seed m ≡ Refused Corrupt) ↔ (tooHigh count n0 || tooHigh count n1 ≡ true)
-  unfolding refetchOf fits high tested on
+  unfolding refetchOf fits high tested read behind
   refetch-corrupt-exactly sound = (λ e. only high (rw sound at e), λ h. rw (sound, h))
     where
       only : (h : Bool) → tested true h ≡ Refused Corrupt → h ≡ true
       only true e = refl
-      only false e = let z = few-refuses _ _ Corrupt e in apart (cc)
+      only false e = let z = few-refuses read behind Corrupt e in apart (cc)
 
   pub refetch-possible : FetchedOr FetchRefuses (refetchOf g b0 b1 n0 n1 count seed m)
-  unfolding refetchOf
+  unfolding refetchOf read behind
   refetch-possible =
       through (FetchedOr FetchRefuses) (not (refetchFits g (length b0) (length b1) n0 n1 m)) fetch22
-      (through (FetchedOr FetchRefuses) (tooHigh count n0 || tooHigh count n1) fetch84 (few-possible _ _))
+      (through (FetchedOr FetchRefuses) (tooHigh count n0 || tooHigh count n1) fetch84 (few-possible read behind))
 
   pub refetch-told : FetchedTold seed (refetchOf g b0 b1 n0 n1 count seed m)
   refetch-told = fetched-determined seed _ refetch-possible
