@@ -151,20 +151,20 @@ fn forward_of(dir: LfsMdir) -> LfsFcrc
 }
 
 // What a record says of its block, and the seed behind it.
-fn known(dir: LfsMdir, seed: u32) -> Taken
-    ensures { λ r. ⌜ r ≡ knownBy seed dir ⌝ }
+fn known(m: LfsMdir, seed: u32) -> Taken
+    ensures { λ r. ⌜ r ≡ knownBy seed m ⌝ }
 {
-    let tail = dir.tail;
-    let state = DirState {
-        count: dir.count,
-        split: dir.split,
+    let tail = m.tail;
+    let dir = DirState {
+        count: m.count,
+        split: m.split,
         tail,
-        fcrc: forward_of(dir),
+        fcrc: forward_of(m),
     };
     Taken {
-        dir: state,
-        off: dir.off as usize,
-        etag: dir.etag,
+        dir,
+        off: m.off as usize,
+        etag: m.etag,
         seed,
     }
 }
