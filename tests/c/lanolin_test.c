@@ -949,6 +949,134 @@ static void test_forward(void) {
     test_forward_stopped();
 }
 
+/* ---- document 02, L6: a fetch again, from the end of a record that is known */
+
+static int same_fetched(lanolin_fetched a, lanolin_fetched b) {
+    return a.result == b.result && same_dir(a.dir, b.dir) && a.seed == b.seed;
+}
+
+/* The refetch of a pair of the blocks 0 and 1 from what is known, and a fetch of it from the seed 7. */
+static lanolin_fetched again(lanolin_geometry g, const uint8_t *c0, const uint8_t *c1, lanolin_fetched known) {
+    return lanolin_refetch(g, c0, g.block_size, c1, g.block_size, 0, 1, 0, known.seed, known.dir);
+}
+
+static lanolin_fetched anew(lanolin_geometry g, const uint8_t *c0, const uint8_t *c1) {
+    return lanolin_fetch(g, c0, g.block_size, c1, g.block_size, 0, 1, 0, 7);
+}
+
+/* Behind each of three commits, from the record before the first and from that before it; and where the block is full,
+ * so that a fourth is refused. */
+static void test_refetch_behind_commits(void) {
+    uint8_t c0[128], c1[128];
+    memcpy(c0, b0, sizeof c0);
+    memcpy(c1, b1, sizeof c1);
+    const lanolin_fetched first = anew(G, c0, c1);
+    lanolin_fetched last = first;
+    for (int i = 0; i < 4; i++) {
+        EXPECT(same_fetched(again(G, c0, c1, first), last) && same_fetched(again(G, c0, c1, last), last));
+        EXPECT(commit_bytes(G, c0, c1, 8).result == (i < 3 ? LANOLIN_OK : LANOLIN_ERR_NOSPC));
+        lanolin_fetched now = anew(G, c0, c1);
+        EXPECT(same_fetched(again(G, c0, c1, first), now) && same_fetched(again(G, c0, c1, last), now));
+        EXPECT(i == 3 ? same_fetched(now, last) : now.dir.off > last.dir.off && now.seed != last.seed);
+        last = now;
+    }
+}
+
+/* Stopped after each number of its stores, a commit; the record has no forward check, and then one. */
+static void test_refetch_stopped(void) {
+    images p = listing();
+    for (int old = 0; old < 2; old++) {
+        const lanolin_fetched before = anew(WIDE, p.b0, p.b1);
+        EXPECT(has_forward(before.dir, old ? 16 : 0, old ? UNIT_SUM : 0));
+        for (uint32_t stores = 0; stores < 30; stores++) {
+            images left = p;
+            EXPECT(commit_stores_by(DOCUMENT, &left, stores).result == LANOLIN_OK);
+            EXPECT(same_fetched(again(WIDE, left.b0, left.b1, before), anew(WIDE, left.b0, left.b1)));
+        }
+        EXPECT(commit_by(DOCUMENT, &p).result == LANOLIN_OK);
+    }
+}
+
+/* Behind a compaction the other block is another: a fetch reads that, and the refetch the old one still. The compaction's
+ * own answer serves, and the refetch behind a commit to it. */
+static void test_refetch_behind_compaction(void) {
+    images p = listing();
+    const lanolin_fetched before = anew(WIDE, p.b0, p.b1);
+    const lanolin_committed done = compact_by(DOCUMENT, &p);
+    lanolin_fetched now = anew(WIDE, p.b0, p.b1), old = again(WIDE, p.b0, p.b1, before);
+    EXPECT(now.result == LANOLIN_OK && now.dir.pair[0] == 1 && now.dir.rev == 2 && done.seed == now.seed);
+    EXPECT(same_fetched(old, before) && !same_dir(old.dir, now.dir));
+    EXPECT(same_fetched(again(WIDE, p.b0, p.b1, now), now) && same_dir(done.dir, now.dir));
+    EXPECT(commit_by(DOCUMENT, &p).result == LANOLIN_OK);
+    EXPECT(same_fetched(again(WIDE, p.b0, p.b1, now), anew(WIDE, p.b0, p.b1)));
+}
+
+/* Two logs that end at 24, one of a forward check of eight bytes, one of an inline struct with the same data: the records
+ * differ in the forward check alone. Behind the same commit, of a check that ends at 48, one pair is marked erased. */
+static void test_refetch_needs_forward(void) {
+    for (int with = 0; with < 2; with++) {
+        const uint32_t tag = with ? 0x5ffffc08 : 0x20100008, ccrc = 0x500ffc04;
+        uint8_t block[512], data[8];
+        EXPECT(lanolin_put_le32(data, 8, 0, 8) == 0);
+        EXPECT(lanolin_put_le32(data, 8, 4, lanolin_crc(0xffffffff, b1, 8)) == 0);
+        lay_one(block, tag, data, 8);
+        lanolin_fetched known = anew(G, block, b1);
+        EXPECT(known.dir.off == 24 && known.dir.etag == ccrc && !known.dir.erased && known.dir.forward == with);
+        chain(block, 24, ccrc, 0x500ffc14);
+        EXPECT(lanolin_put_le32(block, 128, 28, lanolin_crc(0xffffffff, block + 24, 4)) == 0);
+        lanolin_fetched now = again(G, block, b1, known);
+        EXPECT(now.dir.off == 48 && now.dir.erased == with && same_fetched(now, anew(G, block, b1)));
+    }
+}
+
+/* A check of size 0, whose checksum stands behind its end: with a byte of it altered a fetch finds no commit. */
+static void test_refetch_past_the_end(void) {
+    static const uint8_t SHORT[12] = {1, 0, 0, 0, 0xaf, 0xf0, 0x03, 0xff, 0xc5, 0xe6, 0x94, 0xf0};
+    uint8_t block[128];
+    memset(block, 0xff, sizeof block);
+    memcpy(block, SHORT, sizeof SHORT);
+    const lanolin_fetched known = anew(G, block, b1);
+    EXPECT(known.result == LANOLIN_OK && known.dir.off == 8 && known.dir.etag == 0x500ffc00);
+    block[12] = 0; /* behind all that was read */
+    EXPECT(same_fetched(again(G, block, b1, known), anew(G, block, b1)));
+    block[9] ^= 1;
+    EXPECT(anew(G, block, b1).result == LANOLIN_ERR_CORRUPT && again(G, block, b1, known).result == LANOLIN_OK);
+}
+
+/* Of any record: which are refused, and that of the others pair, revision and all else but the erased mark go on. */
+static void test_refetch_of_any_record(void) {
+    static const uint32_t ENDS[6] = {0, 7, 8, 128, 129, 0xffffffff};
+    const lanolin_mdir made = {{1, 0}, 9, 8, 0, 1023, true, true, {3, 4}, false, 5, 6};
+    for (int i = 0; i < 6; i++) {
+        lanolin_fetched known = {0, made, 7};
+        known.dir.off = ENDS[i];
+        lanolin_fetched f = again(G, b0, b1, known);
+        lanolin_mdir expected = known.dir;
+        expected.erased = false;
+        expected.forward_size = expected.forward_sum = 0;
+        if (i == 2 || i == 3) EXPECT(f.result == LANOLIN_OK && same_dir(f.dir, expected) && f.seed == 7);
+        else EXPECT(f.result == LANOLIN_ERR_INVAL && is_no_dir(f.dir) && f.seed == 7);
+        known.dir.count = expected.count = 1024;
+        f = again(G, b0, b1, known);
+        if (i == 2 || i == 3) EXPECT(f.result == LANOLIN_ERR_NOENT && same_dir(f.dir, expected) && f.seed == 7);
+    }
+    EXPECT(lanolin_refetch(G, b0, 128, b1, 128, 1, 0, 0, 7, made).result == LANOLIN_OK);
+    EXPECT(lanolin_refetch(G, b0, 128, b1, 128, 0, 2, 0, 7, made).result == LANOLIN_ERR_INVAL);
+    EXPECT(lanolin_refetch(G, b0, 128, b1, 128, 0, 1, 1, 7, made).result == LANOLIN_ERR_CORRUPT);
+    EXPECT(lanolin_refetch(G, b0, 128, b1, 128, 0, 2, 1, 7, made).result == LANOLIN_ERR_INVAL);
+    EXPECT(lanolin_refetch(G, b0, 127, b1, 128, 0, 1, 0, 7, made).result == LANOLIN_ERR_INVAL);
+    EXPECT(lanolin_refetch(G, NULL, 0, NULL, 0, 0, 1, 0, 7, made).result == LANOLIN_ERR_INVAL);
+}
+
+static void test_refetch(void) {
+    test_refetch_behind_commits();
+    test_refetch_stopped();
+    test_refetch_behind_compaction();
+    test_refetch_needs_forward();
+    test_refetch_past_the_end();
+    test_refetch_of_any_record();
+}
+
 /* ---- the names of lanolin.h, each by what the archive answers to it; document 01 says what that is */
 
 /* A commit behind the listing, on a copy. */
@@ -1154,6 +1282,7 @@ int main(void) {
     test_find_refused();
     test_find_sizes();
     test_forward();
+    test_refetch();
     test_names_of_refusals();
     test_no_room();
     test_names_of_types();

@@ -93,6 +93,12 @@ static __attribute__((noinline)) void reading(void) {
     DEPTH(lanolin_fetch, G, PAIR, 0, 0);
     DEPTH(lanolin_fetch, G, PAIR, 1, 0);
     DEPTH(lanolin_fetch, G, b0, 0, b1, 0, 0, 1, 0, 0);
+    lanolin_mdir half = dir;
+    half.off = 8; /* any record is taken: it walks on from there */
+    DEPTH(lanolin_refetch, G, PAIR, 0, 0, dir);
+    DEPTH(lanolin_refetch, G, PAIR, 0, 0, half);
+    DEPTH(lanolin_refetch, G, PAIR, 1, 0, dir);
+    DEPTH(lanolin_refetch, G, b0, 0, b1, 0, 0, 1, 0, 0, dir);
     for (uint32_t id = 0; id < SLOTS + 2; id += 77) {
         DEPTH(lanolin_getslice, G, PAIR, dir, STILL, 0x7ffffc00, lanolin_mktag(0x374, id, 0), 0, buffer, 4);
         DEPTH(lanolin_getslice, G, PAIR, dir, moving, 0x700ffc00, lanolin_mktag(0, id, 0), 0, buffer, sizeof buffer);
