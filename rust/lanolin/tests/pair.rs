@@ -521,6 +521,77 @@ fn an_earlier_forward_check_stays_in_the_record() {
     }
 }
 
+/// Behind each of three commits, and behind a fourth, which is refused: from the
+/// record before it and from that before all of them, what a fetch gives.
+#[test]
+fn a_refetch_behind_a_commit_is_a_fetch() {
+    let mut bytes = *LISTING;
+    let mut pair = pair_mut(&mut bytes);
+    let first = pair.as_pair().fetch(0, 7).unwrap();
+    let mut last = first;
+    for off in [80, 112, 128, 128] {
+        let done = pair.commit(0, 7, BY_DOCUMENT, &[DEADLINE], &SECONDS);
+        let now = pair.as_pair().fetch(0, 7).unwrap();
+        assert_eq!(now.record.off, off);
+        assert!(done == Ok(now) || done == Err(Refusal::NoSpace));
+        for known in [first, last] {
+            assert_eq!(pair.as_pair().refetch(0, known), Ok(now));
+        }
+        last = now;
+    }
+}
+
+/// Behind a compaction the old record gives the old directory, and a fetch is due;
+/// the compaction's own answer is one.
+#[test]
+fn a_refetch_behind_a_compaction_is_no_fetch() {
+    let mut bytes = *LISTING;
+    let mut pair = pair_mut(&mut bytes);
+    let known = pair.as_pair().fetch(0, 7).unwrap();
+    let compacted = pair.compact(0, 7, BY_DOCUMENT).unwrap();
+    let reader = pair.as_pair();
+    assert_eq!(reader.refetch(0, known), Ok(known));
+    assert_eq!(reader.fetch(0, 7), Ok(compacted));
+    assert_ne!(compacted, known);
+    assert_eq!(reader.refetch(0, compacted), Ok(compacted));
+}
+
+/// A record whose end is below 8 or passes the block, or whose pair is another; a
+/// number too high; more than 1,023 slots, with record and seed as read. The erased
+/// mark is not read.
+#[test]
+fn a_refetch_takes_any_record() {
+    let seed = 7;
+    let refetch = |count, record| pair(LISTING).refetch(count, Fetched { record, seed });
+    let ending = |off| Record { off, ..LISTED };
+    for off in [0, 7, 129, u32::MAX] {
+        assert_eq!(refetch(0, ending(off)), Err(Refusal::Invalid));
+    }
+    for off in [8, 128] {
+        let record = ending(off);
+        assert_eq!(refetch(0, record), Ok(Fetched { record, seed }));
+    }
+    let other = |pair| Record { pair, ..LISTED };
+    assert_eq!(refetch(0, other([0, 2])), Err(Refusal::Invalid));
+    let record = other([1, 0]);
+    assert_eq!(refetch(0, record), Ok(Fetched { record, seed }));
+    assert_eq!(refetch(1, LISTED), Err(Refusal::Corrupt));
+    let crowded = Record {
+        count: 1024,
+        ..LISTED
+    };
+    let read = Fetched {
+        record: crowded,
+        seed,
+    };
+    assert_eq!(refetch(0, crowded), Err(Refusal::TooMany(read)));
+    let marked = Record {
+        erased: true,
+        ..LISTED
+    };
+    assert_eq!(refetch(0, marked), refetch(0, LISTED));
+}
+
 /// A lookup reads neither the erased mark nor the forward check.
 #[test]
 fn lookups_take_a_record_with_any_forward_check() {
