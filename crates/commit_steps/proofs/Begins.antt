@@ -1,12 +1,11 @@
 -- Before the entries: one law for each way out of `begin` and `start`. Assumes nothing.
-use mathlib.Core.Path.{_≡_, refl, sym, _∙_}
+use mathlib.Core.Path.{_≡_}
 use mathlib.Core.Bool.{Bool, true, false, not, _&&_}
 use mathlib.Core.List.{List}
-use Prim.Native.Nat.{ℕ, _≤_}
-use native.Mathlib.Omega.{arith}
+use Prim.Native.Nat.{ℕ}
 use lib.ListN.{length}
 use lib.Dec.{leb}
-use borrow.Author.Tests.{eq-eqb, ne-eqb, not-false}
+use borrow.Author.Tests.{eq-eqb, ne-eqb}
 use Rattle.format.specs.Log.{log}
 use Rattle.format.specs.Fetch.{pairFits, fetchOf}
 use Rattle.format.specs.Regular.{Regular, rulesFit, rulesOf}
@@ -17,7 +16,6 @@ use Rattle.format.specs.declared.LfsMdir.{LfsMdir}
 use Rattle.format.specs.declared.Refusal.{Refusal}
 use Rattle.format.specs.declared.Refusal.the-variants.{Invalid, Irregular}
 use Rattle.format.specs.declared.Fetched.the-variants as fetched
-use Rattle.sizes.proofs.Sized.{sized}
 use Rattle.commit_steps.specs.State.{state, refusedState, judgingFrom, startedOf, begunOf}
 use Rattle.commit_steps.specs.declared.State.{State}
 use Rattle.commit_steps.specs.declared.Phase.the-variants.{Judge}
@@ -44,17 +42,6 @@ module _ (g : Geometry) (b0 b1 : List ℕ) (n0 n1 count seed rules entries : ℕ
   tested-is : tested ≡ commitFits g (length b0) (length b1) n0 n1 rules entries (length dat)
   unfolding commitFits
   tested-is = rw is
-
-  -- the blocks have a revision to read
-  pub fits-four : not tested ≡ false → (4 ≤ length b0) × (4 ≤ length b1)
-  fits-four h =
-      let s = sized g (length b0) (length b1) n0 n1
-      (sym is ∙ first p (leb (length dat) mostData) (leb entries mostEntries) (rulesFit rules) (not-false _ h)) in
-      (omega (arith, s .first, s .geometry .block-low), omega (arith, s .second, s .geometry .block-low))
-    where
-      first : (a b c d : Bool) → a && b && c && d ≡ true → a ≡ true
-      first true b c d e = refl
-      first false b c d e = cc
 
   pub begins-broken : (s : State) → not tested ≡ true → s ≡ refusedState Invalid
       → s ≡ begunOf g b0 b1 n0 n1 count seed rules entries dat

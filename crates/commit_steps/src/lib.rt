@@ -7,6 +7,7 @@ ghost use Prim.Native.Nat.{_≤_, _<_};
 ghost use lib.ListN.{length};
 ghost use Rattle.commit_steps.specs.State.{trio, onto, refusedState, begunOf, startedOf, judgedOf, laidOf};
 ghost use Rattle.commit_lay.specs.Laid.{bodyOf};
+ghost use Rattle.commit_regular.specs.Ends.{CommittedTo};
 ghost use Rattle.commit_steps.specs.State.{summedOf, forwardSummed, layOf, forwardLaid, stepOf, testedOf};
 ghost use Rattle.commit_steps.specs.State.{placedOf, decidedOf, checkedOf, sealedOf, answeredOf, madeOf};
 ghost use Rattle.format.specs.Refetch.{refetchOf};
@@ -118,10 +119,10 @@ fn refused(r: Refusal) -> State
 
 // The log of the answering block must be regular by the rule. Entries run against the record's count.
 fn start(b: &[u8], second: bool, m: LfsMdir, seed: u32, rules: u32) -> State
-    requires { ⌜ 4 ≤ length (now b) ⌝ }
+    requires { ⌜ CommittedTo (now b) (m .off) ⌝ }
     ensures { λ r. ⌜ r ≡ startedOf (rulesOf rules) second (now (b .entry)) m seed ⌝ }
 {
-    if !commit_regular::log_regular(b, commit_regular::rules_of(rules)) {
+    if !commit_regular::log_regular(b, m.off as usize, commit_regular::rules_of(rules)) {
         return refused(Refusal::Irregular);
     }
     let judging = Judging {

@@ -90,7 +90,7 @@ pub fn renew(prog: u32, rules: u32, old: &[u8], new: &mut [u8], dir: LfsMdir, st
     ensures { λ _. ⌜ now (new .exit) ≡ renewedTo stores (now (new .entry))
         (compactable (rulesOf rules) prog false (now (old .entry)) (log (now (old .entry)))) ⌝ }
 {
-    if !commit_regular::log_regular(old, commit_regular::rules_of(rules)) {
+    if !commit_regular::log_regular(old, dir.off as usize, commit_regular::rules_of(rules)) {
         return Stored::Refused(Refusal::Irregular);
     }
     let rev = std::num::wrapping_add_u32(dir.rev, 1);

@@ -3,8 +3,7 @@ use mathlib.Core.Path.{_≡_, refl, sym, ap, _∙_}
 use mathlib.Core.Logic.{_≢_}
 use mathlib.Core.Bool.{Bool, true, false, not, _&&_, _||_}
 use mathlib.Core.List.{List}
-use Prim.Native.Nat.{ℕ, _≤_}
-use native.Mathlib.Omega.{arith}
+use Prim.Native.Nat.{ℕ}
 use lib.ListN.{length}
 use lib.Dec.{eqb, leb, ltb}
 use borrow.Author.Tests.{eq-eqb, ne-eqb, ltb-true, ltb-false, le-leb, lt-leb}
@@ -21,8 +20,6 @@ use Rattle.format.specs.declared.Refusal.the-variants.{Invalid}
 use Rattle.format.specs.declared.Fetched.the-variants as fetched
 use Rattle.format.specs.declared.Named.{Named}
 use Rattle.format.specs.declared.Named.the-variants.{Refused}
-use Rattle.theory.specs.Fetch.FoundBlock.{Sized, found-sized, found-reads}
-use Rattle.find_pass.specs.Pass.{CommittedTo}
 
 -- the test of rule and name, as the code makes it
 askable-not : (rules : ℕ) (name : List ℕ) → ltb 1 rules || eqb (length name) 0 ≡ not (askable rules name)
@@ -32,26 +29,6 @@ askable-not rules name = go (ltb 1 rules) refl (eqb (length name) 0)
     go true e z = rw (lt-leb rules 1 (ltb-true 1 rules e))
     go false e true = rw (le-leb rules 1 (ltb-false 1 rules e))
     go false e false = rw (le-leb rules 1 (ltb-false 1 rules e))
-
--- the block that answers, and its end; m is the record
-module _ (g : Geometry) (b0 b1 : List ℕ) (n0 n1 count seed : ℕ) (m : LfsMdir) (s : ℕ)
-    (f : fetched.Found m s ≡ fetchOf g b0 b1 n0 n1 count seed) where
-  long : (w : Bool) → Sized g b0 b1 → 128 ≤ length (blockAt w b0 b1)
-  long false z = omega (arith, z .first, z .block .0)
-  long true z = omega (arith, z .second, z .block .0)
-
-  ends-at : (w : Bool) → isSecond n0 m ≡ w → CommittedTo (blockAt w b0 b1) (m .off)
-  ends-at w e =
-      let z = found-sized g b0 b1 n0 n1 count seed m s (sym f) in
-      let a = found-reads g b0 b1 n0 n1 count seed m s (sym f) in
-      let same : a .w ≡ w = sym (a .place) ∙ e in
-      rw (← same) (record { word = omega (arith, long (a .w) z); ends = a .ends })
-
-  pub ends-first : m .pair .n0 ≡ n0 → CommittedTo b0 (m .off)
-  ends-first h = ends-at false (ap not (eq-eqb (m .pair .n0) n0 h))
-
-  pub ends-second : m .pair .n0 ≢ n0 → CommittedTo b1 (m .off)
-  ends-second h = ends-at true (ap not (ne-eqb (m .pair .n0) n0 h))
 
 module _ (g : Geometry) (b0 b1 : List ℕ) (n0 n1 count seed rules : ℕ) (name : List ℕ) (kind : ℕ) where
   pub called-invalid : ltb 1 rules || eqb (length name) 0 ≡ true

@@ -4,6 +4,4 @@ pub mod Moved
 pub mod Entry
 pub mod Flags
 pub mod Kept
-pub mod Passed
-pub mod Place
 pub mod Turn

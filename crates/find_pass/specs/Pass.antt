@@ -8,7 +8,6 @@ use lib.ListN.{length}
 use lib.Dec.{eqb, ltb}
 use Rattle.format.specs.Tag.{tagDelete, tagLength}
 use Rattle.format.specs.Kind.{isName}
-use Rattle.format.specs.Log.{log, logEnd}
 use Rattle.format.specs.Directory.{Load, Act, mk, rm, put, skip}
 use Rattle.format.specs.declared.Named.{Named}
 use Rattle.format.specs.declared.Named.the-variants.{At, Nothing}
@@ -35,11 +34,6 @@ marked q skip f i = f i
 pub record Followable (b : List ℕ) (at t : ℕ) : Type 0 where
   pub whole : at + tagLength t ≤ length b
   pub kept : isName t ≡ true → tagDelete t ≡ false
-
--- the committed log of the block ends at `end`
-pub record CommittedTo (b : List ℕ) (end : ℕ) : Type 0 where
-  pub word : 4 ≤ length b
-  pub ends : end ≡ logEnd (log b)
 
 -- "the lowest id .. or none"
 abbrev pub answered : ℕ → Named

@@ -189,7 +189,7 @@ fn block_audit(out: &mut [u8], b: &[u8], m: LfsMdir, rules: u32) -> u32
     ensures { λ r. ⌜ text r (now (out .exit)) ≡ putsOf (text 0 (now (out .entry)))
         (blockAudit (rulesOf rules) m (now (b .entry))) ⌝ }
 {
-    if !commit_regular::log_regular(b, commit_regular::rules_of(rules)) {
+    if !commit_regular::log_regular(b, m.off as usize, commit_regular::rules_of(rules)) {
         return text_input::refused(out, 0, Refusal::Irregular);
     }
     let a = slot_audits(out, b, m.off as usize, m.etag, m.count as u32);

@@ -29,7 +29,6 @@ use Rattle.text.specs.Put.{Text, putsOf}
 use Rattle.text_input.specs.Input.{Listable}
 use Rattle.text_input.proofs.Input.{block-slots}
 use Rattle.text_listing.proofs.Loops.{slots-shown}
-use Rattle.find_pass.specs.Pass.{CommittedTo}
 
 -- ---- a slot that is found is there
 never : {A : Type 0} → _≡_ {A = ℕ} 0 1 → A
@@ -63,9 +62,6 @@ found-there r name kind es id e = go (Regular r es) refl e
 
 -- ---- a block and its record; q is the rule that was asked for
 module _ (b : List ℕ) (m : LfsMdir) (w : Listable b m) where
-  pub pass-asks : CommittedTo b (m .off)
-  pass-asks = record { word = w .word; ends = w .ends }
-
   module _ (name : List ℕ) (kind rules : ℕ) (q : Rules) (asked : q ≡ rulesOf rules) where
     -- x is what `find_in` answers
     shown : (x : Named) → x ≡ findIn q name kind (log b) → (s r : Text) → r ≡ putsOf s (namedText (dirOf (log b)) x)

@@ -28,6 +28,7 @@ use Rattle.format.specs.declared.Fetched.{Fetched}
 use Rattle.format.specs.declared.Fetched.the-variants as fetched
 use Rattle.theory.specs.Fetch.FoundBlock.{Sized, found-sized, found-reads}
 use Rattle.theory.specs.Compact.AcceptedVerdict.{slots-counted}
+use Rattle.commit_regular.specs.Ends.{CommittedTo}
 use Rattle.compact_slot.specs.Slots.{Slots}
 use Rattle.text.specs.Put.{Text, putsOf}
 use Rattle.text_input.specs.Input.{Listable, Numbers}
@@ -43,7 +44,12 @@ pub refused-done : (s r : Text) (x : Refusal) (n : ℕ) → Numbers x n → r �
     → r ≡ putsOf s (refusedLine x)
 refused-done s r x n w er = er ∙ ap (putsOf s) (refused-line x n (w .is) (w .some))
 
--- ---- a block and its record; x is what the test of regularity answers, by the rule q
+-- ---- a block and its record
+-- what a pass over the log asks
+pub block-ends : (b : List ℕ) (m : LfsMdir) → Listable b m → CommittedTo b (m .off)
+block-ends b m w = record { word = w .word; ends = w .ends }
+
+-- x is what the test of regularity answers, by the rule q
 pub block-slots : (b : List ℕ) (m : LfsMdir) (q : Rules) (x : Bool) → Listable b m → x ≡ Regular q (log b)
     → not x ≡ false → Slots b (m .off) (m .etag) (m .count)
 block-slots b m q x w ex h =

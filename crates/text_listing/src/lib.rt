@@ -187,7 +187,7 @@ fn block_text(out: &mut [u8], b: &[u8], m: LfsMdir, rules: u32) -> u32
         (blockText (rulesOf rules) m (now (b .entry))) ⌝ }
 {
     let n = record_lines(out, 0, m);
-    if !commit_regular::log_regular(b, commit_regular::rules_of(rules)) {
+    if !commit_regular::log_regular(b, m.off as usize, commit_regular::rules_of(rules)) {
         return text_input::refused(out, n, Refusal::Irregular);
     }
     slot_lines(out, n, b, m.off as usize, m.etag, m.count as u32)

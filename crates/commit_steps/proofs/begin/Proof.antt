@@ -1,7 +1,8 @@
 -- `commit_steps::begin` meets its contract: the sizes, fetch's own refusals, and the block that answers. Assumes
 -- nothing.
 use mathlib.Core.Path.{sym, _∙_}
-use Rattle.commit_steps.proofs.Begins.{fits-four, begins-broken, begins-refused, begins-first, begins-second}
+use Rattle.commit_regular.proofs.Found.{ends-first, ends-second}
+use Rattle.commit_steps.proofs.Begins.{begins-broken, begins-refused, begins-first, begins-second}
 use borrow.Author.Needs.{needs}
 use Rattle.commit_steps.proofs.begin.Statement.{statement}
 use Rattle.commit_steps.proofs.begin.Tie as tie
@@ -20,32 +21,12 @@ returns c = begins-broken (c .before .before .before .before .before .before .ar
     (c .before .if1 .taken) (c .refused .ensures)
 
 start-requires : tie.Need-start-requires
-start-requires c κs = fits-four (c .before .before .before .before .before .before .before .before .before .before
-    .before .args .g) (c .before .before .before .before .before .before .before .before .before .before .before .args
-    .b0 .now) (c .before .before .before .before .before .before .before .before .before .before .before .args .b1 .now)
-    (c .before .before .before .before .before .before .before .before .before .before .before .args .n0)
-    (c .before .before .before .before .before .before .before .before .before .before .before .args .n1)
-    (c .before .before .before .before .before .before .before .before .before .before .before .args .block-count)
-    (c .before .before .before .before .before .before .before .before .before .before .before .args .seed)
-    (c .before .before .before .before .before .before .before .before .before .before .before .args .rules)
-    (c .before .before .before .before .before .before .before .before .before .before .before .args .entries)
-    (c .before .before .before .before .before .before .before .before .before .before .before .args .dat .now) _
-    (c .before .before .before .before .before .before .before .pair-fits .ensures)
-    (c .before .before .before .before .before .before .if1 .left) .0
+start-requires c κs = ends-first _ _ _ _ _ _ _ _ _ (sym (c .before .before .before .m .given .1)
+    ∙ c .before .before .before .before .before .lfs-dir-fetch .ensures) (c .if2 .taken)
 
 start-requires-2 : tie.Need-start-requires-2
-start-requires-2 c κs = fits-four (c .before .before .before .before .before .before .before .before .before .before
-    .before .args .g) (c .before .before .before .before .before .before .before .before .before .before .before .args
-    .b0 .now) (c .before .before .before .before .before .before .before .before .before .before .before .args .b1 .now)
-    (c .before .before .before .before .before .before .before .before .before .before .before .args .n0)
-    (c .before .before .before .before .before .before .before .before .before .before .before .args .n1)
-    (c .before .before .before .before .before .before .before .before .before .before .before .args .block-count)
-    (c .before .before .before .before .before .before .before .before .before .before .before .args .seed)
-    (c .before .before .before .before .before .before .before .before .before .before .before .args .rules)
-    (c .before .before .before .before .before .before .before .before .before .before .before .args .entries)
-    (c .before .before .before .before .before .before .before .before .before .before .before .args .dat .now) _
-    (c .before .before .before .before .before .before .before .pair-fits .ensures)
-    (c .before .before .before .before .before .before .if1 .left) .1
+start-requires-2 c κs = ends-second _ _ _ _ _ _ _ _ _ (sym (c .before .before .before .m .given .1)
+    ∙ c .before .before .before .before .before .lfs-dir-fetch .ensures) (c .if2 .left)
 
 returns-2 : tie.Need-returns-2
 returns-2 c = begins-refused (c .before .before .before .before .before .before .before .before .before .before .args

@@ -1,9 +1,9 @@
--- `find_name::lfs_dir_find` meets its contract: a rule or a name that is none, what fetch refuses, and either block's pass.
--- Assumes nothing.
+-- `find_name::lfs_dir_find` meets its contract: a rule or a name that is none, what fetch refuses, and either block's
+-- pass. Assumes nothing.
 use mathlib.Core.Path.{sym, _∙_}
 use borrow.Author.Needs.{needs}
-use Rattle.find_name.proofs.Called.{called-invalid, called-refused, called-first, called-second, ends-first}
-use Rattle.find_name.proofs.Called.{ends-second}
+use Rattle.commit_regular.proofs.Found.{ends-first, ends-second}
+use Rattle.find_name.proofs.Called.{called-invalid, called-refused, called-first, called-second}
 use Rattle.find_name.proofs.lfs_dir_find.Statement.{statement}
 use Rattle.find_name.proofs.lfs_dir_find.Tie as tie
 

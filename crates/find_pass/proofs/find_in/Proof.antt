@@ -5,8 +5,10 @@ use Prim.Native.Nat.{_-_}
 use native.Mathlib.Omega.{arith}
 use borrow.Author.Needs.{needs}
 use Rattle.format.specs.Find.{isNamed}
-use Rattle.find_pass.proofs.Turn.{Going, starts-going, none-named, word-inside, tag-small, tag-inside}
-use Rattle.find_pass.proofs.Turn.{turn-unchecked, turn-check, turn-bad, turn-followable, turn-entry, ends}
+use Rattle.commit_regular.proofs.Turn.{word-inside, tag-small, tag-inside, turn-unchecked, turn-check, turn-bad}
+use Rattle.commit_regular.proofs.Turn.{turn-entry}
+use Rattle.find_pass.proofs.Turn.{Going, starts-going, none-named, check-goes, entry-followable, entry-goes}
+use Rattle.find_pass.proofs.Turn.{refused, ends}
 use Rattle.find_pass.proofs.find_in.Statement.{statement}
 use Rattle.find_pass.proofs.find_in.Tie as tie
 
@@ -21,43 +23,100 @@ loop-holds : tie.Need-loop-holds Inv-loop μ-loop
 loop-holds c = starts-going _ _ _ _ (none-named _ _) (c .before .before .before .pre)
 
 be32-requires : tie.Need-be32-requires Inv-loop μ-loop
-be32-requires c κs = word-inside _ _ _ _ _ _ _ _ _ _ _ (c .before .loop .inv) (c .loop-test .taken)
+be32-requires c κs = word-inside _ _ _ _ _ _ _ (c .before .loop .inv .ahead) (c .loop-test .taken)
 
 add-next : tie.Need-add-next Inv-loop μ-loop
 add-next c =
-    let t = tag-inside _ _ _ _ _ _ _ _ _ _ _ (c .before .before .before .loop .inv) (c .before .before .loop-test .taken) _ (c .before .be32 .ensures) _ (c .lfs-tag-dsize .ensures) in
+    let t = tag-inside _ _ _ _ _ _ _ (c .before .before .before .loop .inv .ahead)
+    (c .before .before .loop-test .taken) _ (c .before .be32 .ensures) _ (c .lfs-tag-dsize .ensures) in
     omega (arith, t .0)
 
 returns : tie.Need-returns Inv-loop μ-loop
-returns c = turn-unchecked _ _ _ _ _ _ _ _ _ _ _ (c .before .before .before .before .before .before .before .before .loop .inv) (c .before .before .before .before .before .before .before .loop-test .taken) _ (c .before .before .before .before .before .before .be32 .ensures) _ (c .before .before .before .before .before .lfs-tag-dsize .ensures) _ (c .before .before .before .before .is-check .ensures) (c .before .before .before .if1 .taken) _ (c .before .before .lfs-tag-size .ensures) _ (c .before .check-fits .ensures) (c .if2 .taken) _ (c .before .before .before .before .before .before .before .before .before .grows .ensures)
+returns c = refused _ _ _ _ (turn-unchecked _ _ _ _ _ _ _
+    (c .before .before .before .before .before .before .before .before .loop .inv .ahead)
+    (c .before .before .before .before .before .before .before .loop-test .taken) _
+    (c .before .before .before .before .before .before .be32 .ensures) _
+    (c .before .before .before .before .before .lfs-tag-dsize .ensures) _
+    (c .before .before .before .before .is-check .ensures) (c .before .before .before .if1 .taken) _
+    (c .before .before .lfs-tag-size .ensures) _ (c .before .check-fits .ensures) (c .if2 .taken) _
+    (c .before .before .before .before .before .before .before .before .before .grows .ensures))
 
 flipped-requires : tie.Need-flipped-requires Inv-loop μ-loop
-flipped-requires c κs = tag-small _ _ _ _ _ _ _ _ _ _ _ (c .before .before .before .before .before .before .before .before .loop .inv) (c .before .before .before .before .before .before .before .loop-test .taken) _ (c .before .before .before .before .before .before .be32 .ensures)
+flipped-requires c κs = tag-small _ _ _ _ _ _ _
+    (c .before .before .before .before .before .before .before .before .loop .inv .ahead)
+    (c .before .before .before .before .before .before .before .loop-test .taken) _
+    (c .before .before .before .before .before .before .be32 .ensures)
 
 loop-less : tie.Need-loop-less Inv-loop μ-loop
 loop-less c =
-    let t = tag-inside _ _ _ _ _ _ _ _ _ _ _ (c .before .before .before .before .before .before .before .before .before .loop .inv) (c .before .before .before .before .before .before .before .before .loop-test .taken) _ (c .before .before .before .before .before .before .before .be32 .ensures) _ (c .before .before .before .before .before .before .lfs-tag-dsize .ensures) in
+    let t = tag-inside _ _ _ _ _ _ _
+    (c .before .before .before .before .before .before .before .before .before .loop .inv .ahead)
+    (c .before .before .before .before .before .before .before .before .loop-test .taken) _
+    (c .before .before .before .before .before .before .before .be32 .ensures) _
+    (c .before .before .before .before .before .before .lfs-tag-dsize .ensures) in
     omega (arith, t .1)
 
 loop-again : tie.Need-loop-again Inv-loop μ-loop
-loop-again c = turn-check _ _ _ _ _ _ _ _ _ _ _ (c .before .before .before .before .before .before .before .before .before .loop .inv) (c .before .before .before .before .before .before .before .before .loop-test .taken) _ (c .before .before .before .before .before .before .before .be32 .ensures) _ (c .before .before .before .before .before .before .lfs-tag-dsize .ensures) _ (c .before .before .before .before .before .is-check .ensures) (c .before .before .before .before .if1 .taken) _ (c .before .before .before .lfs-tag-size .ensures) _ (c .before .before .check-fits .ensures) (c .before .if2 .left) _ (c .flipped .ensures)
+loop-again c = check-goes _ _ _ (none-named _ _) _ _ _ _ _ _ _
+    (c .before .before .before .before .before .before .before .before .before .loop .inv) _ _ _ _ (turn-check _ _ _ _
+    _ _ _ (c .before .before .before .before .before .before .before .before .before .loop .inv .ahead)
+    (c .before .before .before .before .before .before .before .before .loop-test .taken) _
+    (c .before .before .before .before .before .before .before .be32 .ensures) _
+    (c .before .before .before .before .before .before .lfs-tag-dsize .ensures) _
+    (c .before .before .before .before .before .is-check .ensures) (c .before .before .before .before .if1 .taken) _
+    (c .before .before .before .lfs-tag-size .ensures) _ (c .before .before .check-fits .ensures)
+    (c .before .if2 .left) _ (c .flipped .ensures))
 
 returns-2 : tie.Need-returns-2 Inv-loop μ-loop
-returns-2 c = turn-bad _ _ _ _ _ _ _ _ _ _ _ (c .before .before .before .before .before .before .before .before .before .before .loop .inv) (c .before .before .before .before .before .before .before .before .before .loop-test .taken) _ (c .before .before .before .before .before .before .before .before .be32 .ensures) _ (c .before .before .before .before .before .before .before .lfs-tag-dsize .ensures) _ (c .before .before .before .before .before .before .is-check .ensures) (c .before .before .before .before .before .if1 .left) _ (c .before .before .before .before .lfs-tag-type3 .ensures) _ (c .before .before .before .rule-of .ensures) _ (c .before .before .entered .ensures) (sym (c .enum-told .given .1)) _ (c .before .before .before .before .before .before .before .before .before .before .before .grows .ensures)
+returns-2 c = refused _ _ _ _ (turn-bad _ _ _ _ _ _ _
+    (c .before .before .before .before .before .before .before .before .before .before .loop .inv .ahead)
+    (c .before .before .before .before .before .before .before .before .before .loop-test .taken) _
+    (c .before .before .before .before .before .before .before .before .be32 .ensures) _
+    (c .before .before .before .before .before .before .before .lfs-tag-dsize .ensures) _
+    (c .before .before .before .before .before .before .is-check .ensures)
+    (c .before .before .before .before .before .if1 .left) _
+    (c .before .before .before .before .lfs-tag-type3 .ensures) _ (c .before .before .before .rule-of .ensures) _
+    (c .before .before .entered .ensures) (sym (c .enum-told .given .1)) _
+    (c .before .before .before .before .before .before .before .before .before .before .before .grows .ensures))
 
 follow-requires : tie.Need-follow-requires Inv-loop μ-loop
-follow-requires c κs = turn-followable _ _ _ _ _ _ _ _ _ _ _ (c .before .before .before .before .before .before .before .before .before .before .before .before .loop .inv) (c .before .before .before .before .before .before .before .before .before .before .before .loop-test .taken) _ (c .before .before .before .before .before .before .before .before .before .before .be32 .ensures) _ (c .before .before .before .before .before .before .before .before .before .lfs-tag-dsize .ensures) _ (c .before .before .before .before .before .before .before .before .is-check .ensures) (c .before .before .before .before .before .before .before .if1 .left) _ (c .before .before .before .before .before .before .lfs-tag-type3 .ensures) _ (c .before .before .before .before .before .rule-of .ensures) _ (c .before .before .before .before .entered .ensures) _ (sym (c .before .before .behind .given .1))
+follow-requires c κs = entry-followable _ _ _ (none-named _ _) _ _ _ _ _ _ _
+    (c .before .before .before .before .before .before .before .before .before .before .before .before .loop .inv) _ _
+    _ _ (turn-entry _ _ _ _ _ _ _ (c .before .before .before .before .before .before .before .before .before .before
+    .before .before .loop .inv .ahead) (c .before .before .before .before .before .before .before .before .before
+    .before .before .loop-test .taken) _ (c .before .before .before .before .before .before .before .before .before
+    .before .be32 .ensures) _ (c .before .before .before .before .before .before .before .before .before
+    .lfs-tag-dsize .ensures) _ (c .before .before .before .before .before .before .before .before .is-check .ensures)
+    (c .before .before .before .before .before .before .before .if1 .left) _ (c .before .before .before .before
+    .before .before .lfs-tag-type3 .ensures) _ (c .before .before .before .before .before .rule-of .ensures) _ (c
+    .before .before .before .before .entered .ensures) _ (sym (c .before .before .behind .given .1)))
 
 loop-less-2 : tie.Need-loop-less-2 Inv-loop μ-loop
 loop-less-2 c =
-    let t = tag-inside _ _ _ _ _ _ _ _ _ _ _ (c .before .before .before .before .before .before .before .before .before .before .before .before .before .before .loop .inv) (c .before .before .before .before .before .before .before .before .before .before .before .before .before .loop-test .taken) _ (c .before .before .before .before .before .before .before .before .before .before .before .before .be32 .ensures) _ (c .before .before .before .before .before .before .before .before .before .before .before .lfs-tag-dsize .ensures) in
+    let t = tag-inside _ _ _ _ _ _ _ (c .before .before .before .before .before .before .before .before .before
+    .before .before .before .before .before .loop .inv .ahead) (c .before .before .before .before .before .before
+    .before .before .before .before .before .before .before .loop-test .taken) _ (c .before .before .before .before
+    .before .before .before .before .before .before .before .before .be32 .ensures) _ (c .before .before .before
+    .before .before .before .before .before .before .before .before .lfs-tag-dsize .ensures) in
     omega (arith, t .1)
 
 loop-again-2 : tie.Need-loop-again-2 Inv-loop μ-loop
-loop-again-2 c = turn-entry _ _ _ _ _ _ _ _ _ _ _ (c .before .before .before .before .before .before .before .before .before .before .before .before .before .before .loop .inv) (c .before .before .before .before .before .before .before .before .before .before .before .before .before .loop-test .taken) _ (c .before .before .before .before .before .before .before .before .before .before .before .before .be32 .ensures) _ (c .before .before .before .before .before .before .before .before .before .before .before .lfs-tag-dsize .ensures) _ (c .before .before .before .before .before .before .before .before .before .before .is-check .ensures) (c .before .before .before .before .before .before .before .before .before .if1 .left) _ (c .before .before .before .before .before .before .before .before .lfs-tag-type3 .ensures) _ (c .before .before .before .before .before .before .before .rule-of .ensures) _ (c .before .before .before .before .before .before .entered .ensures) _ (sym (c .before .before .before .before .behind .given .1)) _ _ _ (c .before .follow .ensures) (c .grows-after .ensures)
+loop-again-2 c = entry-goes _ _ _ (none-named _ _) _ _ _ _ _ _ _
+    (c .before .before .before .before .before .before .before .before .before .before .before .before .before .before
+    .loop .inv) _ _ _ _ (turn-entry _ _ _ _ _ _ _ (c .before .before .before .before .before .before .before .before
+    .before .before .before .before .before .before .loop .inv .ahead) (c .before .before .before .before .before
+    .before .before .before .before .before .before .before .before .loop-test .taken) _ (c .before .before .before
+    .before .before .before .before .before .before .before .before .before .be32 .ensures) _ (c .before .before
+    .before .before .before .before .before .before .before .before .before .lfs-tag-dsize .ensures) _ (c .before
+    .before .before .before .before .before .before .before .before .before .is-check .ensures) (c .before .before
+    .before .before .before .before .before .before .before .if1 .left) _ (c .before .before .before .before .before
+    .before .before .before .lfs-tag-type3 .ensures) _ (c .before .before .before .before .before .before .before
+    .rule-of .ensures) _ (c .before .before .before .before .before .before .entered .ensures) _ (sym (c .before
+    .before .before .before .behind .given .1))) _ _ _ (c .before .follow .ensures) (c .grows-after .ensures)
 
 returns-3 : tie.Need-returns-3 Inv-loop μ-loop
-returns-3 c = ends _ _ _ _ _ _ _ _ _ _ _ (c .before .before .before .loop .inv) (c .before .before .loop-test .left) _ (c .before .before .before .before .grows .ensures) _ (c .answer .ensures)
+returns-3 c = ends _ _ _ _ _ _ _ _ _ _ _ (c .before .before .before .loop .inv) (c .before .before .loop-test .left) _
+    (c .before .before .before .before .grows .ensures) _ (c .answer .ensures)
 
 pub find-in-spec : {M : Type 1} → statement M
 find-in-spec =

@@ -1,12 +1,13 @@
 -- `text_find::found_text` meets its contract: the slot that was found, none, or the refusal. Assumes nothing.
 use mathlib.Core.Path.{sym, _∙_}
 use borrow.Author.Needs.{needs}
-use Rattle.text_find.proofs.Told.{pass-asks, found-gathers, shown-slot, shown-none, shown-refused}
+use Rattle.text_input.proofs.Input.{block-ends}
+use Rattle.text_find.proofs.Told.{found-gathers, shown-slot, shown-none, shown-refused}
 use Rattle.text_find.proofs.found_text.Statement.{statement}
 use Rattle.text_find.proofs.found_text.Tie as tie
 
 find-in-requires : tie.Need-find-in-requires
-find-in-requires c κs = pass-asks _ _ (c .before .before .before .before .before .pre)
+find-in-requires c κs = block-ends _ _ (c .before .before .before .before .before .pre)
 
 gather-requires : tie.Need-gather-requires
 gather-requires c κs = found-gathers _ _ (c .before .before .before .before .before .before .before .before .before .pre) _ _ (c .before .before .before .before .before .before .before .before .before .args .rules) _ (c .before .before .before .before .rules-of .ensures) _ (sym (c .before .id .given .1) ∙ c .before .before .before .find-in .ensures)

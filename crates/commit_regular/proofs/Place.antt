@@ -18,7 +18,6 @@ use Rattle.fetch_walk.specs.declared.cursor.Cursor.{Cursor}
 use Rattle.fetch_walk.specs.declared.cursor.Seen.{Seen}
 use Rattle.fetch_walk.specs.declared.cursor.Seen.the-variants.{Entry, Check, Invalid, Past}
 use Rattle.fetch_walk.proofs.Seen.{follow, from-next, EntrySeen, entry-seen, check-seen}
-use Rattle.theory.specs.Rules.RuledEntry as entry
 
 -- ---- what stands at a place
 abbrev pub cursor : ℕ → ℕ → ℕ → Cursor
