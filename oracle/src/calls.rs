@@ -1,6 +1,6 @@
 //! The five calls that read a pair of blocks, as values: what goes in, what comes
-//! out, and who can be asked. Those that write are in `write`, the one that finds a
-//! name is in `find`.
+//! out, and who can be asked. Those that write are in `write`, the one that fetches
+//! again is in `refetch`, the one that finds a name in `find`.
 //!
 //! The structs with `repr(C)` are those of `include/lanolin.h`. The three marks of
 //! a record are bytes here, not `bool`: any byte that the archive hands back is
@@ -9,6 +9,7 @@
 //! Assumes nothing.
 
 pub mod find;
+pub mod refetch;
 pub mod write;
 
 use std::fmt::{self, Debug, Formatter};

@@ -8,6 +8,7 @@
 //!
 //! Assumes nothing.
 
+mod behind;
 mod damage;
 mod edges;
 mod entries;
@@ -17,10 +18,11 @@ mod pairs;
 mod shapes;
 mod sizes;
 
+pub use behind::behind;
 pub use edges::{broken, broken_blocks, Edge};
 pub use log::Log;
 pub use lookups::{tags_in, Asked};
-pub use pairs::finish;
+pub use pairs::{finish, log};
 pub use sizes::geometry;
 
 use crate::calls::{Blocks, Fetch, Geometry};

@@ -52,6 +52,8 @@ pub mod random;
 #[cfg(lfs_rust)]
 pub mod record;
 #[cfg(lfs_rust)]
+pub mod refetch;
+#[cfg(lfs_rust)]
 pub mod stopped;
 pub mod tally;
 #[cfg(lfs_rust)]

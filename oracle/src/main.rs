@@ -10,16 +10,17 @@
 use std::iter::once_with;
 use std::process::ExitCode;
 
-const USAGE: &str = "usage: oracle [--one-in N] | oracle find [stand-in] [--one-in N]
-       oracle histories [stand-in] [--one-in N] | oracle stopped [stand-in] [--one-in N]
-       oracle teeth | oracle record FILE N
-Compares the port with the unchanged Rust. `find` compares finding a name alone,
-`histories` writing alone, and `stopped` stops accepted calls after every number of
-stores: of the port or, with `stand-in`, of the second implementation. `teeth`
-instead runs every fault of the second implementation through the comparisons, and
-`record` writes N inputs with the Rust's answers to a file. With --one-in N only the
-first of N equal parts of the random pairs and histories is taken. What is compared
-is fixed when the program is built, by LFS_RUST_SRC and LANOLIN_LIB.";
+const USAGE: &str = "usage: oracle [--one-in N] | oracle refetch [stand-in] [--one-in N]
+       oracle find [stand-in] [--one-in N] | oracle histories [stand-in] [--one-in N]
+       oracle stopped [stand-in] [--one-in N] | oracle teeth | oracle record FILE N
+Compares the port with the unchanged Rust. `refetch` compares fetching again from a
+known end alone, `find` finding a name alone, `histories` writing alone, and `stopped`
+stops accepted calls after every number of stores: of the port or, with `stand-in`, of
+the second implementation. `teeth` instead runs every fault of the second
+implementation through the comparisons, and `record` writes N inputs with the Rust's
+answers to a file. With --one-in N only the first of N equal parts of the random pairs
+and histories is taken. What is compared is fixed when the program is built, by
+LFS_RUST_SRC and LANOLIN_LIB.";
 
 fn main() -> ExitCode {
     let arguments: Vec<String> = std::env::args_os()
@@ -37,6 +38,8 @@ fn main() -> ExitCode {
     };
     match (asked, parts) {
         ([], _) => compare(parts),
+        (["refetch"], _) => refetch(false, parts),
+        (["refetch", "stand-in"], _) => refetch(true, parts),
         (["find"], _) => find(false, parts),
         (["find", "stand-in"], _) => find(true, parts),
         (["histories"], _) => histories(false, parts),
@@ -64,17 +67,10 @@ fn compare(_parts: u64) -> ExitCode {
 }
 
 #[cfg(not(lfs_rust))]
-fn find(_stand_in: bool, _parts: u64) -> ExitCode {
-    skip()
-}
+use {alone as find, alone as histories, alone as refetch, alone as stopped};
 
 #[cfg(not(lfs_rust))]
-fn histories(_stand_in: bool, _parts: u64) -> ExitCode {
-    skip()
-}
-
-#[cfg(not(lfs_rust))]
-fn stopped(_stand_in: bool, _parts: u64) -> ExitCode {
+fn alone(_stand_in: bool, _parts: u64) -> ExitCode {
     skip()
 }
 
@@ -106,9 +102,11 @@ fn compare(parts: u64) -> ExitCode {
         .iter()
         .map(|subject| vec![subject()]);
     let dirs = once_with(|| oracle::dirs::compare(parts));
+    let refetch = once_with(|| refetching(parts));
     let find = once_with(|| finding(parts));
     let histories = once_with(|| writing(parts));
-    print_all(leaves.chain(dirs).chain(find).chain(histories))
+    let reads = dirs.chain(refetch).chain(find);
+    print_all(leaves.chain(reads).chain(histories))
 }
 
 /// The subjects as they come, and the last lines.
@@ -122,6 +120,21 @@ fn print_all(subjects: impl Iterator<Item = Vec<oracle::tally::Subject>>) -> Exi
     }
     println!("time: {:.2} s", start.elapsed().as_secs_f64());
     conclude(totals)
+}
+
+/// Fetching again alone; with `stand-in`, that of the second implementation, to try it
+/// against the Rust's fetch.
+#[cfg(lfs_rust)]
+fn refetch(stand_in: bool, parts: u64) -> ExitCode {
+    println!("Fetching again from a known end, and what the unchanged Rust fetches.");
+    say_parts(parts);
+    print_all(once_with(|| match stand_in {
+        true => {
+            say_stand_in();
+            oracle::refetch::compare(&oracle::refetch::STAND_IN, parts)
+        }
+        false => refetching(parts),
+    }))
 }
 
 /// Finding a name alone; with `stand-in`, that of the second implementation, to try
@@ -200,6 +213,15 @@ fn say_parts(parts: u64) {
 #[cfg(lfs_rust)]
 fn say_stand_in() {
     println!("NOT THE PORT: the second implementation stands in for it.");
+}
+
+/// The refetches, if the archive has the call.
+#[cfg(lfs_rust)]
+fn refetching(parts: u64) -> Vec<oracle::tally::Subject> {
+    match some_there(&[("lanolin_refetch", oracle::port::CAN_REFETCH)]) {
+        true => oracle::refetch::compare(&oracle::refetch::PORT, parts),
+        false => Vec::new(),
+    }
 }
 
 /// The finds, if the archive has the call.

@@ -1,10 +1,11 @@
-//! A second implementation of fetch, lookups, the find and the added writer, written
-//! from document 01 and not from the Rust: a third voice beside the port and the
-//! Rust, and the one that decides where document 01 leaves the Rust (what it marks
+//! A second implementation of fetch, refetch, lookups, the find and the added writer,
+//! written from document 01 and not from the Rust: a third voice beside the port and
+//! the Rust, and the one that decides where document 01 leaves the Rust (what it marks
 //! Ours) and where there is no Rust (the writer).
 //!
-//! It can be given a `Fault`, a `FindFault` or a `WriteFault`, a change in one place.
-//! `oracle teeth` runs each one through the comparison, to show that it is seen.
+//! It can be given a `Fault`, a `RefetchFault`, a `FindFault` or a `WriteFault`, a
+//! change in one place. `oracle teeth` runs each one through the comparison, to show
+//! that it is seen.
 //!
 //! Assumes nothing, and never panics, also with a fault: a slice is read by
 //! `get`, never by an index.
@@ -22,6 +23,8 @@ mod forward;
 mod info;
 mod lay;
 mod lookup;
+mod refetch;
+mod refetch_fault;
 mod rules;
 mod sizes;
 mod stores;
@@ -38,6 +41,8 @@ pub use fetch::Met;
 pub use find::{Finder, FAULTLESS_FINDER};
 pub use find_fault::{FindFault, FIND_FAULTS};
 pub use lay::Laid;
+pub use refetch::{known_to, Refetcher, FAULTLESS_REFETCHER};
+pub use refetch_fault::{RefetchFault, REFETCH_FAULTS};
 pub use tag::*;
 pub use write_fault::{WriteFault, WRITE_FAULTS};
 pub use writer::{bytes_of, Plan, Writer, FAULTLESS_WRITER};

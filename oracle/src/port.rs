@@ -1,6 +1,6 @@
 //! The port: every call of `liblanolin.a`, each with a safe wrapper. The leaves
-//! are here, the calls that read a pair of blocks in `dir` and `find`, those that
-//! write one in `write`.
+//! are here, the calls that read a pair of blocks in `dir`, `refetch` and `find`,
+//! those that write one in `write`.
 //!
 //! The shapes are those of `include/lanolin.h`. A wrapper adds nothing: it
 //! passes a slice as a pointer and a count, and hands back what the call
@@ -11,11 +11,13 @@
 
 mod dir;
 mod find;
+mod refetch;
 mod write;
 
 pub use crate::calls::Gstate;
 pub use dir::Port;
 pub use find::CAN_FIND;
+pub use refetch::CAN_REFETCH;
 
 /// A word, or the refusal and 0.
 #[repr(C)]

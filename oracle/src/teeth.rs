@@ -2,13 +2,14 @@
 //! through it, on the same inputs in the same order, until it is seen.
 //!
 //! A fault that the Rust decides must be seen against the Rust; one that is
-//! Ours, against the second implementation without a fault. The find's faults are in
-//! `finding`, the writer's in `writing`; those of them that break demand 3 go through
-//! its stops too, in `stopped`.
+//! Ours, against the second implementation without a fault. The refetch's faults are
+//! in `refetching`, the find's in `finding`, the writer's in `writing`; those of them
+//! that break demand 3 go through its stops too, in `stopped`.
 //!
 //! Assumes nothing.
 
 mod finding;
+mod refetching;
 mod stopped;
 mod writing;
 
@@ -34,7 +35,12 @@ struct Tried<F> {
 
 /// Tries every fault; says each one. True if all were seen.
 pub fn bite() -> bool {
-    let parts = [reading(), finding::bite(), writing::bite()];
+    let parts = [
+        reading(),
+        refetching::bite(),
+        finding::bite(),
+        writing::bite(),
+    ];
     let caught: usize = parts.iter().map(|part| part.0).sum();
     let all: usize = parts.iter().map(|part| part.1).sum();
     println!("of these, at the stops of accepted calls, by demand 3 alone:");

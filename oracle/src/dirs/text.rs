@@ -4,6 +4,7 @@
 
 use super::inputs::Question;
 use crate::calls::find::Find;
+use crate::calls::refetch::Refetch;
 use crate::calls::{hex, Blocks, Fetch, Lookup};
 
 /// What a difference's input weighs: the smallest one is printed.
@@ -53,6 +54,15 @@ pub fn text(question: &Question) -> String {
             format!("{}\n    state {state:x?}", lookup(input))
         }
     }
+}
+
+/// `first` is the seed of the fetch that it is held against.
+pub fn refetch(input: &Refetch, first: u32) -> String {
+    format!(
+        "{}\n    {:?}\n    first seed {first:#010x}",
+        fetch(&input.fetch),
+        input.dir
+    )
 }
 
 pub fn find(input: &Find) -> String {

@@ -15,7 +15,7 @@ pub struct Writer<'a> {
     pub prog: usize,
     /// Of a hundred entries, so many are odd.
     pub odd: usize,
-    count: u32,
+    pub count: u32,
 }
 
 impl Writer<'_> {

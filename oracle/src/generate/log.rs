@@ -30,6 +30,17 @@ impl Log {
         }
     }
 
+    /// A log that goes on behind a commit, over what stands there.
+    pub fn behind(bytes: Vec<u8>, end: usize, end_tag: u32) -> Log {
+        Log {
+            bytes,
+            at: end,
+            previous: end_tag,
+            sum: ONES,
+            ends: Vec::new(),
+        }
+    }
+
     pub fn at(&self) -> usize {
         self.at
     }

@@ -7,7 +7,7 @@ use super::{bytes::*, tag::*, Fault, Model};
 use crate::calls::{Fetch, Fetched, Mdir, CORRUPT, INVAL, NOENT};
 
 /// "-2: fetch: count above 1,023"
-const MOST_SLOTS: u32 = 1023;
+pub(super) const MOST_SLOTS: u32 = 1023;
 
 /// What was met on the way to an answer.
 #[derive(Clone, Copy, Default)]
@@ -50,7 +50,7 @@ impl Model {
     }
 
     /// "block number not below a non-zero block count"
-    fn number_too_high(&self, input: &Fetch) -> bool {
+    pub(super) fn number_too_high(&self, input: &Fetch) -> bool {
         let ([n0, n1], count) = (input.blocks.numbers, input.block_count);
         let high = |number: u32| match self.fault {
             Fault::BlockCountIncluded => number > count,
@@ -142,7 +142,7 @@ impl Model {
     }
 
     /// The record's three fields, all 0 where there is none.
-    fn forward_fields(&self, forward: Option<Forward>) -> Mdir {
+    pub(super) fn forward_fields(&self, forward: Option<Forward>) -> Mdir {
         let Some(Forward { length, sum }) = forward else {
             return Mdir::default();
         };
@@ -180,7 +180,7 @@ impl Model {
 }
 
 /// "record all zero, seed as given"
-fn refused(result: i32, seed: u32) -> Fetched {
+pub(super) fn refused(result: i32, seed: u32) -> Fetched {
     let dir = Mdir::default();
     Fetched { result, dir, seed }
 }

@@ -49,8 +49,10 @@ pub struct Walk<'a> {
     pub block: &'a [u8],
     /// Where the tag at hand stands; behind the walk, the one that it stopped on.
     pub at: usize,
+    /// Where the next one stands.
+    next: usize,
     pub previous: u32,
-    sum: u32,
+    pub sum: u32,
     pub contents: Contents,
     pub forwards: Forwards,
     pub committed: Option<Commit>,
@@ -62,22 +64,22 @@ impl<'a> Walk<'a> {
     /// A whole walk. `earlier` is the walk of the block tried before: only a
     /// fault looks at it.
     pub fn of(fault: Fault, block: &'a [u8], seed: u32, earlier: Option<Walk>) -> Walk<'a> {
-        let revision = block.get(..4).unwrap_or_default();
-        let mut walk = Walk {
-            fault,
-            block,
-            at: 0,
-            previous: ONES,
-            sum: crc(ONES, revision),
+        let nothing = Commit {
             contents: Contents {
                 count: 0,
                 tail: [ONES; 2],
                 split: false,
             },
+            // "The previous tag starts at 0xffffffff, whose length is 4"
+            end: 4,
+            end_tag: ONES,
             forwards: Forwards::default(),
+        };
+        let revision = block.get(..4).unwrap_or_default();
+        let mut walk = Walk {
+            sum: crc(ONES, revision),
             committed: None,
-            seed,
-            stop: Stop::Other,
+            ..Walk::behind(fault, block, nothing, seed)
         };
         if let (Fault::SecondBlockGoesOn, Some(earlier)) = (fault, earlier) {
             walk.contents = earlier.contents;
@@ -88,10 +90,32 @@ impl<'a> Walk<'a> {
             Fault::TailFromZero => walk.contents.tail = [0; 2],
             _ => {}
         }
+        walk.run()
+    }
+
+    /// A walk that is to go on behind a commit.
+    pub fn behind(fault: Fault, block: &'a [u8], known: Commit, seed: u32) -> Walk<'a> {
+        Walk {
+            fault,
+            block,
+            at: known.end,
+            next: known.end,
+            previous: known.end_tag,
+            sum: ONES,
+            contents: known.contents,
+            forwards: known.forwards,
+            committed: Some(known),
+            seed,
+            stop: Stop::Other,
+        }
+    }
+
+    /// Goes on to where it stops.
+    pub fn run(mut self) -> Walk<'a> {
         loop {
-            if let Err(stop) = walk.step() {
-                walk.stop = stop;
-                return walk;
+            if let Err(stop) = self.step() {
+                self.stop = stop;
+                return self;
             }
         }
     }
@@ -101,17 +125,16 @@ impl<'a> Walk<'a> {
     }
 
     fn length_of(&self, tag: u32) -> usize {
-        // The word that the walk starts from is no entry: its length is 4.
-        if self.has(Fault::RemovalHasData) && tag != ONES {
-            return 4 + size_of(tag) as usize;
+        match self.fault {
+            Fault::RemovalHasData => 4 + size_of(tag) as usize,
+            _ => length_of(tag),
         }
-        length_of(tag)
     }
 
     /// "Each step reads four bytes big-endian, adds them to the checksum, and
     /// XORs with the previous tag."
     fn step(&mut self) -> Result<(), Stop> {
-        self.at += self.length_of(self.previous);
+        self.at = self.next;
         let raw = be32(self.block, self.at).ok_or(Stop::Other)?;
         let tag = raw ^ self.previous;
         let check = self.is_check(tag);
@@ -127,7 +150,7 @@ impl<'a> Walk<'a> {
         if past || at_end {
             return Err(Stop::Other);
         }
-        self.previous = tag;
+        (self.previous, self.next) = (tag, end);
         match check {
             true => self.check(tag),
             false => self.entry(tag),
