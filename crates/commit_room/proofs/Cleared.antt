@@ -1,6 +1,6 @@
 -- The loop over the room, what the room's tests answer, and the three checksums. Assumes nothing.
-use mathlib.Core.Path.{_≡_}
-use mathlib.Core.Bool.{Bool, true, false, not, _||_}
+use mathlib.Core.Path.{_≡_, refl, ap, _∙_}
+use mathlib.Core.Bool.{Bool, true, false, not, _&&_, _||_}
 use mathlib.Core.List.{List, [], _∷_}
 use Prim.Native.Nat.{ℕ, _+_, _%_, _≤_, _<_}
 use native.Mathlib.Numerals.{add-one}
@@ -8,7 +8,7 @@ use native.Mathlib.Omega.{arith}
 use lib.Dec.{eqb}
 use lib.ListN.{length, getD, drop-of-length-le}
 use lib.Seq.{drop-cons}
-use borrow.Author.Tests.{eq-eqb, ne-eqb, lt-ltb, le-ltb}
+use borrow.Author.Tests.{eq-eqb, ne-eqb, eqb-true, lt-ltb, le-ltb}
 use Rattle.format.specs.Word.{toBe32, allOnes}
 use Rattle.format.specs.Tag.{tagValid}
 use Rattle.format.specs.Crc.{crc}
@@ -32,6 +32,35 @@ module _ (b : List ℕ) (i : ℕ) where
     pub unerased-here : (getD b i 0 ≡ 0xff → ⊥) → i ≡ firstUnerased b i
     unfolding firstUnerased erasedRun
     unerased-here e = rw (drop-cons b i 0 h, ne-eqb (getD b i 0) 0xff e) (omega arith)
+
+-- ---- eight at a step
+both : (x y : Bool) → x && y ≡ true → (x ≡ true) × (y ≡ true)
+both true y e = (refl, e)
+both false y e = (cc, cc)
+
+module _ (b : List ℕ) (i : ℕ) (h : i + 8 ≤ length b) where
+  abbrev ff : ℕ → Bool
+  ff k = eqb (getD b (i + k) 0) 0xff
+
+  one-on : (k : ℕ) → k < 8 → ff k ≡ true → firstUnerased b (i + k) ≡ firstUnerased b (i + (k + 1))
+  one-on k l e =
+      let n : i + k + 1 ≡ i + (k + 1) = omega arith in
+      unerased-on b (i + k) (omega arith) (eqb-true (getD b (i + k) 0) 0xff e) ∙ ap (firstUnerased b) n
+
+  pub eight-on : eqb (getD b i 0) 0xff && ff 1 && ff 2 && ff 3 && ff 4 && ff 5 && ff 6 && ff 7 ≡ true
+      → firstUnerased b i ≡ firstUnerased b (i + 8)
+  eight-on e =
+      let z : Bool = eqb (getD b i 0) 0xff in
+      let e7 = both (z && ff 1 && ff 2 && ff 3 && ff 4 && ff 5 && ff 6) (ff 7) e in
+      let e6 = both (z && ff 1 && ff 2 && ff 3 && ff 4 && ff 5) (ff 6) (e7 .0) in
+      let e5 = both (z && ff 1 && ff 2 && ff 3 && ff 4) (ff 5) (e6 .0) in
+      let e4 = both (z && ff 1 && ff 2 && ff 3) (ff 4) (e5 .0) in
+      let e3 = both (z && ff 1 && ff 2) (ff 3) (e4 .0) in
+      let e2 = both (z && ff 1) (ff 2) (e3 .0) in
+      let e1 = both z (ff 1) (e2 .0) in
+      unerased-on b i (omega arith) (eqb-true (getD b i 0) 0xff (e1 .0)) ∙ one-on 1 (omega arith) (e1 .1)
+      ∙ one-on 2 (omega arith) (e2 .1) ∙ one-on 3 (omega arith) (e3 .1) ∙ one-on 4 (omega arith) (e4 .1)
+      ∙ one-on 5 (omega arith) (e5 .1) ∙ one-on 6 (omega arith) (e6 .1) ∙ one-on 7 (omega arith) (e7 .1)
 
 -- ---- `room`: v is what `lfs_tag_isvalid` answers, d what `first_unerased` does
 module _ (prog : ℕ) (b : List ℕ) (end etag : ℕ) where

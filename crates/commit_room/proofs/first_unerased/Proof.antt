@@ -1,7 +1,7 @@
 -- `commit_room::first_unerased` meets its contract. The loop keeps which byte from here on is the first that isn't
 -- erased; the rest shrinks. Assumes nothing.
 use borrow.Author.Needs.{needs}
-use mathlib.Core.Path.{_≡_, refl, sym, _∙_}
+use mathlib.Core.Path.{_≡_, sym, _∙_}
 use Prim.Native.Nat.{_-_}
 use native.Mathlib.Omega.{arith}
 use lib.ListN.{length}
@@ -11,13 +11,13 @@ use Rattle.commit_room.proofs.first_unerased.Statement.{statement}
 use Rattle.commit_room.proofs.first_unerased.Tie as tie
 
 abbrev Inv-loop : tie.InvT-loop
-Inv-loop b end i₀ i = firstUnerased b i₀ ≡ firstUnerased b i
+Inv-loop b end i₀ i = firstUnerased b end ≡ firstUnerased b i
 
 abbrev μ-loop : tie.MeasureT-loop
 μ-loop b end i₀ i = length b - i
 
 loop-holds : tie.Need-loop-holds Inv-loop μ-loop
-loop-holds c = refl
+loop-holds c = sym (c .past-eights .ensures)
 
 returns : tie.Need-returns Inv-loop μ-loop
 returns c = unerased-here _ _ (c .before .before .loop-test .taken) (c .if1 .taken)
@@ -33,5 +33,5 @@ returns-2 c = unerased-end _ _ (c .loop-test .left) ∙ sym (c .before .loop .in
 pub first-unerased-spec : {M : Type 1} → statement M
 first-unerased-spec =
     tie.close
-    (tie.spec Inv-loop μ-loop loop-holds (λ c. search needs) returns (λ c. search needs) (λ c. omega arith) loop-again
+    (tie.spec Inv-loop μ-loop (λ c κs. search needs) loop-holds (λ c. search needs) returns (λ c. search needs) (λ c. omega arith) loop-again
     returns-2)
