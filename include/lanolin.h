@@ -22,9 +22,9 @@ extern "C" {
 
 /* ---- names: the results, the types of entries, the masks of a lookup, and the limits */
 
-/* The version, as littlefs has its own: the major number in the upper half, the minor in the lower. 0.7 has
- * lanolin_refetch, and nothing else of it is new. With 0.6 lanolin_mdir has the forward check at its end: callers of 0.5
- * and before are compiled again. */
+/* The version, as littlefs has its own: the major number in the upper half, the minor in the lower. 0.7 adds
+ * lanolin_refetch. With 0.6 lanolin_mdir has the forward check at its end: callers of 0.5 and before are compiled
+ * again. */
 #define LANOLIN_VERSION_MAJOR 0
 #define LANOLIN_VERSION_MINOR 7
 #define LANOLIN_VERSION (LANOLIN_VERSION_MAJOR << 16 | LANOLIN_VERSION_MINOR)
@@ -158,18 +158,19 @@ lanolin_fetched lanolin_fetch(lanolin_geometry g, const uint8_t *b0, size_t b0_l
                               uint32_t n0, uint32_t n1, uint32_t block_count, uint32_t seed);
 
 /* lanolin_fetch again, from the end of a record that is known: it walks only what stands behind dir.off, so after a
- * commit it takes a small part of a fetch's time. `dir` and `seed` are what an earlier lanolin_fetch (or lanolin_refetch)
- * of the pair answered, or lanolin_commit.
+ * commit it takes a small part of a fetch's time. `dir` and `seed` are what an earlier lanolin_fetch, lanolin_refetch,
+ * lanolin_commit or lanolin_compact of the pair answered.
  *
  * It answers what lanolin_fetch answers from the seed that the earlier fetch was given, as long as both revisions, the
  * other block and, of the block dir.pair[0], every byte before dir.off and the four of its last checksum are as they
- * were. (The last checksum lies before dir.off in all that this library writes.) So behind a commit, of this library or
- * of another writer, also one that was cut short or refused. It is NOT so behind a compaction, of whomever, nor where the
- * pair was read anew from a device on which another may have compacted it: then a full lanolin_fetch is due. The answer
- * of lanolin_compact is one.
+ * were. (The last checksum lies before dir.off in all that this library writes. With LANOLIN_ERR_INVAL and
+ * LANOLIN_ERR_CORRUPT the seed comes back as it is given here.) So behind a commit, of this library or of another
+ * writer, also one that was cut short or refused. It is NOT so behind a compaction, of whomever, nor where the pair was
+ * read anew from a device on which another may have compacted it: then a full lanolin_fetch is due. The answer of
+ * lanolin_compact is one.
  *
- * Of any other record and bytes it answers what the definition says: pair and revision are the record's own, and what is
- * committed behind its end is added to it. LANOLIN_ERR_INVAL also where dir.off is below 8 or above block_size, or
+ * Of any other record and bytes it answers what the definition says: pair and revision are the record's own, and what
+ * is committed behind its end is added to it. LANOLIN_ERR_INVAL also where dir.off is below 8 or above block_size, or
  * dir.pair is not n0 and n1, in either order. Of dir all is read but `erased`. */
 lanolin_fetched lanolin_refetch(lanolin_geometry g, const uint8_t *b0, size_t b0_len, const uint8_t *b1, size_t b1_len,
                                 uint32_t n0, uint32_t n1, uint32_t block_count, uint32_t seed, lanolin_mdir dir);

@@ -17,6 +17,9 @@ use std::hint::black_box;
 /// The most fetches that a compaction of the larger directory may take.
 pub const MOST_FETCHES: f64 = 300.0;
 
+/// The most fetches that a commit of one attribute is to take.
+pub const MOST_OF_A_COMMIT: f64 = 1.3;
+
 /// One line of the table.
 pub struct Line {
     pub name: &'static str,
