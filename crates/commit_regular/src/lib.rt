@@ -25,7 +25,8 @@ pub fn rules_of(rules: u32) -> Rules
 }
 
 // The count behind an entry, or that it is bad, where the count is `count` before it and names may make slots or not.
-pub fn entered(rule: Rule, grows: bool, count: u32, tag: u32) -> Ruled
+// `find_pass` has one too: with two callers it would stay a call, which for each entry costs a tenth of fetch's time.
+fn entered(rule: Rule, grows: bool, count: u32, tag: u32) -> Ruled
     ensures { λ r. ⌜ r ≡ passedBy (ruleAs rule) (countRaised grows (ruleAs rule) count (tagId tag)) (tagId tag)
         (tagSize tag) ⌝ }
 {

@@ -5,14 +5,17 @@ ghost use mathlib.Core.Path.{_≡_};
 ghost use mathlib.Core.Option.{some};
 ghost use Prim.Native.Nat.{_+_, _^_, _≤_, _<_};
 ghost use lib.ListN.{length, take, drop};
-ghost use Rattle.format.specs.Tag.{tagType3, tagSize};
+ghost use Rattle.format.specs.Tag.{tagType3, tagId, tagSize};
 ghost use Rattle.format.specs.Log.{log};
 ghost use Rattle.format.specs.Walk.{bodyOf};
 ghost use Rattle.format.specs.Directory.{act};
 ghost use Rattle.format.specs.Find.{sameBytes, isNamed, findIn};
+ghost use Rattle.format.specs.Regular.{countRaised};
+ghost use Rattle.commit_rules.specs.Rules.{ruleAs, passedBy};
 ghost use Rattle.commit_regular.specs.Ends.{CommittedTo};
 ghost use Rattle.find_set.specs.Set.{has, made, removed, assigned, lowest};
 ghost use Rattle.find_pass.specs.Pass.{Keeps, marked, Followable, answered};
+use commit_rules::Rule;
 use commit_rules::Ruled;
 use fetch_walk::cursor;
 use format::Named;
@@ -124,6 +127,17 @@ fn answer(set: &[u32; 32]) -> Named
     Named::Nothing
 }
 
+// The count behind an entry, or that it is bad, where the count is `count` before it and names may make slots or not: as
+// in `commit_regular`, which says why there are two.
+fn entered(rule: Rule, grows: bool, count: u32, tag: u32) -> Ruled
+    ensures { λ r. ⌜ r ≡ passedBy (ruleAs rule) (countRaised grows (ruleAs rule) count (tagId tag)) (tagId tag)
+        (tagSize tag) ⌝ }
+{
+    let id = tag::lfs_tag_id(tag) as u32;
+    let raised = commit_rules::raised(rule, grows, count, id);
+    commit_rules::count_behind(rule, raised, id, tag::lfs_tag_size(tag))
+}
+
 // The pass over the log that ends at `end`, by a rule: the lowest id whose name is the one that is asked for. The rules
 // run against the count as in crate `commit_regular`, and the first bad entry or check ends the pass.
 pub fn find_in(b: &[u8], end: usize, rules: Rules, wanted: &[u8], kind: u32) -> Named
@@ -147,7 +161,7 @@ pub fn find_in(b: &[u8], end: usize, rules: Rules, wanted: &[u8], kind: u32) -> 
             at = next;
         } else {
             let rule = commit_rules::rule_of(true, tag::lfs_tag_type3(tag));
-            let Ruled::To(behind) = commit_regular::entered(rule, grows, count, tag) else {
+            let Ruled::To(behind) = entered(rule, grows, count, tag) else {
                 return Named::Refused(Refusal::Irregular);
             };
             any = follow(&mut set, any, b, at, tag, wanted, kind);
