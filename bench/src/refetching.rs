@@ -6,10 +6,11 @@
 //!
 //! Assumes that the archive has the calls, and checks it.
 
-use crate::directory::{Directory, ATTRIBUTE};
+use crate::directory::Directory;
 use crate::measure::{beside_fetch, Beside};
+use crate::writing::{attribute, task, DATA};
 use oracle::calls::refetch::{Refetch, Refetches};
-use oracle::calls::write::{Answer, Entry, Task, Work, Writes, DOCUMENT};
+use oracle::calls::write::{Answer, Work, Writes};
 use oracle::calls::Voice;
 use oracle::port::{Port, CAN_REFETCH};
 use std::hint::black_box;
@@ -56,29 +57,14 @@ pub fn lines(directory: &Directory) -> Vec<Line> {
     lines
 }
 
-/// One user attribute of four bytes, set on the slot in the middle. False: there is
-/// no room for it.
+/// A commit of one user attribute. False: there is no room for it.
 fn commit(directory: &Directory, images: &mut [Vec<u8>; 2]) -> bool {
-    let entries = [Entry {
-        type_: ATTRIBUTE as u16,
-        id: directory.dir.count / 2,
-        off: 0,
-        len: 4,
-    }];
-    let task = Task {
-        geometry: directory.geometry,
-        numbers: [0, 1],
-        block_count: 0,
-        seed: 0,
-        rules: DOCUMENT,
-        work: Work::Commit {
-            entries: &entries,
-            data: b"new!",
-        },
-        stores: None,
+    let work = Work::Commit {
+        entries: &attribute(directory),
+        data: DATA,
     };
     let [b0, b1] = images;
-    match Port.write(&task, [b0, b1]) {
+    match Port.write(&task(directory, work), [b0, b1]) {
         Answer::Committed(answer) => answer.result == 0,
         _ => panic!("the call without a limit answers a record"),
     }

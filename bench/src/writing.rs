@@ -20,6 +20,9 @@ pub const MOST_FETCHES: f64 = 300.0;
 /// The most fetches that a commit of one attribute is to take.
 pub const MOST_OF_A_COMMIT: f64 = 1.3;
 
+/// The attribute's bytes.
+pub const DATA: &[u8] = b"new!";
+
 /// One line of the table.
 pub struct Line {
     pub name: &'static str,
@@ -27,16 +30,32 @@ pub struct Line {
 }
 
 /// One user attribute of four bytes, set on the slot in the middle.
-pub fn commit(directory: &Directory) -> Line {
-    let entries = [Entry {
+pub fn attribute(directory: &Directory) -> [Entry; 1] {
+    [Entry {
         type_: ATTRIBUTE as u16,
         id: directory.dir.count / 2,
         off: 0,
         len: 4,
-    }];
+    }]
+}
+
+/// A commit of it, or a compaction, of the directory's pair.
+pub fn task<'a>(directory: &Directory, work: Work<'a>) -> Task<'a> {
+    Task {
+        geometry: directory.geometry,
+        numbers: [0, 1],
+        block_count: 0,
+        seed: 0,
+        rules: DOCUMENT,
+        work,
+        stores: None,
+    }
+}
+
+pub fn commit(directory: &Directory) -> Line {
     let work = Work::Commit {
-        entries: &entries,
-        data: b"new!",
+        entries: &attribute(directory),
+        data: DATA,
     };
     Line {
         name: "lfs_dir_commit",
@@ -53,15 +72,7 @@ pub fn compact(directory: &Directory) -> Line {
 
 fn time(directory: &Directory, work: Work) -> Beside {
     assert!(Port.can(&work), "the archive has the calls that write");
-    let task = Task {
-        geometry: directory.geometry,
-        numbers: [0, 1],
-        block_count: 0,
-        seed: 0,
-        rules: DOCUMENT,
-        work,
-        stores: None,
-    };
+    let task = task(directory, work);
     in_turn(
         &directory.images,
         |images| Port.fetch(black_box(&directory.fetch_of(images, 0))).seed,

@@ -997,8 +997,8 @@ static void test_refetch_stopped(void) {
     }
 }
 
-/* Behind a compaction the other block is another: a fetch reads that, and the refetch the old one still. The compaction's
- * own answer serves, and the refetch behind a commit to it. */
+/* Behind a compaction the other block is another: a fetch reads that, and the refetch the old one still. The
+ * compaction's own answer serves, and the refetch behind a commit to it. */
 static void test_refetch_behind_compaction(void) {
     images p = listing();
     const lanolin_fetched before = anew(WIDE, p.b0, p.b1);
@@ -1011,8 +1011,9 @@ static void test_refetch_behind_compaction(void) {
     EXPECT(same_fetched(again(WIDE, p.b0, p.b1, now), anew(WIDE, p.b0, p.b1)));
 }
 
-/* Two logs that end at 24, one of a forward check of eight bytes, one of an inline struct with the same data: the records
- * differ in the forward check alone. Behind the same commit, of a check that ends at 48, one pair is marked erased. */
+/* Two logs that end at 24, one of a forward check of eight bytes, one of an inline struct with the same data: the
+ * records differ in the forward check alone. Behind the same commit, of a check that ends at 48, one pair is marked
+ * erased. */
 static void test_refetch_needs_forward(void) {
     for (int with = 0; with < 2; with++) {
         const uint32_t tag = with ? 0x5ffffc08 : 0x20100008, ccrc = 0x500ffc04;

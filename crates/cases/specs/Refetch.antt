@@ -1,5 +1,5 @@
--- Document 02, L6, by computation: the refetch behind a commit; why it needs the record's forward check; a last checksum
--- that reaches past the end; a compaction, behind which it is no fetch; and its refusals. Assumes nothing.
+-- Document 02, L6, by computation: the refetch behind a commit; why it needs the record's forward check; a last
+-- checksum that reaches past the end; a compaction, behind which it is no fetch; and its refusals. Assumes nothing.
 use mathlib.Core.Path.{_≡_, refl}
 use mathlib.Core.Bool.{Bool, true, false}
 use mathlib.Core.List.{List, [], _∷_, _++_}
@@ -26,7 +26,6 @@ use Rattle.format.specs.Compaction.{slotItems, dirItems, compactionItems, place
 use Rattle.format.specs.Compaction.{compactImages}
 use Rattle.format.specs.declared.Geometry.{Geometry}
 use Rattle.format.specs.declared.LfsFcrc.{LfsFcrc}
-use Rattle.format.specs.declared.LfsPair.{LfsPair}
 use Rattle.format.specs.declared.LfsMdir.{LfsMdir}
 use Rattle.format.specs.declared.Refusal.the-variants.{Invalid, Corrupt, TooMany}
 use Rattle.format.specs.declared.Fetched.{Fetched}
@@ -81,8 +80,8 @@ unfolding refetchOf recordFits mdirBehind withForward carriedFor carries commitI
 behind-commit = (refl, refl, refl)
 
 -- ---- why it needs the forward check
--- Two blocks: a forward check of eight erased bytes and a check; in its place an inline struct with the same bytes. Both
--- logs end at 24, which is no multiple of the program size, so neither is marked erased.
+-- Two blocks: a forward check of eight erased bytes and a check; in its place an inline struct with the same bytes.
+-- Both logs end at 24, which is no multiple of the program size, so neither is marked erased.
 abbrev withForwardCheck : List ℕ
 withForwardCheck =
     (0x01 ∷ 0x00 ∷ 0x00 ∷ 0x00 ∷ 0xa0 ∷ 0x00 ∷ 0x03 ∷ 0xf7 ∷ 0x08 ∷ 0x00 ∷ 0x00 ∷ 0x00 ∷ 0xe3 ∷ 0x20 ∷ 0xbb ∷ 0xde
@@ -121,8 +120,8 @@ unfolding refetchOf recordFits mdirBehind pairFits geometryFits fetchOf tooHigh 
 forward-needed = (refl, refl, refl, refl, refl, refl)
 
 -- ---- a last checksum that reaches past the end
--- A check of size 0 alone: the log ends at 8, and its checksum stands at 8 to 11. With the byte at 9 altered a fetch finds
--- no commit, and the refetch, which reads it as a tag's, still finds the old one.
+-- A check of size 0 alone: the log ends at 8, and its checksum stands at 8 to 11. With the byte at 9 altered a fetch
+-- finds no commit, and the refetch, which reads it as a tag's, still finds the old one.
 abbrev short : List ℕ
 short = 0x01 ∷ 0x00 ∷ 0x00 ∷ 0x00 ∷ 0xaf ∷ 0xf0 ∷ 0x03 ∷ 0xff ∷ 0xc5 ∷ 0xe6 ∷ 0x94 ∷ 0xf0 ∷ []
 
@@ -164,9 +163,9 @@ unfolding refetchOf recordFits mdirBehind withForward carriedFor carries compact
 behind-compaction = (refl, refl)
 
 -- ---- the refusals, and what is no refusal
--- "end below 8", "end passes the block", "pair isn't the given one": -22. Either order of the pair is taken. A number too
--- high is -84, behind these. A count above 1,023 is -2, the record's own too. A record without a forward check comes back
--- with none, whatever its size and sum; its erased mark is not read.
+-- "end below 8", "end passes the block", "pair isn't the given one": -22. Either order of the pair is taken. A number
+-- too high is -84, behind these. A count above 1,023 is -2, the record's own too. A record without a forward check
+-- comes back with none, whatever its size and sum; its erased mark is not read.
 abbrev numbered : ℕ → ℕ → LfsMdir
 numbered n0 n1 = record {
   pair = record { n0 = n0; n1 = n1 };

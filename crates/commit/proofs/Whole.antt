@@ -99,7 +99,8 @@ module _ (b : List ℕ) (is : List Item) (size n : ℕ) (made : AllMade is)
 
 -- the block at place w holds them
 ran-accepted : (F : Fetched) (b0 b1 : List ℕ) (n : ℕ) (w : Bool) (is : List Item) (size a : ℕ) (l : Laying) (p : ℕ)
-    (t : Trio) → F ≡ fetched.Found (l .old .dir) (l .old .seed) → t ≡ into w b0 b1 (laidTo l p (laid (runAt a (n - allStores is)) (storedTo (blockAt w b0 b1) is size n)))
+    (t : Trio) → F ≡ fetched.Found (l .old .dir) (l .old .seed) → t ≡ into w b0 b1 (laidTo l p (laid (runAt a
+    (n - allStores is)) (storedTo (blockAt w b0 b1) is size n)))
     → Ran F b0 b1 n (accepted w is size) t
 unfolding answeredOf madeOf
 ran-accepted F b0 b1 n false is size a l p t found e =
@@ -314,7 +315,8 @@ module _ (g : Geometry) (b0 b1 : List ℕ) (n0 n1 count seed rules : ℕ) (entri
       ran-judged : (j : Judged) → judge dat 0 (countOf 0 (log (blockAt w b0 b1))) entries ≡ j
           → Ran F b0 b1 n (judgedBy j (placed (g .«prog_size») w (blockAt w b0 b1) (log (blockAt w b0 b1)) (laidAt w)))
           (decidedT (trio (state w (phaseOf j start (itemsOf dat entries) (length entries))) b0 b1))
-      ran-judged (bad k) e = ran-refused F b0 b1 n w (BadEntry k) _ (decided-refused w (BadEntry k) b0 b1 g n entries dat)
+      ran-judged (bad k) e = ran-refused F b0 b1 n w (BadEntry k) _ (decided-refused w
+          (BadEntry k) b0 b1 g n entries dat)
       ran-judged (good c) e =
           let good-all = judged-good dat entries 0 (countOf 0 (log (blockAt w b0 b1))) c low e in
           subst (λ (t : Trio). Ran F b0 b1 n (placed (g .«prog_size») w (blockAt w b0 b1) (log (blockAt w b0 b1))
@@ -375,8 +377,8 @@ module _ (g : Geometry) (b0 b1 : List ℕ) (n0 n1 count seed rules : ℕ) (entri
     ran-fetched (fetched.Refused r) e = ran-refused F b0 b1 n false r _ (all-refused false r b0 b1 g n entries dat)
     ran-fetched (fetched.Found m s) e =
         let a = found-answers g b0 b1 n0 n1 count seed m s e in
-        subst (λ (v : Bool). Ran F b0 b1 n (appended (rulesOf rules) (g .«prog_size») v (blockAt v b0 b1) (log (blockAt v
-        b0 b1)) entries dat) (T (startedOf (rulesOf rules) v (blockAt v b0 b1) m s))) (sym (a .place))
+        subst (λ (v : Bool). Ran F b0 b1 n (appended (rulesOf rules) (g .«prog_size») v (blockAt v b0 b1)
+        (log (blockAt v b0 b1)) entries dat) (T (startedOf (rulesOf rules) v (blockAt v b0 b1) m s))) (sym (a .place))
         (ran-started (a .w) m s e (a .end) (a .endTag) (a .count))
 
   pub ran : Ran F b0 b1 n (verdictOf g b0 b1 n0 n1 count seed rules entries dat)

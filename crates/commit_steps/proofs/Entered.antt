@@ -86,14 +86,16 @@ module _ (l : Laying) (b : List ℕ) where
       → (o : Onto) → o ≡ layOf l b forwardTagWord (bodyOf v 0 8) → o ≡ forwardLaid l b
   unfolding forwardLaid tagOf
   forward-laid h v ev o eo =
-      eo ∙ ap (layOf l b forwardTagWord) (pair-body (l .fcrc .size) (l .fcrc .sum) v ev) ∙ rw (not-false (l .fcrc .seen) h)
+      eo ∙ ap (layOf l b forwardTagWord) (pair-body (l .fcrc .size) (l .fcrc .sum) v ev) ∙ rw (not-false
+      (l .fcrc .seen) h)
 
 -- ---- `lay`, `lay_entry` and `lay_check`
 module _ (l : Laying) (b : List ℕ) where
   -- w is what `put_entry` answers
   pub laid-any : (t : ℕ) (body : List ℕ) (w : Run) (c : List ℕ)
       → laid w c ≡ putsOf (laid (l .run) b) (toBe32 (bitXor t (l .prev)) ++ body)
-      → onto (record { old = l .old; run = w; prev = t; fcrc = l .fcrc; word = l .word; sum = l .sum }) c ≡ layOf l b t body
+      → onto (record { old = l .old; run = w; prev = t; fcrc = l .fcrc; word = l .word; sum = l .sum }) c
+      ≡ layOf l b t body
   unfolding layOf xor
   laid-any t body w c e = ap (laidTo l t) e
 
@@ -106,7 +108,8 @@ module _ (l : Laying) (b : List ℕ) where
   -- v and w are what `put_be32` and `put_le32` answer
   pub laid-check : (v w : Run) (c d : List ℕ) → laid v c ≡ putsOf (laid (l .run) b) (toBe32 (l .word))
       → laid w d ≡ putsOf (laid v c) (toLe32 (l .sum))
-      → onto (record { old = l .old; run = w; prev = l .prev; fcrc = l .fcrc; word = l .word; sum = l .sum }) d ≡ checkedOf l b
+      → onto (record { old = l .old; run = w; prev = l .prev; fcrc = l .fcrc; word = l .word; sum = l .sum }) d
+      ≡ checkedOf l b
   unfolding checkedOf
   laid-check v w c d e f =
       ap (laidTo l (l .prev)) (f ∙ ap (λ (s : Laid). putsOf s (toLe32 (l .sum))) e

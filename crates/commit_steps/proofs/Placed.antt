@@ -72,7 +72,8 @@ module _ (j : Judging) (f : LfsFcrc) (prog : ℕ) (b : List ℕ) (stores e : ℕ
 
 -- ---- `place`: f, k and p are what `forward`, `sum_forward` and `test` answer
 pub placed-tested : (j : Judging) (prog : ℕ) (b : List ℕ) (stores : ℕ) (f : LfsFcrc) (k : Judging) (p : Phase)
-    → f ≡ carriedFor prog (length b) (j .old .dir .off + j .size) → k ≡ forwardSummed j f → p ≡ testedOf k f prog b stores
+    → f ≡ carriedFor prog (length b) (j .old .dir .off + j .size) → k ≡ forwardSummed j f → p
+    ≡ testedOf k f prog b stores
     → p ≡ placedOf j prog b stores
 unfolding placedOf
 placed-tested j prog b stores f k p ef ek ep =

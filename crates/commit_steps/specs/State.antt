@@ -169,7 +169,8 @@ unfoldable pub testedOf : Judging → LfsFcrc → ℕ → List ℕ → ℕ → P
 testedOf j f prog b stores =
     cond (ltb (length b) (roundedEnd prog (j .old .dir .off + j .size))) (Refused NoSpace)
     (roomThenLaid (roomOf prog b (j .old .dir .off) (j .old .dir .etag))
-    (cond (meets (j .sum) (xor (checkTag (checkSize prog (j .old .dir .off + j .size))) (j .prev))) (Refused Coincidence)
+    (cond (meets (j .sum) (xor (checkTag (checkSize prog (j .old .dir .off + j .size))) (j .prev)))
+    (Refused Coincidence)
     (Lay (layingFrom j f (xor (checkTag (checkSize prog (j .old .dir .off + j .size))) (j .prev)) stores))))
 
 unfoldable pub placedOf : Judging → ℕ → List ℕ → ℕ → Phase

@@ -33,7 +33,8 @@ const MOST_DATA: usize = 65_536;
 
 const MOST_ENTRIES: usize = 8_192;
 
-// What fetch found: the old record, and the seed behind it. The commit is laid at its end, and the answer goes on there.
+// What fetch found: the old record, and the seed behind it. The commit is laid at its end, and the answer goes on
+// there.
 pub struct Old {
     pub dir: LfsMdir,
     pub seed: u32,
@@ -375,8 +376,8 @@ fn lay_check(b: &mut [u8], l: Laying) -> Laying
     }
 }
 
-// "An accepted call answers what fetch gives on the finished pair from the same seed": a refetch from the old record gives
-// the same, and walks no more than the commit that was laid.
+// "An accepted call answers what fetch gives on the finished pair from the same seed": a refetch from the old record
+// gives the same, and walks no more than the commit that was laid.
 pub fn answer(
     st: State,
     g: Geometry,

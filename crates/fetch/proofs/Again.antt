@@ -1,14 +1,14 @@
 -- The refetch: what the walk that goes on from a record leaves is what format's definition says of it; and refetch's
 -- tests in order. Assumes nothing.
-use mathlib.Core.Path.{_≡_, refl, sym, ap, _∙_}
-use mathlib.Core.Bool.{Bool, true, false, not, _&&_, _||_}
+use mathlib.Core.Path.{_≡_, sym, ap, _∙_}
+use mathlib.Core.Bool.{Bool, true, false, _&&_, _||_}
 use mathlib.Core.List.{List}
-use Prim.Native.Nat.{ℕ, _≤_}
+use Prim.Native.Nat.{ℕ}
 use native.Mathlib.Omega.{arith}
 use lib.Dec.{leb}
 use lib.ListN.{length}
-use Rattle.format.specs.Fetch.{pairFits, tooHigh}
-use Rattle.format.specs.Lookup.{recordFits, blockOf}
+use Rattle.format.specs.Fetch.{tooHigh}
+use Rattle.format.specs.Lookup.{recordFits}
 use Rattle.format.specs.Refetch.{heldForward, refetchFits, continued, refetchOf}
 use Rattle.format.specs.declared.Geometry.{Geometry}
 use Rattle.format.specs.declared.LfsMdir.{LfsMdir}
@@ -17,7 +17,7 @@ use Rattle.format.specs.declared.Fetched.{Fetched}
 use Rattle.format.specs.declared.Fetched.the-variants.{Refused}
 use Rattle.sizes.proofs.Sized.{both}
 use Rattle.sizes.proofs.Records.{record-sized, end-inside, block-first, block-second}
-use Rattle.fetch_walk.specs.Block.{walkAgain, walkedAgain}
+use Rattle.fetch_walk.specs.Block.{walkedAgain}
 use Rattle.fetch_walk.specs.Dir.{emptyDir}
 use Rattle.fetch_walk.specs.declared.Taken.{Taken}
 use Rattle.fetch_walk.specs.declared.dir.DirState.{DirState}

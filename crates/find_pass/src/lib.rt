@@ -127,8 +127,8 @@ fn answer(set: &[u32; 32]) -> Named
     Named::Nothing
 }
 
-// The count behind an entry, or that it is bad, where the count is `count` before it and names may make slots or not: as
-// in `commit_regular`, which says why there are two.
+// The count behind an entry, or that it is bad, where the count is `count` before it and names may make slots or not:
+// as in `commit_regular`, which says why there are two.
 fn entered(rule: Rule, grows: bool, count: u32, tag: u32) -> Ruled
     ensures { λ r. ⌜ r ≡ passedBy (ruleAs rule) (countRaised grows (ruleAs rule) count (tagId tag)) (tagId tag)
         (tagSize tag) ⌝ }

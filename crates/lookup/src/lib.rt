@@ -10,7 +10,6 @@ use format::Got;
 use format::Informed;
 use format::LfsGstate;
 use format::LfsMdir;
-use format::LfsPair;
 use format::Refusal;
 use format::types::NO_SLOT;
 

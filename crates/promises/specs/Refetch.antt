@@ -1,6 +1,6 @@
 -- Document 02, L6: the refetch from a record's end. Where record and seed are of a fetch, and what that fetch read is
--- unchanged, it is a fetch; so behind a commit, wherever it is stopped. And of any record: which refusals it gives, when
--- exactly, and that its answer decides. Assumes nothing.
+-- unchanged, it is a fetch; so behind a commit, wherever it is stopped. And of any record: which refusals it gives,
+-- when exactly, and that its answer decides. Assumes nothing.
 use mathlib.Core.Path.{_≡_, refl}
 use mathlib.Core.Logic.{_↔_}
 use mathlib.Core.Bool.{Bool, true, false, not, cond, _||_}
@@ -26,9 +26,9 @@ use Rattle.promises.specs.Possible.{FetchedOr, FetchRefuses, fetch22, fe
 use Rattle.promises.specs.Exactly.{apart, few-refuses}
 use Rattle.promises.specs.Numbers.{FetchedTold, fetched-determined}
 
--- THE REFETCH IS A FETCH. A fetch of the images a0 and a1, from any seed and with any block count, gave the record m and
--- the seed s. In the images now, b0 and b1, the block that m was read from is unchanged up to the record's end and in
--- its last checksum, which reaches past an end that is less than eight bytes behind the check's tag (`knownTo`); the
+-- THE REFETCH IS A FETCH. A fetch of the images a0 and a1, from any seed and with any block count, gave the record m
+-- and the seed s. In the images now, b0 and b1, the block that m was read from is unchanged up to the record's end and
+-- in its last checksum, which reaches past an end that is less than eight bytes behind the check's tag (`knownTo`); the
 -- other block is unchanged. Both revisions are among these bytes. Then the refetch answers what a fetch of the images
 -- now answers, from the first fetch's own seed: record, forward check, erased mark and seed, and every refusal. The
 -- sizes and the block count of the two calls need not be the same.
@@ -40,8 +40,8 @@ pub refetch-is-fetch : (g g′ : Geometry) (a0 a1 b0 b1 : List ℕ) (n0 n1 count
 refetch-is-fetch g g′ a0 a1 b0 b1 n0 n1 count count′ seed m s =
     theory.refetched g g′ a0 a1 b0 b1 n0 n1 count count′ seed m s
 
--- BEHIND A COMMIT, after any number n of its stores, all of them or none; and also where it is refused: the refetch from
--- the record before it is a fetch.
+-- BEHIND A COMMIT, after any number n of its stores, all of them or none; and also where it is refused: the refetch
+-- from the record before it is a fetch.
 pub refetch-behind-commit : (g : Geometry) (b0 b1 : List ℕ) (n0 n1 count seed rules : ℕ) (entries : List Entry)
     (dat : List ℕ) (n : ℕ) (m : LfsMdir) (s : ℕ) → Gave (fetchOf g b0 b1 n0 n1 count seed) m s
     → (let i : Images = commitImages g b0 b1 n0 n1 count seed rules entries dat n in

@@ -33,5 +33,6 @@ returns-2 c = unerased-end _ _ (c .loop-test .left) ∙ sym (c .before .loop .in
 pub first-unerased-spec : {M : Type 1} → statement M
 first-unerased-spec =
     tie.close
-    (tie.spec Inv-loop μ-loop (λ c κs. search needs) loop-holds (λ c. search needs) returns (λ c. search needs) (λ c. omega arith) loop-again
+    (tie.spec Inv-loop μ-loop (λ c κs. search needs) loop-holds (λ c. search needs) returns (λ c. search needs)
+    (λ c. omega arith) loop-again
     returns-2)

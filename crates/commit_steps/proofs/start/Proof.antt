@@ -7,7 +7,8 @@ use Rattle.commit_steps.proofs.start.Tie as tie
 returns : tie.Need-returns
 returns c =
     let a = c .before .before .before .before .before .before .args in
-    starts-irregular (a .second) (a .b .now) (a .m) (a .seed) (a .rules) _ (c .before .before .before .rules-of .ensures)
+    starts-irregular (a .second) (a .b .now) (a .m) (a .seed) (a .rules) _
+    (c .before .before .before .rules-of .ensures)
     _
     (c .before .before .log-regular .ensures) _ (c .before .if1 .taken) (c .refused .ensures)
 

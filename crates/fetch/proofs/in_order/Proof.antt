@@ -13,12 +13,15 @@ returns c = first-answers _ _ _ _ _ _ _ (c .before .before .before .before .walk
     (c .before .before .if1 .taken) (c .before .le32 .ensures) (c .answer .ensures)
 
 answer-requires-2 : tie.Need-answer-requires-2
-answer-requires-2 c κs = walked-second _ _ _ (c .before .before .before .before .before .before .before .before .before .pre)
+answer-requires-2 c κs = walked-second _ _ _ (c .before .before .before .before .before .before .before .before .before
+    .pre)
     _ _ (c .before .before .before .walk-block2 .ensures)
 
 returns-2 : tie.Need-returns-2
-returns-2 c = second-answers _ _ _ _ _ _ _ (c .before .before .before .before .before .before .before .walk-block .ensures)
-    (c .before .before .before .before .before .if1 .left) _ (c .before .before .before .before .walk-block2 .ensures) _ _
+returns-2 c = second-answers _ _ _ _ _ _ _ (c .before .before .before .before .before .before .before .walk-block
+    .ensures)
+    (c .before .before .before .before .before .if1 .left) _ (c .before .before .before .before .walk-block2 .ensures) _
+    _
     (c .before .before .if2 .taken) (c .before .le322 .ensures) (c .answer2 .ensures)
 
 returns-3 : tie.Need-returns-3

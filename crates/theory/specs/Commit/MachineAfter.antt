@@ -7,7 +7,7 @@ use Prim.Native.Nat.{ℕ, _%_}
 use lib.Dec.{eqb}
 use Rattle.format.specs.Tag.{tagChunk}
 use Rattle.format.specs.Kind.{isTail}
-use Rattle.format.specs.Walk.{Event, ent, chk, inv}
+use Rattle.format.specs.Walk.{Event, chk}
 use Rattle.format.specs.Record.{pairIn, noTail, tailOf, splitOf}
 use Rattle.format.specs.Directory.{Load, applyAll, act, acts, dirOf, loadOf, isMove, moveOf}
 use Rattle.format.specs.Commit.{Item, commitSum, written}

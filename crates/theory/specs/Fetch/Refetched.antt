@@ -1,40 +1,38 @@
--- DOCUMENT 02, L6: behind a record that a fetch gave, a refetch is a fetch, as long as what was read of the block and the
--- other block are unchanged. Assumes nothing.
+-- DOCUMENT 02, L6: behind a record that a fetch gave, a refetch is a fetch, as long as what was read of the block and
+-- the other block are unchanged. Assumes nothing.
 use mathlib.Core.Path.{_≡_, refl, sym, ap, subst, _∙_}
-use mathlib.Core.Logic.{_≢_, _⊎_, inl, inr}
+use mathlib.Core.Logic.{_≢_, inl, inr}
 use mathlib.Core.Bool.{Bool, true, false, not, cond, _&&_, _||_}
-use mathlib.Core.List.{List, [], _∷_, _++_}
+use mathlib.Core.List.{List, [], _++_}
 use Prim.Native.Nat.{ℕ, _+_, _-_, _%_, _≤_}
 use native.Mathlib.Omega.{arith}
 use native.Mathlib.Nat.{add-assoc}
 use lib.ListN.{length, take, drop, length-append, take-append-drop}
 use lib.Seq.{length-take-le}
 use lib.Dec.{leb, ltb, eqb}
-use borrow.Author.Tests.{eq-eqb, ne-eqb, eqb-false, le-leb, not-true, not-false}
+use borrow.Author.Tests.{eq-eqb, ne-eqb, eqb-false, le-leb, not-false}
 use Rattle.format.specs.Word.{le32, allOnes}
-use Rattle.format.specs.Tag.{tagLength}
 use Rattle.format.specs.Kind.{isCheck}
 use Rattle.format.specs.Walk.{Event, walkFrom, walk}
-use Rattle.format.specs.Log.{committed, log, span, tagAfter, logEnd, logEndTag, stoppedStraight}
-use Rattle.format.specs.Record.{countOf, noTail, tailOf, splitOf, noForward, forwardOf, seedOf}
+use Rattle.format.specs.Log.{committed, log, span, logEnd, logEndTag, stoppedStraight}
+use Rattle.format.specs.Record.{noTail, noForward, forwardOf, seedOf}
 use Rattle.format.specs.View.{View, none, at, view}
 use Rattle.format.specs.Pair.{pairSync}
-use Rattle.format.specs.Fetch.{geometryFits, pairFits, tooHigh, forwardFits, erasedOf, mdirOf, fewEnough, viewed, fetchOf}
+use Rattle.format.specs.Fetch.{pairFits, tooHigh, forwardFits, erasedOf, mdirOf, fewEnough, viewed, fetchOf}
 use Rattle.format.specs.Lookup.{recordFits, blockOf}
-use Rattle.format.specs.Refetch.{refetchFits, heldForward, walkBehind, mdirBehind, continued, refetchOf, knownTo, Gave}
+use Rattle.format.specs.Refetch.{heldForward, mdirBehind, continued, refetchOf, knownTo, Gave}
 use Rattle.format.specs.declared.Geometry.{Geometry}
 use Rattle.format.specs.declared.LfsFcrc.{LfsFcrc}
 use Rattle.format.specs.declared.LfsMdir.{LfsMdir}
-use Rattle.format.specs.declared.LfsPair.{LfsPair}
 use Rattle.format.specs.declared.Refusal.{Refusal}
 use Rattle.format.specs.declared.Refusal.the-variants.{Invalid, Corrupt, TooMany}
 use Rattle.format.specs.declared.Fetched.{Fetched}
 use Rattle.format.specs.declared.Fetched.the-variants.{Found, Refused}
-use Rattle.theory.specs.Walk.Step.{both-true}
 use Rattle.theory.specs.Walk.Locality.{le32-front}
 use Rattle.theory.specs.Log.Folds.{span-app, tag-app, count-app, tailOf-app, splitOf-app, forward-app, seed-app}
 use Rattle.theory.specs.Log.Folds.{forward-or-none}
-use Rattle.theory.specs.Log.Continued.{logRead, log-whole, some-long, log-read-within, log-straight, walk-continues}
+use Rattle.theory.specs.Log.Continued.{logRead, log-whole, some-long, log-read-within, log-straight}
+use Rattle.theory.specs.Log.Continued.{walk-continues}
 use Rattle.theory.specs.Log.Continued.{log-continues}
 use Rattle.theory.specs.Log.TwoBlocks.{viewAt, view-log, view-grow, app-some}
 use Rattle.theory.specs.Fetch.FoundBlock.{Sized, pair-sized}
@@ -88,7 +86,8 @@ module _ (x y : List ℕ) (four : 4 ≤ length x) (some : log x ≢ [])
   within-now = omega (arith, pre-long, ap length y-is, length-append (take known x) (drop known y))
 
   pub walk-on : walk y ≡ log x ++ on
-  walk-on = rw y-is at (walk-continues pre (drop known x) es (ap log x-is) some (omega (arith, pre-long)) (drop known y))
+  walk-on = rw y-is at (walk-continues pre (drop known x) es (ap log x-is) some (omega (arith, pre-long))
+      (drop known y))
 
   pub log-on : log y ≡ log x ++ committed on
   log-on = rw y-is at (log-continues pre (drop known x) es (ap log x-is) some (omega (arith, pre-long)) (drop known y))

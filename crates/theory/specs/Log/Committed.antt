@@ -3,10 +3,6 @@ use mathlib.Core.Path.{_≡_, refl, ap, _∙_}
 use mathlib.Core.List.{List, [], _∷_, _++_}
 use Prim.Native.Nat.{ℕ}
 use native.Mathlib.Omega.{arith}
-use lib.ListN.{drop, take}
-use Rattle.format.specs.Word.{allOnes}
-use Rattle.format.specs.Tag.{tagLength}
-use Rattle.format.specs.Crc.{crc}
 use Rattle.format.specs.Walk.{Event, ent, chk, inv}
 use Rattle.format.specs.Log.{keptBefore, committed}
 use Rattle.theory.specs.Walk.Erased.{NoCheck}

@@ -1,6 +1,6 @@
--- A log goes on where it ended: whatever stands behind what was read of it, a walk meets its events again and goes on at
--- its end, the checksum restarted. What is read reaches to the end, and to the last check's four bytes, which pass an
--- end that is less than eight bytes behind the check's tag. Assumes nothing.
+-- A log goes on where it ended: whatever stands behind what was read of it, a walk meets its events again and goes on
+-- at its end, the checksum restarted. What is read reaches to the end, and to the last check's four bytes, which pass
+-- an end that is less than eight bytes behind the check's tag. Assumes nothing.
 use mathlib.Core.Path.{_≡_, refl, sym, ap, _∙_}
 use mathlib.Core.Logic.{_≢_}
 use mathlib.Core.Bool.{Bool, true, false}
@@ -11,7 +11,7 @@ use lib.ListN.{length, take, drop, length-drop}
 use lib.Seq.{drop-append-le, drop-drop, take-append-le}
 use Rattle.format.specs.Word.{allOnes}
 use Rattle.format.specs.Tag.{tagLength, tagFlipped}
-use Rattle.format.specs.Kind.{isCheck, isWide}
+use Rattle.format.specs.Kind.{isCheck}
 use Rattle.format.specs.Crc.{crc}
 use Rattle.format.specs.Walk.{Event, ent, chk, inv, walkFrom, walk}
 use Rattle.format.specs.Log.{committed, log, eventLength, span, tagAfter, logEnd, logEndTag, stoppedStraight}
@@ -164,7 +164,8 @@ module _ (pre x : List ℕ) (es : List Event) (is : log (pre ++ x) ≡ es) (some
       rw (take-append-le 4 pre x four, drop-append-le 4 pre x four) at is in
       let r = committed-split (walkFrom (crc allOnes (take 4 pre)) allOnes (drop 4 pre ++ x)) in
       rw (take-append-le 4 pre y four, drop-append-le 4 pre y four)
-      (continues es (r .0) (crc allOnes (take 4 pre)) allOnes (drop 4 pre) x y (rw there at (r .1)) whole (λ q. absurd (some q))
+      (continues es (r .0) (crc allOnes (take 4 pre)) allOnes (drop 4 pre) x y (rw there at (r .1)) whole (λ q. absurd
+      (some q))
       (omega (arith, length-drop 4 pre))
       ∙ ap (λ (l : List ℕ). es ++ walkFrom allOnes (logEndTag es) l) (behind pre y 4 (span es) four))
 

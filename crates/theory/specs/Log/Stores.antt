@@ -1,13 +1,13 @@
 -- One block under stores: an append or a compaction that is stopped anywhere leaves the finished bytes, or the log as
 -- it was. Assumes nothing.
-use mathlib.Core.Path.{_≡_, refl, sym, ap, _∙_}
+use mathlib.Core.Path.{_≡_, refl, ap, _∙_}
 use mathlib.Core.Logic.{_≢_, _⊎_, inl, inr}
 use mathlib.Core.Bool.{Bool, true, false}
 use mathlib.Core.List.{List, [], _∷_, _++_, append-assoc, append-nil}
 use Prim.Native.Nat.{ℕ, _+_, _-_, _^_, _≤_, _<_}
 use native.Mathlib.Omega.{arith}
-use lib.ListN.{drop, length, take, length-drop, length-append}
-use lib.Seq.{take-append-le, drop-append-le, take-at, drop-at}
+use lib.ListN.{drop, length, take}
+use lib.Seq.{take-at, drop-at}
 use lib.Dec.{leb}
 use borrow.Author.Tests.{leb-true, leb-false}
 use Rattle.format.specs.Word.{toLe32, allOnes}

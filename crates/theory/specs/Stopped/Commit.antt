@@ -102,7 +102,8 @@ module _ (g : Geometry) (b0 b1 : List ℕ) (n0 n1 count seed rules : ℕ) (entri
   stored-length k hk = length-paste x (logEnd (log x)) (commitBytes allOnes (logEndTag (log x)) is (checkTag size)) k
       (omega (arith, room)) (omega (arith, bytes-length))
 
-  pub stored-front : (k : ℕ) → take (logEnd (log x)) (appending x (log x) is (checkTag size) k) ≡ take (logEnd (log x)) x
+  pub stored-front : (k : ℕ) → take (logEnd (log x)) (appending x (log x) is (checkTag size) k) ≡ take (logEnd
+      (log x)) x
   unfolding appending
   stored-front k =
       let e : ℕ = logEnd (log x) in

@@ -151,9 +151,7 @@ append-erased prog some b es is ct ok aligned unit held =
     let e : ℕ = logEnd es in
     let M : ℕ = length b - (logEnd es) in
     let m : ℕ = length b - (logEnd es) - (entriesLength is + 8) in
-    let N : List ℕ = commitBytes allOnes (logEndTag es) is ct in
     let y : List ℕ = commitBytes allOnes (logEndTag es) is ct ++ erased m in
-    let n : length y ≡ M = length-append N (erased m) ∙ rw (length-erased m) (a .all) in
     rw (as-filled b es is ct ok)
     (erased-behind prog some (take e b ++ y) es allOnes (logEndTag es) is ct m
     (rw (ok .old) at (log-stands b))

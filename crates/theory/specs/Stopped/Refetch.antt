@@ -1,21 +1,20 @@
 -- Document 02, L6, after a commit: whatever number of its stores is made, and also where it is refused, a refetch from
 -- the record before it is a fetch. Assumes nothing.
-use mathlib.Core.Path.{_≡_, refl, sym, ap, ap₂, _∙_}
+use mathlib.Core.Path.{_≡_, refl, sym, _∙_}
 use mathlib.Core.Logic.{inl, inr}
 use mathlib.Core.Bool.{Bool, true, false, not, cond}
 use mathlib.Core.List.{List}
-use Prim.Native.Nat.{ℕ, _+_, _-_, min}
+use Prim.Native.Nat.{ℕ, _-_, min}
 use native.Mathlib.Omega.{arith}
-use lib.ListN.{length, take}
 use lib.Dec.{eqb}
 use Rattle.format.specs.Word.{allOnes}
-use Rattle.format.specs.Tag.{tagLength}
 use Rattle.format.specs.Log.{log, logEnd, logEndTag}
 use Rattle.format.specs.Commit.{Item}
 use Rattle.format.specs.Fetch.{fetchOf}
 use Rattle.format.specs.Lookup.{blockOf}
 use Rattle.format.specs.Refetch.{refetchOf, knownTo, Gave}
-use Rattle.format.specs.Writer.{Verdict, refused, accepted, blockAt, isSecond, verdictOf, Images, imagesAfter, allStores}
+use Rattle.format.specs.Writer.{Verdict, refused, accepted, blockAt, isSecond, verdictOf, Images, imagesAfter}
+use Rattle.format.specs.Writer.{allStores}
 use Rattle.format.specs.Writer.{commitImages}
 use Rattle.format.specs.declared.Geometry.{Geometry}
 use Rattle.format.specs.declared.LfsMdir.{LfsMdir}

@@ -1,6 +1,6 @@
 -- Locality: what the walk meets in front does not depend on what follows. So stores behind a log's end leave the log as
 -- it is. Assumes nothing.
-use mathlib.Core.Path.{_≡_, refl, sym, ap, _∙_}
+use mathlib.Core.Path.{_≡_, refl, sym, _∙_}
 use mathlib.Core.Bool.{Bool, true, false, cond}
 use mathlib.Core.List.{List, [], _∷_, _++_}
 use Prim.Native.Nat.{ℕ, _+_, _-_, _≤_}
@@ -12,7 +12,6 @@ use Rattle.format.specs.Tag.{tagLength, tagFlipped}
 use Rattle.format.specs.Kind.{isCheck, isWide}
 use Rattle.format.specs.Crc.{crc}
 use Rattle.format.specs.Walk.{Event, readBehind, bodyLength, walkFrom, ent, chk, inv}
-use Rattle.format.specs.Log.{eventLength, span, tagAfter}
 use Rattle.format.proofs.Words.{tagLength-ge}
 use Rattle.format.proofs.Classes.{behind-check}
 use Rattle.theory.specs.Walk.Step.{meets-entry, entry-met, meets-check, check-met}
