@@ -83,25 +83,25 @@ pub fn forward(prog: u32, block: usize, at: usize) -> LfsFcrc
 fn past_eights(b: &[u8], end: usize) -> usize
     ensures { λ r. ⌜ firstUnerased (now (b .entry)) r ≡ firstUnerased (now (b .entry)) end ⌝ }
 {
-    let mut i = end;
-    while i < b.len() {
-        if b.len() - i < 8 {
-            return i;
+    let mut at = end;
+    while at < b.len() {
+        if b.len() - at < 8 {
+            return at;
         }
-        let erased = (b[i] == 0xff)
-            & (b[i + 1] == 0xff)
-            & (b[i + 2] == 0xff)
-            & (b[i + 3] == 0xff)
-            & (b[i + 4] == 0xff)
-            & (b[i + 5] == 0xff)
-            & (b[i + 6] == 0xff)
-            & (b[i + 7] == 0xff);
+        let erased = (b[at] == 0xff)
+            & (b[at + 1] == 0xff)
+            & (b[at + 2] == 0xff)
+            & (b[at + 3] == 0xff)
+            & (b[at + 4] == 0xff)
+            & (b[at + 5] == 0xff)
+            & (b[at + 6] == 0xff)
+            & (b[at + 7] == 0xff);
         if !erased {
-            return i;
+            return at;
         }
-        i += 8;
+        at += 8;
     }
-    i
+    at
 }
 
 // The offset of the first byte from the old end on that isn't erased; where all are, the offset behind them.
