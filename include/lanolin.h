@@ -164,10 +164,10 @@ lanolin_fetched lanolin_fetch(lanolin_geometry g, const uint8_t *b0, size_t b0_l
  * It answers what lanolin_fetch answers from the seed that the earlier fetch was given, as long as both revisions, the
  * other block and, of the block dir.pair[0], every byte before dir.off and the four of its last checksum are as they
  * were, and the blocks are given in the same order. (The last checksum lies before dir.off in all that this library
- * writes. With LANOLIN_ERR_INVAL and LANOLIN_ERR_CORRUPT the seed comes back as it is given here.) So behind a commit, of this library or of another
- * writer, also one that was cut short or refused. It is NOT so behind a compaction, of whomever, nor where the pair was
- * read anew from a device on which another may have compacted it: then a full lanolin_fetch is due. The answer of
- * lanolin_compact is one.
+ * writes. With LANOLIN_ERR_INVAL and LANOLIN_ERR_CORRUPT the seed comes back as it is given here.) So behind a commit,
+ * of this library or of another writer, also one that was cut short or refused. It is NOT so behind a compaction, of
+ * whomever, nor where the pair was read anew from a device on which another may have compacted it: then a full
+ * lanolin_fetch is due. The answer of lanolin_compact is one.
  *
  * Of any other record and bytes it answers what the definition says: pair and revision are the record's own, and what
  * is committed behind its end is added to it. LANOLIN_ERR_INVAL also where dir.off is below 8 or above block_size, or
