@@ -23,7 +23,7 @@ use Rattle.format.specs.Writer.{appended, verdictOf, Images}
 use Rattle.format.specs.Writer.{images, unlimited, commitImages, commitOf, commitStoresOf}
 use Rattle.format.specs.declared.Geometry.{Geometry}
 use Rattle.format.specs.declared.Entry.{Entry}
-use Rattle.format.specs.declared.Refusal.the-variants.{Invalid, BadEntry, NoSpace, Misaligned, TopBit, NotErased}
+use Rattle.format.specs.declared.Refusal.the-variants.{Invalid, BadEntry, NoSpace, Misaligned, WrongValidity, NotErased}
 use Rattle.format.specs.declared.Committed.{Committed}
 use Rattle.format.specs.declared.Committed.the-variants as committed
 use Rattle.format.specs.declared.Stored.the-variants as stored
@@ -103,7 +103,7 @@ listing : (image (deadline ∷ []) seconds 5 ≡ images (laid ++ erased 9 ++ tak
     × (answer first (struct 69 ∷ past ∷ []) (erased 69) ≡ committed.Refused (BadEntry 1))
     × (commitOf (record { «block_size» = 128; «prog_size» = 32 }) first second 0 1 0 0 0 (deadline ∷ []) seconds
     ≡ committed.Refused Misaligned)
-    × (answer flipped (deadline ∷ []) seconds ≡ committed.Refused TopBit)
+    × (answer flipped (deadline ∷ []) seconds ≡ committed.Refused WrongValidity)
     × (answer (laid ++ erased 88 ++ (0xfe ∷ [])) (deadline ∷ []) seconds ≡ committed.Refused (NotErased 127))
     × (commitOf geometry first second 7 7 0 0 0 [] [] ≡ committed.Refused Invalid)
 unfolding withForward carriedFor carries commitImages commitOf commitStoresOf verdictOf commitFits pairFits geometryFits

@@ -6,7 +6,7 @@ use mathlib.Core.List.{List, [], _∷_, _++_}
 use Prim.Native.Nat.{ℕ, _-_, _^_}
 use Rattle.format.specs.Stores.{erased, allErased}
 use Rattle.format.specs.Room.{roomClean, erasedRun, firstUnerased, roomOf}
-use Rattle.format.specs.declared.Refusal.the-variants.{Misaligned, TopBit, NotErased}
+use Rattle.format.specs.declared.Refusal.the-variants.{Misaligned, WrongValidity, NotErased}
 use Rattle.format.specs.declared.Room.the-variants.{Clean, Refused}
 
 abbrev clean : List ℕ
@@ -26,7 +26,7 @@ top = 2 ^ 31
 -- the program size 4 has the end 4 as a multiple, 8 has not
 reasons : (roomOf 4 clean 4 plain ≡ Clean)
     × (roomOf 8 clean 4 plain ≡ Refused Misaligned)
-    × (roomOf 4 clean 4 top ≡ Refused TopBit)
+    × (roomOf 4 clean 4 top ≡ Refused WrongValidity)
     × (roomOf 4 torn 4 plain ≡ Refused (NotErased 5))
     × (roomOf 4 torn 8 plain ≡ Refused (NotErased 11))
     × (roomOf 4 torn 12 plain ≡ Clean)
@@ -36,7 +36,7 @@ reasons = (refl, refl, refl, refl, refl, refl)
 -- two at once, and all three: "Test them in that order"
 in-order : (roomOf 8 clean 4 top ≡ Refused Misaligned)
     × (roomOf 8 torn 4 plain ≡ Refused Misaligned)
-    × (roomOf 4 torn 4 top ≡ Refused TopBit)
+    × (roomOf 4 torn 4 top ≡ Refused WrongValidity)
     × (roomOf 8 torn 4 top ≡ Refused Misaligned)
 unfolding roomOf firstUnerased erasedRun allErased
 in-order = (refl, refl, refl, refl)

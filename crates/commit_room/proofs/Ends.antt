@@ -3,7 +3,9 @@ use mathlib.Core.Path.{_≡_}
 use Prim.Native.Nat.{ℕ, _+_, _-_, _%_, _≤_}
 use native.Mathlib.Nat.{div-add-mod', mod-lt}
 use native.Mathlib.Omega.{arith}
+use borrow.Author.Tests.{eq-eqb, ne-eqb}
 use Rattle.format.specs.Tag.{tagOf}
+use Rattle.format.specs.Erased.{checkType}
 use Rattle.format.specs.Commit.{checkTag}
 use Rattle.format.specs.Writer.{checkLength, roundedEnd, checkSize}
 use Rattle.commit_room.specs.Tests.{Prog}
@@ -28,6 +30,11 @@ module _ (prog at : ℕ) (p : Prog prog at) where
   )
 
   -- r is what `rounded_end` answers
-  pub tag-is : (r : ℕ) → r ≡ roundedEnd prog at → 0x500f_fc00 + (r - (at + 4)) ≡ checkTag (checkSize prog at)
-  unfolding tagOf checkSize
-  tag-is r e = omega arith
+  module _ (e r : ℕ) (er : r ≡ roundedEnd prog at) where
+    pub tag-flips : e ≡ 0 → 0x501f_fc00 + (r - (at + 4)) ≡ checkTag e (checkSize prog at)
+    unfolding checkType tagOf checkSize
+    tag-flips h = rw (eq-eqb e 0 h) (omega arith)
+
+    pub tag-plain : (e ≡ 0 → ⊥) → 0x500f_fc00 + (r - (at + 4)) ≡ checkTag e (checkSize prog at)
+    unfolding checkType tagOf checkSize
+    tag-plain h = rw (ne-eqb e 0 h) (omega arith)

@@ -1,2 +1,2 @@
--- What the room's tests ask of their callers, and the coincidence by the stored tag.
+-- What the room's tests ask of their callers.
 pub mod Tests

@@ -17,7 +17,8 @@ pub mod Classes
 pub mod Back
 -- What a search finds, and a lookup's answer.
 pub mod Searched
--- The room behind a log, and the order of a commit's refusals.
+-- The erased byte; the room behind a log, and the order of a commit's refusals.
+pub mod Erased
 pub mod Rooms
 pub mod Refusals
 -- Which logs are regular: document 01's rule and littlefs's; the slots that a directory is made to reach.

@@ -27,7 +27,7 @@ use Rattle.format.specs.declared.Named.the-variants as named
 -- or neither block has a valid commit; lookup: the matched bytes pass the block"; "-2 | fetch: count above 1,023;
 -- lookup: no entry"; "-201 | an entry is bad"; "-202 | the committed log isn't regular"; "-28 | the rounded end passes
 -- the block"; "-204 | the checksum coincidence"; and document 02, L1: "-203 becomes -211 misaligned end, -212 top bit,
--- -213 byte with offset"
+-- -213 byte with offset"; L7: the second "is now 'wrong validity bit'"
 abbrev pub refusalNumber : Refusal → ℤ
 refusalNumber refusal.Invalid = negℤ (pos 22)
 refusalNumber refusal.Corrupt = negℤ (pos 84)
@@ -37,7 +37,7 @@ refusalNumber (refusal.BadEntry i) = negℤ (pos 201)
 refusalNumber refusal.Irregular = negℤ (pos 202)
 refusalNumber refusal.NoSpace = negℤ (pos 28)
 refusalNumber refusal.Misaligned = negℤ (pos 211)
-refusalNumber refusal.TopBit = negℤ (pos 212)
+refusalNumber refusal.WrongValidity = negℤ (pos 212)
 refusalNumber (refusal.NotErased at) = negℤ (pos 213)
 refusalNumber refusal.Coincidence = negℤ (pos 204)
 
@@ -65,7 +65,7 @@ refusalMdir (refusal.BadEntry i) = zeroMdir
 refusalMdir refusal.Irregular = zeroMdir
 refusalMdir refusal.NoSpace = zeroMdir
 refusalMdir refusal.Misaligned = zeroMdir
-refusalMdir refusal.TopBit = zeroMdir
+refusalMdir refusal.WrongValidity = zeroMdir
 refusalMdir (refusal.NotErased at) = zeroMdir
 refusalMdir refusal.Coincidence = zeroMdir
 
@@ -79,7 +79,7 @@ refusalSeed seed (refusal.BadEntry i) = seed
 refusalSeed seed refusal.Irregular = seed
 refusalSeed seed refusal.NoSpace = seed
 refusalSeed seed refusal.Misaligned = seed
-refusalSeed seed refusal.TopBit = seed
+refusalSeed seed refusal.WrongValidity = seed
 refusalSeed seed (refusal.NotErased at) = seed
 refusalSeed seed refusal.Coincidence = seed
 
@@ -93,7 +93,7 @@ refusalIndex (refusal.BadEntry i) = i
 refusalIndex refusal.Irregular = 0
 refusalIndex refusal.NoSpace = 0
 refusalIndex refusal.Misaligned = 0
-refusalIndex refusal.TopBit = 0
+refusalIndex refusal.WrongValidity = 0
 refusalIndex (refusal.NotErased at) = at
 refusalIndex refusal.Coincidence = 0
 

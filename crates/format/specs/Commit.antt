@@ -4,14 +4,15 @@ use mathlib.Core.List.{List, [], _∷_, _++_}
 use Prim.Native.Nat.{ℕ}
 use Rattle.format.specs.Word.{toBe32, toLe32, xor}
 use Rattle.format.specs.Tag.{tagId, tagSize, tagOf}
-use Rattle.format.specs.Kind.{typeCheck, noSlot}
+use Rattle.format.specs.Kind.{noSlot}
 use Rattle.format.specs.Crc.{crc}
 use Rattle.format.specs.Walk.{Event, ent}
 use Rattle.format.specs.Regular.{loggedRule, ruleHolds, countAfter}
+use Rattle.format.specs.Erased.{checkType}
 
--- "then a check tag 0x500, id 1,023", of a size that the padding decides
-abbrev pub checkTag : ℕ → ℕ
-checkTag size = tagOf typeCheck noSlot size
+-- "then a check tag .., id 1,023", of the erased byte's type and of a size that the padding decides
+abbrev pub checkTag : ℕ → ℕ → ℕ
+checkTag e size = tagOf (checkType e) noSlot size
 
 -- An entry to write: its tag, before the XOR, and its data.
 pub record Item : Type 0 where

@@ -25,9 +25,11 @@ pub mod Look
 pub mod Lookup
 -- Document 02, L6: fetch again, from a record's end.
 pub mod Refetch
--- The writer: its rules and which logs are regular, a commit's bytes, what its stores leave, the room they need.
+-- The writer: its rules and which logs are regular, the erased byte, a commit's bytes, what its stores leave, the room
+-- they need.
 pub mod Regular
 pub mod Directory
+pub mod Erased
 pub mod Commit
 pub mod Stores
 pub mod Room

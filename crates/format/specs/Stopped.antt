@@ -95,13 +95,13 @@ module _ (g : Geometry) (n0 n1 : ℕ) where
     pub old : Shows r b0 b1 M
     pub finished : Shows s (f .b0) (f .b1) N
 
-module _ (g : Geometry) (b0 b1 : List ℕ) (n0 n1 count seed rules : ℕ) where
+module _ (g : Geometry) (b0 b1 : List ℕ) (n0 n1 count seed rules e : ℕ) where
   -- a commit: what the finished pair holds is the old machine with the entries applied
   abbrev pub CommitStopped : List Entry → List ℕ → List ℕ → List ℕ → Type 0
   CommitStopped entries dat i0 i1 = (second : Bool) (is : List Item) (size : ℕ)
-      → verdictOf g b0 b1 n0 n1 count seed rules entries dat ≡ accepted second is size
+      → verdictOf g b0 b1 n0 n1 count seed rules e entries dat ≡ accepted second is size
       → Stopped g n0 n1 (rulesOf rules) (rulesOf rules) b0 b1 i0 i1
-      (commitImages g b0 b1 n0 n1 count seed rules entries dat unlimited)
+      (commitImages g b0 b1 n0 n1 count seed rules e entries dat unlimited)
       (machineOf (log (blockAt second b0 b1)))
       (ran (machineOf (log (blockAt second b0 b1))) (written (itemsOf dat entries) []))
 
@@ -109,41 +109,41 @@ module _ (g : Geometry) (b0 b1 : List ℕ) (n0 n1 count seed rules : ℕ) where
   -- "for each id create"
   abbrev pub CompactStopped : List ℕ → List ℕ → Type 0
   CompactStopped i0 i1 = (second : Bool) (rev : ℕ) (is : List Item) (size : ℕ)
-      → compactVerdict g b0 b1 n0 n1 count seed rules ≡ compactAccepted second rev is size
-      → Stopped g n0 n1 (rulesOf rules) Document b0 b1 i0 i1 (compactImages g b0 b1 n0 n1 count seed rules unlimited)
+      → compactVerdict g b0 b1 n0 n1 count seed rules e ≡ compactAccepted second rev is size
+      → Stopped g n0 n1 (rulesOf rules) Document b0 b1 i0 i1 (compactImages g b0 b1 n0 n1 count seed rules e unlimited)
       (machineOf (log (blockAt second b0 b1))) (machineOf (log (blockAt second b0 b1)))
 
 -- ---- what the calls that write leave in both images: their contracts cite these beside the answer
-module _ (g : Geometry) (b0 b1 : List ℕ) (n0 n1 count seed rules : ℕ) where
+module _ (g : Geometry) (b0 b1 : List ℕ) (n0 n1 count seed rules e : ℕ) where
   module _ (entries : List Entry) (dat : List ℕ) where
     -- `lfs_dir_commit_stores` with the limit n: exactly its first n stores, and DEMAND 3 of what is there then
     abbrev pub CommitStoresLeaves : ℕ → List ℕ → List ℕ → Type 0
     CommitStoresLeaves n i0 i1 =
-        (i0 ≡ commitImages g b0 b1 n0 n1 count seed rules entries dat n .b0)
-        × (i1 ≡ commitImages g b0 b1 n0 n1 count seed rules entries dat n .b1)
-        × CommitStopped g b0 b1 n0 n1 count seed rules entries dat i0 i1
+        (i0 ≡ commitImages g b0 b1 n0 n1 count seed rules e entries dat n .b0)
+        × (i1 ≡ commitImages g b0 b1 n0 n1 count seed rules e entries dat n .b1)
+        × CommitStopped g b0 b1 n0 n1 count seed rules e entries dat i0 i1
 
     -- `lfs_dir_commit`: all of its stores; and DEMAND 3 wherever it is stopped, after each number n of them, of the
     -- images that the call with this limit leaves
     abbrev pub CommitLeaves : List ℕ → List ℕ → Type 0
     CommitLeaves i0 i1 =
-        (i0 ≡ commitImages g b0 b1 n0 n1 count seed rules entries dat unlimited .b0)
-        × (i1 ≡ commitImages g b0 b1 n0 n1 count seed rules entries dat unlimited .b1)
-        × ((n : ℕ) → CommitStopped g b0 b1 n0 n1 count seed rules entries dat
-        (commitImages g b0 b1 n0 n1 count seed rules entries dat n .b0)
-        (commitImages g b0 b1 n0 n1 count seed rules entries dat n .b1))
+        (i0 ≡ commitImages g b0 b1 n0 n1 count seed rules e entries dat unlimited .b0)
+        × (i1 ≡ commitImages g b0 b1 n0 n1 count seed rules e entries dat unlimited .b1)
+        × ((n : ℕ) → CommitStopped g b0 b1 n0 n1 count seed rules e entries dat
+        (commitImages g b0 b1 n0 n1 count seed rules e entries dat n .b0)
+        (commitImages g b0 b1 n0 n1 count seed rules e entries dat n .b1))
 
   -- `lfs_dir_compact_stores` with the limit n
   abbrev pub CompactStoresLeaves : ℕ → List ℕ → List ℕ → Type 0
   CompactStoresLeaves n i0 i1 =
-      (i0 ≡ compactImages g b0 b1 n0 n1 count seed rules n .b0)
-      × (i1 ≡ compactImages g b0 b1 n0 n1 count seed rules n .b1)
-      × CompactStopped g b0 b1 n0 n1 count seed rules i0 i1
+      (i0 ≡ compactImages g b0 b1 n0 n1 count seed rules e n .b0)
+      × (i1 ≡ compactImages g b0 b1 n0 n1 count seed rules e n .b1)
+      × CompactStopped g b0 b1 n0 n1 count seed rules e i0 i1
 
   -- `lfs_dir_compact`
   abbrev pub CompactLeaves : List ℕ → List ℕ → Type 0
   CompactLeaves i0 i1 =
-      (i0 ≡ compactImages g b0 b1 n0 n1 count seed rules unlimited .b0)
-      × (i1 ≡ compactImages g b0 b1 n0 n1 count seed rules unlimited .b1)
-      × ((n : ℕ) → CompactStopped g b0 b1 n0 n1 count seed rules
-      (compactImages g b0 b1 n0 n1 count seed rules n .b0) (compactImages g b0 b1 n0 n1 count seed rules n .b1))
+      (i0 ≡ compactImages g b0 b1 n0 n1 count seed rules e unlimited .b0)
+      × (i1 ≡ compactImages g b0 b1 n0 n1 count seed rules e unlimited .b1)
+      × ((n : ℕ) → CompactStopped g b0 b1 n0 n1 count seed rules e
+      (compactImages g b0 b1 n0 n1 count seed rules e n .b0) (compactImages g b0 b1 n0 n1 count seed rules e n .b1))

@@ -15,8 +15,9 @@ use Rattle.format.specs.Record.{countOf, noForward}
 use Rattle.format.specs.Arith.{downTo}
 use Rattle.format.specs.Fetch.{pairFits, fetchOf}
 use Rattle.format.specs.Regular.{Regular, rulesFit, rulesOf}
+use Rattle.format.specs.Erased.{erasedFits, erased}
 use Rattle.format.specs.Commit.{Item, checkTag}
-use Rattle.format.specs.Stores.{erased, entriesLength, appending, coincides}
+use Rattle.format.specs.Stores.{entriesLength, appending, coincides}
 use Rattle.format.specs.Room.{roomOf}
 use Rattle.format.specs.Entries.{itemsOf, Judged, judge, bad, good}
 use Rattle.format.specs.declared.Geometry.{Geometry}
@@ -53,8 +54,8 @@ checkSize prog at = roundedEnd prog at - (at + 4)
 -- ---- the forward check: document 02, L5
 -- "a forward check entry: program size and the checksum of that erased unit", as fetch sums it: "from 0xffffffff over
 -- that many bytes from the end"
-abbrev pub unitCheck : ℕ → LfsFcrc
-unitCheck prog = record { seen = true; size = prog; sum = crc allOnes (erased prog) }
+abbrev pub unitCheck : ℕ → ℕ → LfsFcrc
+unitCheck e prog = record { seen = true; size = prog; sum = crc allOnes (erased e prog) }
 
 -- As an entry it is what fetch reads, "forward check 0x5ff .. 8 bytes .. length and checksum", and what is regular:
 -- "forward checks (id 1,023, length 8)".
@@ -74,15 +75,15 @@ unfoldable pub carries : ℕ → ℕ → ℕ → Bool
 carries prog block at = leb (roundedEnd prog (at + forwardLength) + prog) block
 
 -- the forward check that a commit carries, or none
-unfoldable pub carriedFor : ℕ → ℕ → ℕ → LfsFcrc
-carriedFor prog block at = cond (carries prog block at) (unitCheck prog) noForward
+unfoldable pub carriedFor : ℕ → ℕ → ℕ → ℕ → LfsFcrc
+carriedFor e prog block at = cond (carries prog block at) (unitCheck e prog) noForward
 
 abbrev pub forwardItems : LfsFcrc → List Item
 forwardItems f = cond (f .seen) (forwardItem f ∷ []) []
 
 -- What is laid "before its check tag": the entries, which begin at `from`, and the forward check, or none.
-unfoldable pub withForward : ℕ → ℕ → ℕ → List Item → List Item
-withForward prog block from is = is ++ forwardItems (carriedFor prog block (from + entriesLength is))
+unfoldable pub withForward : ℕ → ℕ → ℕ → ℕ → List Item → List Item
+withForward e prog block from is = is ++ forwardItems (carriedFor e prog block (from + entriesLength is))
 
 -- ---- where the check stands, and the stores
 -- where the check tag stands, of a commit of these entries behind the log es
@@ -101,10 +102,14 @@ mostData = 65_536
 abbrev pub mostEntries : ℕ
 mostEntries = 8_192
 
--- the sizes and numbers, and which rule
-unfoldable pub commitFits : Geometry → ℕ → ℕ → ℕ → ℕ → ℕ → ℕ → ℕ → Bool
-commitFits g length0 length1 n0 n1 rules entries bytes = pairFits g length0 length1 n0 n1 && leb bytes mostData
-    && leb entries mostEntries && rulesFit rules
+-- how a call writes: which rule, and the erased byte e
+abbrev pub writesFit : ℕ → ℕ → Bool
+writesFit rules e = rulesFit rules && erasedFits e
+
+-- the sizes and numbers, and how it writes
+unfoldable pub commitFits : Geometry → ℕ → ℕ → ℕ → ℕ → ℕ → ℕ → ℕ → ℕ → Bool
+commitFits g length0 length1 n0 n1 rules e entries bytes = pairFits g length0 length1 n0 n1 && leb bytes mostData
+    && leb entries mostEntries && writesFit rules e
 
 -- A call is refused, or accepted: whether the second block answers, and so is appended to, the entries that are laid,
 -- and their check's size.
@@ -124,11 +129,11 @@ roomThen room.Clean v = v
 
 -- The tests of what is to be laid, in document 01's order: "-28, -203, -204", and for -203 the room's reasons. b is the
 -- block that answers, es its log.
-unfoldable pub placed : ℕ → Bool → List ℕ → List Event → List Item → Verdict
-placed prog second b es is =
+unfoldable pub placed : ℕ → ℕ → Bool → List ℕ → List Event → List Item → Verdict
+placed e prog second b es is =
     cond (ltb (length b) (roundedEnd prog (checkAt es is))) (refused NoSpace)
-    (roomThen (roomOf prog b (logEnd es) (logEndTag es))
-    (cond (coincides allOnes (logEndTag es) is (checkTag (checkSize prog (checkAt es is)))) (refused Coincidence)
+    (roomThen (roomOf e prog b (logEnd es) (logEndTag es))
+    (cond (coincides e allOnes (logEndTag es) is (checkTag e (checkSize prog (checkAt es is)))) (refused Coincidence)
     (accepted second is (checkSize prog (checkAt es is)))))
 
 -- "-201 | an entry is bad"
@@ -138,11 +143,11 @@ judgedBy (good c) v = v
 
 -- "-202 | the committed log isn't regular", by the rule that was asked for, before -201. Entries run against the count
 -- by document 01's rules, whichever it was.
-unfoldable pub appended : Rules → ℕ → Bool → List ℕ → List Event → List Entry → List ℕ → Verdict
-appended r prog second b es entries dat =
+unfoldable pub appended : Rules → ℕ → ℕ → Bool → List ℕ → List Event → List Entry → List ℕ → Verdict
+appended r e prog second b es entries dat =
     cond (not (Regular r es)) (refused Irregular)
     (judgedBy (judge dat 0 (countOf 0 es) entries)
-    (placed prog second b es (withForward prog (length b) (logEnd es) (itemsOf dat entries))))
+    (placed e prog second b es (withForward e prog (length b) (logEnd es) (itemsOf dat entries))))
 
 -- The record's pair has the answering block's number first.
 abbrev pub isSecond : ℕ → LfsMdir → Bool
@@ -154,11 +159,11 @@ fetchedThen (fetched.Refused r) on = refused r
 fetchedThen (fetched.Found m s) on = on m
 
 -- "Commit: -22, fetch's own refusals, -202, -201, -28, -203, -204", with L1's three in -203's place.
-unfoldable pub verdictOf : Geometry → List ℕ → List ℕ → ℕ → ℕ → ℕ → ℕ → ℕ → List Entry → List ℕ → Verdict
-verdictOf g b0 b1 n0 n1 count seed rules entries dat =
-    cond (not (commitFits g (length b0) (length b1) n0 n1 rules (length entries) (length dat))) (refused Invalid)
+unfoldable pub verdictOf : Geometry → List ℕ → List ℕ → ℕ → ℕ → ℕ → ℕ → ℕ → ℕ → List Entry → List ℕ → Verdict
+verdictOf g b0 b1 n0 n1 count seed rules e entries dat =
+    cond (not (commitFits g (length b0) (length b1) n0 n1 rules e (length entries) (length dat))) (refused Invalid)
     (fetchedThen (fetchOf g b0 b1 n0 n1 count seed)
-    (λ m. appended (rulesOf rules) (g .«prog_size») (isSecond n0 m) (blockAt (isSecond n0 m) b0 b1)
+    (λ m. appended (rulesOf rules) e (g .«prog_size») (isSecond n0 m) (blockAt (isSecond n0 m) b0 b1)
     (log (blockAt (isSecond n0 m) b0 b1)) entries dat))
 
 -- ---- what both calls leave and answer
@@ -170,14 +175,14 @@ abbrev pub images : List ℕ → List ℕ → Images
 images x y = record { b0 = x; b1 = y }
 
 -- a block after the first n of a commit's stores, or after all, "if n is larger"
-abbrev pub storedTo : List ℕ → List Item → ℕ → ℕ → List ℕ
-storedTo b is size n = appending b (log b) is (checkTag size) (min n (allStores is))
+abbrev pub storedTo : ℕ → List ℕ → List Item → ℕ → ℕ → List ℕ
+storedTo e b is size n = appending b (log b) is (checkTag e size) (min n (allStores is))
 
 -- "No refusal .. changes an image"; an accepted call makes "exactly the first n" stores, in the block that answers.
-abbrev pub imagesAfter : ℕ → List ℕ → List ℕ → Verdict → Images
-imagesAfter n b0 b1 (refused r) = images b0 b1
-imagesAfter n b0 b1 (accepted false is size) = images (storedTo b0 is size n) b1
-imagesAfter n b0 b1 (accepted true is size) = images b0 (storedTo b1 is size n)
+abbrev pub imagesAfter : ℕ → ℕ → List ℕ → List ℕ → Verdict → Images
+imagesAfter e n b0 b1 (refused r) = images b0 b1
+imagesAfter e n b0 b1 (accepted false is size) = images (storedTo e b0 is size n) b1
+imagesAfter e n b0 b1 (accepted true is size) = images b0 (storedTo e b1 is size n)
 
 -- all stores: no commit or compaction that is accepted has more than a block has bytes, and the erase
 abbrev pub unlimited : ℕ
@@ -197,17 +202,17 @@ abbrev pub storesMade : ℕ → Verdict → Stored
 storesMade n (refused r) = stored.Refused r
 storesMade n (accepted second is size) = stored.Made (min n (allStores is))
 
-module _ (g : Geometry) (b0 b1 : List ℕ) (n0 n1 count seed rules : ℕ) (entries : List Entry) (dat : List ℕ) where
+module _ (g : Geometry) (b0 b1 : List ℕ) (n0 n1 count seed rules e : ℕ) (entries : List Entry) (dat : List ℕ) where
   -- the images after n stores: of the call with a limit, and, all stores made, of `lfs_dir_commit`
   unfoldable pub commitImages : ℕ → Images
-  commitImages n = imagesAfter n b0 b1 (verdictOf g b0 b1 n0 n1 count seed rules entries dat)
+  commitImages n = imagesAfter e n b0 b1 (verdictOf g b0 b1 n0 n1 count seed rules e entries dat)
 
   -- `lfs_dir_commit`
   unfoldable pub commitOf : Committed
   commitOf =
       answerOf (fetchOf g (commitImages unlimited .b0) (commitImages unlimited .b1) n0 n1 count seed)
-      (verdictOf g b0 b1 n0 n1 count seed rules entries dat)
+      (verdictOf g b0 b1 n0 n1 count seed rules e entries dat)
 
   -- `lfs_dir_commit_stores`
   unfoldable pub commitStoresOf : ℕ → Stored
-  commitStoresOf n = storesMade n (verdictOf g b0 b1 n0 n1 count seed rules entries dat)
+  commitStoresOf n = storesMade n (verdictOf g b0 b1 n0 n1 count seed rules e entries dat)

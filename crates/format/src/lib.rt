@@ -93,8 +93,8 @@ pub enum Refusal {
     NoSpace,
     // -211: the old end is no multiple of the program size
     Misaligned,
-    // -212: the end tag's top bit is set
-    TopBit,
+    // -212: the end tag has the wrong validity bit for the erased byte
+    WrongValidity,
     // -213: the block offset of the first byte behind the end that isn't erased
     NotErased(u32),
     // -204: the checksum coincidence

@@ -9,7 +9,7 @@ use denote.Enum.Declared.{tagOf}
 use Rattle.format.specs.Answer.{refusalMdir, refusalSeed, refusalIndex, zeroMdir}
 use Rattle.format.specs.declared.Refusal.{Refusal}
 use Rattle.format.specs.declared.Refusal.the-variants.{Invalid, Corrupt, NoEntry, TooMany, BadEntry, Irregular, NoSpace}
-use Rattle.format.specs.declared.Refusal.the-variants.{Misaligned, TopBit, NotErased, Coincidence}
+use Rattle.format.specs.declared.Refusal.the-variants.{Misaligned, WrongValidity, NotErased, Coincidence}
 use Rattle.format.proofs.Refusal.{the-type}
 
 -- all but TooMany: no record, and the seed as it was given
@@ -23,7 +23,7 @@ unread seed (BadEntry i) h = (refl, refl)
 unread seed Irregular h = (refl, refl)
 unread seed NoSpace h = (refl, refl)
 unread seed Misaligned h = (refl, refl)
-unread seed TopBit h = (refl, refl)
+unread seed WrongValidity h = (refl, refl)
 unread seed (NotErased at) h = (refl, refl)
 unread seed Coincidence h = (refl, refl)
 
@@ -37,6 +37,6 @@ unindexed (BadEntry i) h = absurd (miss (0 ∷ 1 ∷ 2 ∷ 3 ∷ 5 ∷ 6 ∷ 7 �
 unindexed Irregular h = refl
 unindexed NoSpace h = refl
 unindexed Misaligned h = refl
-unindexed TopBit h = refl
+unindexed WrongValidity h = refl
 unindexed (NotErased at) h = absurd (miss (0 ∷ 1 ∷ 2 ∷ 3 ∷ 5 ∷ 6 ∷ 7 ∷ 8 ∷ 10 ∷ []) 9 tt h)
 unindexed Coincidence h = refl

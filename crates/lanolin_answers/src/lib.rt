@@ -95,7 +95,7 @@ pub fn number(r: Refusal) -> i32
         Refusal::Irregular => -202,
         Refusal::NoSpace => -28,
         Refusal::Misaligned => -211,
-        Refusal::TopBit => -212,
+        Refusal::WrongValidity => -212,
         Refusal::NotErased(_) => -213,
         Refusal::Coincidence => -204,
     }

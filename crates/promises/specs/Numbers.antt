@@ -25,7 +25,7 @@ use Rattle.format.specs.declared.LfsMdir.{LfsMdir}
 use Rattle.format.specs.declared.LfsGstate.{LfsGstate}
 use Rattle.format.specs.declared.Refusal.{Refusal}
 use Rattle.format.specs.declared.Refusal.the-variants.{Invalid, Corrupt, NoEntry, TooMany}
-use Rattle.format.specs.declared.Refusal.the-variants.{BadEntry, Irregular, NoSpace, Misaligned, TopBit, NotErased}
+use Rattle.format.specs.declared.Refusal.the-variants.{BadEntry, Irregular, NoSpace, Misaligned, WrongValidity, NotErased}
 use Rattle.format.specs.declared.Refusal.the-variants.{Coincidence}
 use Rattle.format.specs.declared.Fetched.{Fetched}
 use Rattle.format.specs.declared.Fetched.the-variants as fetched
@@ -69,7 +69,7 @@ refusalFrom two number index =
     (cond (eqb (below number) 202) Irregular
     (cond (eqb (below number) 28) NoSpace
     (cond (eqb (below number) 211) Misaligned
-    (cond (eqb (below number) 212) TopBit
+    (cond (eqb (below number) 212) WrongValidity
     (cond (eqb (below number) 213) (NotErased index) Coincidence))))))))
 
 -- 0 is no refusal

@@ -17,7 +17,7 @@ use Rattle.format.specs.declared.Geometry.{Geometry}
 use Rattle.format.specs.declared.LfsMdir.{LfsMdir}
 use Rattle.format.specs.declared.Refusal.{Refusal}
 use Rattle.format.specs.declared.Refusal.the-variants.{Invalid, Corrupt, NoEntry, TooMany}
-use Rattle.format.specs.declared.Refusal.the-variants.{BadEntry, Irregular, NoSpace, Misaligned, TopBit, NotErased}
+use Rattle.format.specs.declared.Refusal.the-variants.{BadEntry, Irregular, NoSpace, Misaligned, WrongValidity, NotErased}
 use Rattle.format.specs.declared.Refusal.the-variants.{Coincidence}
 use Rattle.format.specs.declared.Fetched.{Fetched}
 use Rattle.format.specs.declared.Fetched.the-variants as fetched
@@ -72,7 +72,7 @@ pub data CommitRefuses : Refusal → Type 0 where
   commit201 : {i : ℕ} → CommitRefuses (BadEntry i)
   commit28 : CommitRefuses NoSpace
   commit211 : CommitRefuses Misaligned
-  commit212 : CommitRefuses TopBit
+  commit212 : CommitRefuses WrongValidity
   commit213 : {at : ℕ} → CommitRefuses (NotErased at)
   commit204 : CommitRefuses Coincidence
 

@@ -14,7 +14,7 @@ use Rattle.format.specs.Tag.{tagValid}
 use Rattle.format.specs.Stores.{allErased}
 use Rattle.format.specs.Room.{roomClean, erasedRun, firstUnerased, roomOf}
 use Rattle.format.specs.declared.Refusal.{Refusal}
-use Rattle.format.specs.declared.Refusal.the-variants.{Misaligned, TopBit, NotErased}
+use Rattle.format.specs.declared.Refusal.the-variants.{Misaligned, WrongValidity, NotErased}
 use Rattle.format.specs.declared.Room.the-variants.{Clean, Refused}
 use Rattle.format.proofs.Refusals.{misaligned-first, top-bit-next, byte-last}
 use Rattle.format.proofs.Rooms.{tested, room-tested, clean-holds, holds-clean, run-before, run-all, run-ends}
@@ -107,7 +107,7 @@ module _ (prog : ℕ) (b : List ℕ) (end etag : ℕ) where
   told-misaligned true true false h = cc
   told-misaligned true true true h = cc
 
-  told-top-bit : (a p e : Bool) → Tells TopBit a p e → (a ≡ true) × (p ≡ false)
+  told-top-bit : (a p e : Bool) → Tells WrongValidity a p e → (a ≡ true) × (p ≡ false)
   told-top-bit false p e h = (cc, cc)
   told-top-bit true false e h = (refl, refl)
   told-top-bit true true false h = (cc, cc)
@@ -127,12 +127,12 @@ module _ (prog : ℕ) (b : List ℕ) (end etag : ℕ) where
     misaligned-first prog b end etag,
   )
 
-  top-bit-then : roomOf prog b end etag ≡ Refused TopBit → (end % prog ≡ 0) × (2 ^ 31 ≤ etag)
-  top-bit-then h = let t = told-top-bit aligned plain all (told TopBit h) in
+  top-bit-then : roomOf prog b end etag ≡ Refused WrongValidity → (end % prog ≡ 0) × (2 ^ 31 ≤ etag)
+  top-bit-then h = let t = told-top-bit aligned plain all (told WrongValidity h) in
       (eqb-true (end % prog) 0 (t .0), ltb-false etag (2 ^ 31) (t .1))
 
   -- -212 behind an end that is one, whatever the bytes
-  pub top-bit-exactly : (roomOf prog b end etag ≡ Refused TopBit) ↔ ((end % prog ≡ 0) × (2 ^ 31 ≤ etag))
+  pub top-bit-exactly : (roomOf prog b end etag ≡ Refused WrongValidity) ↔ ((end % prog ≡ 0) × (2 ^ 31 ≤ etag))
   top-bit-exactly = (top-bit-then, λ h. top-bit-next prog b end etag (h .0) (h .1))
 
   -- k is the block offset of the first byte from the old end on that isn't erased

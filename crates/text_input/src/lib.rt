@@ -58,7 +58,7 @@ fn number_of(r: Refusal) -> u32
         Refusal::Irregular => 202,
         Refusal::NoSpace => 28,
         Refusal::Misaligned => 211,
-        Refusal::TopBit => 212,
+        Refusal::WrongValidity => 212,
         Refusal::NotErased(_) => 213,
         Refusal::Coincidence => 204,
     }

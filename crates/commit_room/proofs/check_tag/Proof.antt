@@ -1,7 +1,7 @@
 -- `commit_room::check_tag` meets its contract: the size is what is between the tag and the rounded end. Assumes
 -- nothing.
 use native.Mathlib.Omega.{arith}
-use Rattle.commit_room.proofs.Ends.{end-behind, tag-is}
+use Rattle.commit_room.proofs.Ends.{end-behind, tag-flips, tag-plain}
 use borrow.Author.Needs.{needs}
 use Rattle.commit_room.proofs.check_tag.Statement.{statement}
 use Rattle.commit_room.proofs.check_tag.Tie as tie

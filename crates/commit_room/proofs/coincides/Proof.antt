@@ -5,7 +5,7 @@ use Rattle.commit_room.proofs.coincides.Statement.{statement}
 use Rattle.commit_room.proofs.coincides.Tie as tie
 
 returns : tie.Need-returns
-returns c = three (c .before .before .before .before .before .before .before .args .sum)
+returns c = three _ (c .before .before .before .before .before .before .before .args .sum)
     (c .before .before .before .before .before .before .before .args .word) _ _ _ _
     (c .before .before .before .before .before .before .be-bytes .ensures)
     (c .before .before .before .before .lfs-crc .ensures) (c .before .before .lfs-crc2 .ensures)

@@ -11,24 +11,24 @@ use Rattle.commit_room.proofs.first_unerased.Statement.{statement}
 use Rattle.commit_room.proofs.first_unerased.Tie as tie
 
 abbrev Inv-loop : tie.InvT-loop
-Inv-loop b end i₀ i = firstUnerased b end ≡ firstUnerased b i
+Inv-loop e b end i₀ i = firstUnerased e b end ≡ firstUnerased e b i
 
 abbrev μ-loop : tie.MeasureT-loop
-μ-loop b end i₀ i = length b - i
+μ-loop e b end i₀ i = length b - i
 
 loop-holds : tie.Need-loop-holds Inv-loop μ-loop
 loop-holds c = sym (c .past-eights .ensures)
 
 returns : tie.Need-returns Inv-loop μ-loop
-returns c = unerased-here _ _ (c .before .before .loop-test .taken) (c .if1 .taken)
+returns c = unerased-here _ _ _ (c .before .before .loop-test .taken) (c .if1 .taken)
     ∙ sym (c .before .before .before .loop .inv)
 
 loop-again : tie.Need-loop-again Inv-loop μ-loop
-loop-again c = c .before .before .before .loop .inv ∙ unerased-on _ _ (c .before .before .loop-test .taken)
+loop-again c = c .before .before .before .loop .inv ∙ unerased-on _ _ _ (c .before .before .loop-test .taken)
     (c .if1 .left)
 
 returns-2 : tie.Need-returns-2 Inv-loop μ-loop
-returns-2 c = unerased-end _ _ (c .loop-test .left) ∙ sym (c .before .loop .inv)
+returns-2 c = unerased-end _ _ _ (c .loop-test .left) ∙ sym (c .before .loop .inv)
 
 pub first-unerased-spec : {M : Type 1} → statement M
 first-unerased-spec =

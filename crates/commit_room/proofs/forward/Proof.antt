@@ -23,10 +23,10 @@ add-if1 c = omega (
 )
 
 returns : tie.Need-returns
-returns c = forward-none _ _ _ _ (c .before .rounded-end .ensures) (c .if1 .taken)
+returns c = forward-none _ _ _ _ _ (c .before .rounded-end .ensures) (c .if1 .taken)
 
 returns-2 : tie.Need-returns-2
-returns-2 c = forward-made _ _ _ _ (c .before .before .rounded-end .ensures) _ (c .before .if1 .left)
+returns-2 c = forward-made _ _ _ _ _ (c .before .before .rounded-end .ensures) _ (c .before .if1 .left)
     (c .unit-sum .ensures)
 
 pub forward-spec : {M : Type 1} → statement M

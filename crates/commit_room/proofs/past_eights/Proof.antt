@@ -12,10 +12,10 @@ use Rattle.commit_room.proofs.past_eights.Statement.{statement}
 use Rattle.commit_room.proofs.past_eights.Tie as tie
 
 abbrev Inv-loop : tie.InvT-loop
-Inv-loop b end i₀ i = firstUnerased b i ≡ firstUnerased b i₀
+Inv-loop e b end i₀ i = firstUnerased e b i ≡ firstUnerased e b i₀
 
 abbrev μ-loop : tie.MeasureT-loop
-μ-loop b end i₀ i = length b - i
+μ-loop e b end i₀ i = length b - i
 
 loop-holds : tie.Need-loop-holds Inv-loop μ-loop
 loop-holds c = refl
@@ -27,7 +27,7 @@ returns-2 : tie.Need-returns-2 Inv-loop μ-loop
 returns-2 c = c .before .before .before .before .before .before .before .before .before .before .before .loop .inv
 
 loop-again : tie.Need-loop-again Inv-loop μ-loop
-loop-again c = sym (eight-on _ _ (omega arith) (not-false _ (c .if2 .left)))
+loop-again c = sym (eight-on _ _ _ (omega arith) (not-false _ (c .if2 .left)))
     ∙ c .before .before .before .before .before .before .before .before .before .before .before .loop .inv
 
 returns-3 : tie.Need-returns-3 Inv-loop μ-loop

@@ -2,7 +2,7 @@
 -- Assumes nothing.
 use mathlib.Core.Path.{_≡_, refl, sym, ap, _∙_}
 use mathlib.Core.Logic.{_≢_, _⊎_, inl}
-use mathlib.Core.Bool.{Bool}
+use mathlib.Core.Bool.{Bool, true}
 use mathlib.Core.List.{List, [], _∷_, _++_, append-assoc}
 use Prim.Native.Nat.{ℕ, zero, suc, _+_, _-_, _^_, _≤_, _<_}
 use native.Mathlib.Omega.{arith}
@@ -15,41 +15,38 @@ use Rattle.format.specs.Walk.{Event, chk}
 use Rattle.format.specs.Log.{log, logEnd, logEndTag}
 use Rattle.format.specs.View.{at}
 use Rattle.format.specs.Commit.{Item, commitBytes, commitSum, written}
-use Rattle.format.specs.Stores.{erased, fill, entriesLength, appending}
+use Rattle.format.specs.Erased.{erased, validityFits}
+use Rattle.format.specs.Stores.{fill, entriesLength, appending}
 use Rattle.format.specs.Directory.{Act, skip, apply, Slot, act, acts, dirOf, applyAll}
 use Rattle.format.proofs.Words.{length-toBe32, length-toLe32}
+use Rattle.format.proofs.Erased.{Erases}
 use Rattle.theory.specs.Walk.Locality.{AllContained}
 use Rattle.theory.specs.Walk.ReadBack.{AllGood, GoodCheck}
-use Rattle.theory.specs.Walk.Erased.{erased-append}
+use Rattle.theory.specs.Walk.Erased.{quiet-end, erased-append, drop-erased-is}
 use Rattle.theory.specs.Walk.Cut.{NoCoincidence}
 use Rattle.theory.specs.Log.Stores.{Appends, room, filled, commitEvents}
 use Rattle.theory.specs.Log.TwoBlocks.{viewAt, crash-append, done-append}
 use Rattle.theory.specs.Directory.Acts.{dirOf-app}
 
 -- k bytes stored over erased ones
-pub fill-take : (k : ℕ) (N : List ℕ) (m n : ℕ) → k ≤ length N → n ≡ length N - k + m
-    → fill k N ++ erased m ≡ take k N ++ erased n
+pub fill-take : (e k : ℕ) (N : List ℕ) (m n : ℕ) → k ≤ length N → n ≡ length N - k + m
+    → fill e k N ++ erased e m ≡ take k N ++ erased e n
 unfolding fill
-fill-take zero N m n h e = let q : length N + m ≡ n = omega arith in rw (erased-append (length N) m, q)
-fill-take (suc k) [] m n h e = absurd (omega arith)
-fill-take (suc k) (x ∷ N) m n h e = ap (λ z. x ∷ z) (fill-take k N m n (omega arith) (omega arith))
+fill-take e zero N m n h s = let q : length N + m ≡ n = omega arith in rw (erased-append e (length N) m, q)
+fill-take e (suc k) [] m n h s = absurd (omega arith)
+fill-take e (suc k) (x ∷ N) m n h s = ap (λ z. x ∷ z) (fill-take e k N m n (omega arith) (omega arith))
 
-pub fill-all : (k : ℕ) (N : List ℕ) → length N ≤ k → fill k N ≡ N
+pub fill-all : (e k : ℕ) (N : List ℕ) → length N ≤ k → fill e k N ≡ N
 unfolding fill
-fill-all zero [] h = refl
-fill-all zero (x ∷ N) h = absurd (omega arith)
-fill-all (suc k) [] h = refl
-fill-all (suc k) (x ∷ N) h = ap (λ z. x ∷ z) (fill-all k N (omega arith))
+fill-all e zero [] h = refl
+fill-all e zero (x ∷ N) h = absurd (omega arith)
+fill-all e (suc k) [] h = refl
+fill-all e (suc k) (x ∷ N) h = ap (λ z. x ∷ z) (fill-all e k N (omega arith))
 
-pub take-erased : (n k : ℕ) → n ≤ k → take n (erased k) ≡ erased n
-take-erased zero k h = refl
-take-erased (suc n) zero h = absurd (omega arith)
-take-erased (suc n) (suc k) h = ap (λ z. 0xff ∷ z) (take-erased n k (omega arith))
-
-pub drop-erased-is : (k n j : ℕ) → k ≤ n → j ≡ n - k → drop k (erased n) ≡ erased j
-drop-erased-is zero n j h e = let q : n ≡ j = omega arith in rw q
-drop-erased-is (suc k) zero j h e = absurd (omega arith)
-drop-erased-is (suc k) (suc n) j h e = drop-erased-is k n j (omega arith) (omega arith)
+pub take-erased : (e n k : ℕ) → n ≤ k → take n (erased e k) ≡ erased e n
+take-erased e zero k h = refl
+take-erased e (suc n) zero h = absurd (omega arith)
+take-erased e (suc n) (suc k) h = ap (λ z. e ∷ z) (take-erased e n k (omega arith))
 
 pub length-commit : (is : List Item) (sum p ct : ℕ) → AllGood is
     → length (commitBytes sum p is ct) ≡ entriesLength is + 8
@@ -68,64 +65,65 @@ length-commit (i ∷ is) sum p ct g =
     rw (length-append (toBe32 w) (i .body ++ N), length-append (i .body) N, length-toBe32 w, ih)
     (omega (arith, g .0 .long))
 
--- a commit of `is` with check tag ct is accepted on the block b whose log is es
-pub record AppendOk (b : List ℕ) (es : List Event) (is : List Item) (ct : ℕ) : Type 0 where
+-- a commit of `is` with check tag ct is accepted on the block b whose log is es, over the erased byte e
+pub record AppendOk (e : ℕ) (b : List ℕ) (es : List Event) (is : List Item) (ct : ℕ) : Type 0 where
+  pub byte : Erases e
   pub old : log b ≡ es
   pub nonempty : es ≢ []
   pub reg : AllContained es
   pub items : AllGood is
   pub check : GoodCheck ct
-  pub plain : tagFlipped ct < 2 ^ 31
+  pub flips : validityFits e (tagFlipped ct) ≡ true
   pub fits : logEnd es + entriesLength is + tagLength ct ≤ length b
-  pub clean : drop (logEnd es) b ≡ erased (length b - (logEnd es))
-  pub top : logEndTag es < 2 ^ 31
-  pub lucky : NoCoincidence allOnes (logEndTag es) is ct
+  pub clean : drop (logEnd es) b ≡ erased e (length b - (logEnd es))
+  pub validity : validityFits e (logEndTag es) ≡ true
+  pub lucky : NoCoincidence e allOnes (logEndTag es) is ct
 
-pub appends : (b : List ℕ) (es : List Event) (is : List Item) (ct : ℕ) → AppendOk b es is ct
-    → Appends (take (logEnd es) b) (length b - (logEnd es)) es is ct (length b - (logEnd es) - (entriesLength is + 8))
-appends b es is ct a =
+pub appends : (e : ℕ) (b : List ℕ) (es : List Event) (is : List Item) (ct : ℕ) → AppendOk e b es is ct
+    → Appends e (take (logEnd es) b) (length b - (logEnd es)) es is ct (length b - (logEnd es) - (entriesLength is + 8))
+appends e b es is ct a =
     record {
       old = rw (← a .clean, take-append-drop (logEnd es) b) (a .old);
       nonempty = a .nonempty;
       reg = a .reg;
       end = length-take-le (logEnd es) b (omega (arith, a .fits));
       fits = record {
+        byte = a .byte;
         items = a .items;
         check = a .check;
-        plain = a .plain;
+        flips = a .flips;
         room = omega (arith, a .fits, a .check .long);
-        start = inl (a .top);
+        start = quiet-end e (a .byte) (logEndTag es) (a .validity);
         lucky = a .lucky;
       };
       all = omega (arith, a .fits, a .check .long, length-commit is allOnes (logEndTag es) ct (a .items));
     }
 
-as-room : (b : List ℕ) (es : List Event) (is : List Item) (ct k : ℕ) → AppendOk b es is ct → k ≤ entriesLength is + 8
-    → appending b es is ct k ≡ take (logEnd es) b ++ room allOnes (logEndTag es) is ct
+as-room : (e : ℕ) (b : List ℕ) (es : List Event) (is : List Item) (ct k : ℕ) → AppendOk e b es is ct → k ≤ entriesLength is + 8
+    → appending b es is ct k ≡ take (logEnd es) b ++ room e allOnes (logEndTag es) is ct
     (length b - (logEnd es) - (entriesLength is + 8)) k
 unfolding appending room
-as-room b es is ct k a h =
-    let e : ℕ = logEnd es in
+as-room e b es is ct k a h =
     let N : List ℕ = commitBytes allOnes (logEndTag es) is ct in
     let M : ℕ = length b - (logEnd es) in
     let l : length N ≡ entriesLength is + 8 = length-commit is allOnes (logEndTag es) ct (a .items) in
     let big : entriesLength is + 8 ≤ length b - (logEnd es) = omega (arith, a .fits, a .check .long) in
-    let d : drop (logEnd es + k) b ≡ erased (length b - (logEnd es) - k) = sym (drop-drop k (logEnd es) b)
-    ∙ rw (a .clean) (drop-erased-is k M (length b - (logEnd es) - k) (omega arith) refl) in
-    rw (d, append-assoc (take e b) (take k N) (erased (length b - (logEnd es) - k)))
-    (ap (λ z. take e b ++ z) (sym (fill-take k N (length b - (logEnd es) - (entriesLength is + 8))
+    let d : drop (logEnd es + k) b ≡ erased e (length b - (logEnd es) - k) = sym (drop-drop k (logEnd es) b)
+    ∙ rw (a .clean) (drop-erased-is e k M (length b - (logEnd es) - k) (omega arith) refl) in
+    rw (d, append-assoc (take (logEnd es) b) (take k N) (erased e (length b - (logEnd es) - k)))
+    (ap (λ z. take (logEnd es) b ++ z) (sym (fill-take e k N (length b - (logEnd es) - (entriesLength is + 8))
     (length b - (logEnd es) - k) (omega arith) (omega arith))))
 
-pub as-filled : (b : List ℕ) (es : List Event) (is : List Item) (ct : ℕ) → AppendOk b es is ct
-    → appending b es is ct (entriesLength is + 8) ≡ take (logEnd es) b ++ filled allOnes (logEndTag es) is ct
+pub as-filled : (e : ℕ) (b : List ℕ) (es : List Event) (is : List Item) (ct : ℕ) → AppendOk e b es is ct
+    → appending b es is ct (entriesLength is + 8) ≡ take (logEnd es) b ++ filled e allOnes (logEndTag es) is ct
     (length b - (logEnd es) - (entriesLength is + 8))
 unfolding room filled
-as-filled b es is ct a =
+as-filled e b es is ct a =
     let N : List ℕ = commitBytes allOnes (logEndTag es) is ct in
     let l : length N ≡ entriesLength is + 8 = length-commit is allOnes (logEndTag es) ct (a .items) in
-    as-room b es is ct (entriesLength is + 8) a (omega arith)
-    ∙ ap (λ z. take (logEnd es) b ++ (z ++ erased (length b - (logEnd es) - (entriesLength is + 8))))
-    (fill-all (entriesLength is + 8) N (omega arith))
+    as-room e b es is ct (entriesLength is + 8) a (omega arith)
+    ∙ ap (λ z. take (logEnd es) b ++ (z ++ erased e (length b - (logEnd es) - (entriesLength is + 8))))
+    (fill-all e (entriesLength is + 8) N (omega arith))
 
 -- the acts of a commit's entries
 unfoldable pub itemActs : List Item → List Act
@@ -159,18 +157,17 @@ pub record AfterAppend (w : Bool) (o : List ℕ) (v : ℕ) (es : List Event) (is
   pub finished : viewAt w done o ≡ at w v (es ++ commitEvents allOnes (logEndTag es) is ct)
   pub applied : dirOf (es ++ commitEvents allOnes (logEndTag es) is ct) ≡ applyAll (dirOf es) (itemActs is)
 
-pub demand3-append : (w : Bool) (b o : List ℕ) (v : ℕ) (es : List Event) (is : List Item) (ct k : ℕ)
-    → viewAt w b o ≡ at w v es → AppendOk b es is ct → k ≤ entriesLength is + 8
+pub demand3-append : (e : ℕ) (w : Bool) (b o : List ℕ) (v : ℕ) (es : List Event) (is : List Item) (ct k : ℕ)
+    → viewAt w b o ≡ at w v es → AppendOk e b es is ct → k ≤ entriesLength is + 8
     → AfterAppend w o v es is ct (appending b es is ct k) (appending b es is ct (entriesLength is + 8))
-demand3-append w b o v es is ct k h a hk =
-    let e : ℕ = logEnd es in
+demand3-append e w b o v es is ct k h a hk =
     let m : ℕ = length b - (logEnd es) - (entriesLength is + 8) in
     let M : ℕ = length b - (logEnd es) in
-    let h′ : viewAt w (take (logEnd es) b ++ erased (length b - (logEnd es))) o ≡ at w v es =
+    let h′ : viewAt w (take (logEnd es) b ++ erased e (length b - (logEnd es))) o ≡ at w v es =
     rw (← a .clean, take-append-drop (logEnd es) b) h in
     record {
-      either = rw (as-room b es is ct k a hk, as-filled b es is ct a)
-          (crash-append w o (take e b) M v es is ct m k h′ (appends b es is ct a));
-      finished = rw (as-filled b es is ct a) (done-append w o (take e b) M v es is ct m h′ (appends b es is ct a));
+      either = rw (as-room e b es is ct k a hk, as-filled e b es is ct a)
+          (crash-append e w o (take (logEnd es) b) M v es is ct m k h′ (appends e b es is ct a));
+      finished = rw (as-filled e b es is ct a) (done-append e w o (take (logEnd es) b) M v es is ct m h′ (appends e b es is ct a));
       applied = commit-dir es allOnes (logEndTag es) is ct;
     }

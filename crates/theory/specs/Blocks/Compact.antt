@@ -13,16 +13,18 @@ use Rattle.format.specs.Crc.{crc}
 use Rattle.format.specs.Walk.{Event}
 use Rattle.format.specs.View.{at}
 use Rattle.format.specs.Commit.{Item, commitBytes}
-use Rattle.format.specs.Stores.{erased, entriesLength, compactBytes, compacted, compacting}
+use Rattle.format.specs.Erased.{erased}
+use Rattle.format.specs.Stores.{entriesLength, compactBytes, compacted, compacting}
 use Rattle.format.specs.Directory.{skip, Slot, apply, Act, dir, act, acts, dirOf, applyAll}
 use Rattle.format.proofs.Words.{length-toLe32}
 use Rattle.theory.specs.Walk.ReadBack.{AllGood}
+use Rattle.theory.specs.Walk.Erased.{drop-erased-is}
 use Rattle.theory.specs.Log.Stores.{commitEvents, CommitFits}
 use Rattle.theory.specs.Log.TwoBlocks.{viewAt, crash-compact, done-compact}
 use Rattle.theory.specs.Directory.Machine.{mostSlots}
 use Rattle.theory.specs.Directory.Rebuild.{rebuild, rebuilt}
 use Rattle.theory.specs.Directory.Acts.{applyAll-app, dir-rev}
-use Rattle.theory.specs.Blocks.Append.{itemActs, commit-dir, length-commit, fill-take, drop-erased-is}
+use Rattle.theory.specs.Blocks.Append.{itemActs, commit-dir, length-commit, fill-take}
 use Rattle.theory.specs.Blocks.ActItems.{toItem, items-good, ok-rev, AllOk, items-acts}
 use Rattle.theory.specs.Blocks.SlotItems.{OkSlots, rebuild-ok, all-held, PutsOk, ok-dirOf}
 
@@ -80,30 +82,30 @@ pub record AfterCompact (w : Bool) (x : List ℕ) (v : ℕ) (es : List Event) (i
       (commitEvents (crc allOnes (toLe32 (plus32 v 1))) allOnes is ct)
   pub same : dirOf (commitEvents (crc allOnes (toLe32 (plus32 v 1))) allOnes is ct) ≡ dirOf es
 
-pub demand3-compact : (w : Bool) (x o : List ℕ) (v : ℕ) (es : List Event) (ts : List Item) (ct m n : ℕ)
+pub demand3-compact : (e : ℕ) (w : Bool) (x o : List ℕ) (v : ℕ) (es : List Event) (ts : List Item) (ct m n : ℕ)
     → viewAt w x o ≡ at w v es → v < 2 ^ 32 → PutsOk (acts es) → length (dirOf es) ≤ mostSlots → Still ts
-    → CommitFits (crc allOnes (toLe32 (plus32 v 1))) allOnes (compactItems (dirOf es) ts) ct m
+    → CommitFits e (crc allOnes (toLe32 (plus32 v 1))) allOnes (compactItems (dirOf es) ts) ct m
     → AfterCompact w x v es (compactItems (dirOf es) ts) ct
-    (compacting o (plus32 v 1) (compactItems (dirOf es) ts) ct m n)
-    (compacted (plus32 v 1) (compactItems (dirOf es) ts) ct m)
+    (compacting e o (plus32 v 1) (compactItems (dirOf es) ts) ct m n)
+    (compacted e (plus32 v 1) (compactItems (dirOf es) ts) ct m)
 unfolding dirOf dir acts
-demand3-compact w x o v es ts ct m n h small ok few st f =
+demand3-compact e w x o v es ts ct m n h small ok few st f =
     record {
-      either = crash-compact w x o v es (compactItems (dirOf es) ts) ct m n h f;
-      finished = done-compact w x o v es (compactItems (dirOf es) ts) ct m h small f;
+      either = crash-compact e w x o v es (compactItems (dirOf es) ts) ct m n h f;
+      finished = done-compact e w x o v es (compactItems (dirOf es) ts) ct m h small f;
       same = commit-dir [] (crc allOnes (toLe32 (plus32 v 1))) allOnes (compactItems (dirOf es) ts) ct
           ∙ compact-acts (dirOf es) ts (ok-dirOf es ok) (omega arith) st;
     }
 
 -- DEMAND 3, COMPACTION: the stores. After the erase, k single bytes rising over a block of B erased bytes
-pub compact-stores : (B rev : ℕ) (o : List ℕ) (is : List Item) (ct k : ℕ) → AllGood is → 4 + (entriesLength is + 8) ≤ B
+pub compact-stores : (e B rev : ℕ) (o : List ℕ) (is : List Item) (ct k : ℕ) → AllGood is → 4 + (entriesLength is + 8) ≤ B
     → k ≤ 4 + (entriesLength is + 8)
-    → compacting o rev is ct (B - (4 + (entriesLength is + 8))) (suc k) ≡ paste (erased B) 0 (compactBytes rev is ct) k
+    → compacting e o rev is ct (B - (4 + (entriesLength is + 8))) (suc k) ≡ paste (erased e B) 0 (compactBytes rev is ct) k
 unfolding compacting compactBytes
-compact-stores B rev o is ct k g fits h =
+compact-stores e B rev o is ct k g fits h =
     let N : List ℕ = toLe32 rev ++ commitBytes (crc allOnes (toLe32 rev)) allOnes is ct in
     let l : length N ≡ 4 + (entriesLength is + 8) =
     length-append (toLe32 rev) (commitBytes (crc allOnes (toLe32 rev)) allOnes is ct)
     ∙ ap₂ (λ x y. x + y) (length-toLe32 rev) (length-commit is (crc allOnes (toLe32 rev)) allOnes ct g) in
-    fill-take k N (B - (4 + (entriesLength is + 8))) (B - k) (omega arith) (omega arith)
-    ∙ ap (λ z. take k N ++ z) (sym (rw (zero-add k) (drop-erased-is k B (B - k) (omega arith) refl)))
+    fill-take e k N (B - (4 + (entriesLength is + 8))) (B - k) (omega arith) (omega arith)
+    ∙ ap (λ z. take k N ++ z) (sym (rw (zero-add k) (drop-erased-is e k B (B - k) (omega arith) refl)))

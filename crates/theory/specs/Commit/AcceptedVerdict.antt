@@ -13,8 +13,7 @@ use lib.ListN.{length, drop}
 use lib.Dec.{leb, ltb, eqb}
 use borrow.Author.Tests.{leb-true, le-leb, ltb-false, not-false}
 use Rattle.format.specs.Word.{allOnes}
-use Rattle.format.specs.Tag.{tagValid, tagLength}
-use Rattle.format.specs.Kind.{typeCheck, noSlot}
+use Rattle.format.specs.Tag.{tagLength}
 use Rattle.format.specs.Walk.{Event}
 use Rattle.format.specs.Log.{log, logEnd, logEndTag}
 use Rattle.format.specs.Record.{countOf}
@@ -24,12 +23,13 @@ use Rattle.format.specs.Regular.{Regular, rulesFit, rulesOf}
 use Rattle.format.specs.declared.Rules.{Rules}
 use Rattle.format.specs.declared.Rules.the-variants.{Littlefs}
 use Rattle.format.specs.Commit.{Item, checkTag}
-use Rattle.format.specs.Stores.{allErased, entriesLength, coincides}
+use Rattle.format.specs.Erased.{erasedFits, allErased, validityFits}
+use Rattle.format.specs.Stores.{entriesLength, coincides}
 use Rattle.format.specs.Entries.{itemsOf, Judged, judge, bad, good}
 use Rattle.format.specs.Room.{roomClean, roomOf}
-use Rattle.format.specs.Writer.{checkLength, roundedEnd, checkSize, checkAt, mostData, mostEntries, commitFits}
+use Rattle.format.specs.Writer.{checkLength, roundedEnd, checkSize, checkAt, mostData, mostEntries, writesFit}
 use Rattle.format.specs.Writer.{Verdict, blockAt, roomThen, placed, judgedBy, appended, fetchedThen, verdictOf}
-use Rattle.format.specs.Writer.{withForward, refused, accepted}
+use Rattle.format.specs.Writer.{commitFits, withForward, refused, accepted}
 use Rattle.format.specs.declared.Geometry.{Geometry}
 use Rattle.format.specs.declared.LfsMdir.{LfsMdir}
 use Rattle.format.specs.declared.Entry.{Entry}
@@ -39,7 +39,6 @@ use Rattle.format.specs.declared.Room.{Room}
 use Rattle.format.specs.declared.Room.the-variants as room
 use Rattle.format.specs.declared.Fetched.{Fetched}
 use Rattle.format.specs.declared.Fetched.the-variants as fetched
-use Rattle.format.proofs.Tags.{of-length}
 use Rattle.format.proofs.Rooms.{clean-holds}
 use Rattle.format.proofs.Growing.{widest}
 use Rattle.theory.specs.Walk.Step.{both-true}
@@ -48,6 +47,7 @@ use Rattle.format.specs.Directory.{acts}
 use Rattle.theory.specs.Lookup.SlotCount.{slotsAfterAll}
 use Rattle.theory.specs.Commit.Tested.{regular-count}
 use Rattle.theory.specs.Commit.ForwardCheck.{with-made, with-hold}
+use Rattle.theory.specs.Blocks.OtherItems.{check-length}
 use Rattle.theory.specs.Rules.FetchCount.{regular-slots}
 use Rattle.theory.specs.Commit.Acceptance.{Accepts}
 use Rattle.theory.specs.Fetch.FoundRecord.{found-answers}
@@ -137,12 +137,18 @@ fits-prog g h =
     let u = both-true (leb 4 p) (leb p 512) (t .0) in
     (leb-true 4 p (u .0), leb-true p 512 (u .1))
 
-module _ (g : Geometry) (l0 l1 n0 n1 rules e d : ℕ) (fits : commitFits g l0 l1 n0 n1 rules e d ≡ true) where
+module _ (g : Geometry) (l0 l1 n0 n1 rules e k d : ℕ) (fits : commitFits g l0 l1 n0 n1 rules e k d ≡ true) where
+  parts : (pairFits g l0 l1 n0 n1 && leb d mostData && leb k mostEntries ≡ true) × (writesFit rules e ≡ true)
+  unfolding commitFits
+  parts = both-true (pairFits g l0 l1 n0 n1 && leb d mostData && leb k mostEntries) (writesFit rules e) fits
+
+  pub fits-byte : erasedFits e ≡ true
+  fits-byte = both-true (rulesFit rules) (erasedFits e) (parts .1) .1
+
   pub fits-images : imagesFit g l0 l1 ≡ true
-  unfolding commitFits pairFits
+  unfolding pairFits
   fits-images =
-      let f = both-true (pairFits g l0 l1 n0 n1 && leb d mostData && leb e mostEntries) (rulesFit rules) fits in
-      let r = both-true (pairFits g l0 l1 n0 n1 && leb d mostData) (leb e mostEntries) (f .0) in
+      let r = both-true (pairFits g l0 l1 n0 n1 && leb d mostData) (leb k mostEntries) (parts .0) in
       let s = both-true (pairFits g l0 l1 n0 n1) (leb d mostData) (r .0) in
       both-true (imagesFit g l0 l1) (not (eqb n0 n1)) (s .0) .0
 
@@ -152,25 +158,25 @@ module _ (g : Geometry) (l0 l1 n0 n1 rules e d : ℕ) (fits : commitFits g l0 l1
       both-true (geometryFits g) (eqb l0 (g .«block_size»)) (u .0) .0
 
 -- ---- the tests of good entries
-module _ (prog : ℕ) (some : 4 ≤ prog) (most : prog ≤ 512) (b : List ℕ) (es : List Event) (old : log b ≡ es)
+module _ (e : ℕ) (byte : erasedFits e ≡ true) (prog : ℕ) (some : 4 ≤ prog) (most : prog ≤ 512) (b : List ℕ) (es : List Event) (old : log b ≡ es)
     (nonempty : es ≢ []) (regular : Regular Littlefs es ≡ true) (dat : List ℕ) (entries : List Entry) (c : ℕ)
     (all : judge dat 0 (countOf 0 es) entries ≡ good c) where
   -- what is laid
   abbrev L : List Item
-  L = withForward prog (length b) (logEnd es) (itemsOf dat entries)
+  L = withForward e prog (length b) (logEnd es) (itemsOf dat entries)
 
-  placed-accepts : (second w : Bool) (is : List Item) (size : ℕ) → placed prog second b es L ≡ accepted w is size
-      → (w ≡ second) × (is ≡ L) × (size ≡ checkSize prog (checkAt es is)) × Accepts b es is size
+  placed-accepts : (second w : Bool) (is : List Item) (size : ℕ) → placed e prog second b es L ≡ accepted w is size
+      → (w ≡ second) × (is ≡ L) × (size ≡ checkSize prog (checkAt es is)) × Accepts e b es is size
   unfolding placed roomClean
   placed-accepts second w is size h =
-      let I : List Item = withForward prog (length b) (logEnd es) (itemsOf dat entries) in
+      let I : List Item = withForward e prog (length b) (logEnd es) (itemsOf dat entries) in
       let p = past (ltb (length b) (roundedEnd prog (checkAt es I))) NoSpace _ w is size h in
-      let q = past-room (roomOf prog b (logEnd es) (logEndTag es)) _ w is size (p .1) in
-      let r = past (coincides allOnes (logEndTag es) I (checkTag (checkSize prog (checkAt es I)))) Coincidence _ w is
+      let q = past-room (roomOf e prog b (logEnd es) (logEndTag es)) _ w is size (p .1) in
+      let r = past (coincides e allOnes (logEndTag es) I (checkTag e (checkSize prog (checkAt es I)))) Coincidence _ w is
       size (q .1) in
-      let clean = both-true (allErased (drop (logEnd es) b) && eqb (logEnd es % prog) 0) (tagValid (logEndTag es))
-      (clean-holds prog b (logEnd es) (logEndTag es) (q .0)) in
-      let empty = both-true (allErased (drop (logEnd es) b)) (eqb (logEnd es % prog) 0) (clean .0) in
+      let clean = both-true (allErased e (drop (logEnd es) b) && eqb (logEnd es % prog) 0) (validityFits e (logEndTag es))
+      (clean-holds e prog b (logEnd es) (logEndTag es) (q .0)) in
+      let empty = both-true (allErased e (drop (logEnd es) b)) (eqb (logEnd es % prog) 0) (clean .0) in
       let slots : countOf 0 es ≡ slotsAfterAll 0 (acts es) = regular-slots es regular in
       let g = judged-good dat entries 0 (slotsAfterAll 0 (acts es)) c (regular-count b es old regular)
       (rw (← slots) all) in
@@ -181,63 +187,65 @@ module _ (prog : ℕ) (some : 4 ≤ prog) (most : prog ≤ 512) (b : List ℕ) (
         sym items,
         rw (← same, ← items) refl,
         rw (← same, ← items) (record {
+          byte = byte;
           old = old;
           nonempty = nonempty;
           regular = regular;
-          made = with-made prog (length b) (logEnd es) (itemsOf dat entries) (g .made);
-          hold = with-hold prog (length b) (logEnd es) (itemsOf dat entries) (slotsAfterAll 0 (acts es)) (g .hold);
+          made = with-made e prog (length b) (logEnd es) (itemsOf dat entries) (g .made);
+          hold = with-hold e prog (length b) (logEnd es) (itemsOf dat entries) (slotsAfterAll 0 (acts es)) (g .hold);
           check = rw (
             le-leb 4 (checkSize prog (checkAt es I)) (k .0),
             le-leb (checkSize prog (checkAt es I)) 1_022 (k .1),
           );
-          fits = le-leb (logEnd es + entriesLength I + tagLength (checkTag (checkSize prog (checkAt es I)))) (length b)
+          fits = le-leb (logEnd es + entriesLength I + tagLength (checkTag e (checkSize prog (checkAt es I)))) (length b)
               (omega (
                 arith,
                 ltb-false (length b) (roundedEnd prog (checkAt es I)) (p .0),
-                of-length typeCheck noSlot (checkSize prog (checkAt es I)) (omega (arith, k .1)),
+                check-length e (checkSize prog (checkAt es I)) (omega (arith, k .1)),
                 k .2,
               ));
           clean = empty .0;
-          top = clean .1;
+          validity = clean .1;
           lucky = r .0;
         }),
       )
 
 -- ---- the verdict
 -- what an accepted commit appends to: the block at place `second` of the two, which answers, with the revision rev
-pub record AppendsTo (r : Rules) (prog : ℕ) (b0 b1 : List ℕ) (entries : List Entry) (dat : List ℕ) (second : Bool)
+pub record AppendsTo (r : Rules) (e prog : ℕ) (b0 b1 : List ℕ) (entries : List Entry) (dat : List ℕ) (second : Bool)
     (is : List Item) (size : ℕ) : Type 0 where
   pub rev : ℕ
   pub sized : (4 ≤ prog) × (prog ≤ 512)
-  pub items : is ≡ withForward prog (length (blockAt second b0 b1)) (logEnd (log (blockAt second b0 b1)))
+  pub items : is ≡ withForward e prog (length (blockAt second b0 b1)) (logEnd (log (blockAt second b0 b1)))
       (itemsOf dat entries)
   pub rounded′ : size ≡ checkSize prog (checkAt (log (blockAt second b0 b1)) is)
   pub answers : viewAt second (blockAt second b0 b1) (blockAt (not second) b0 b1)
       ≡ at second rev (log (blockAt second b0 b1))
   pub ruled : Regular r (log (blockAt second b0 b1)) ≡ true
-  pub accepts : Accepts (blockAt second b0 b1) (log (blockAt second b0 b1)) is size
+  pub accepts : Accepts e (blockAt second b0 b1) (log (blockAt second b0 b1)) is size
 
-module _ (g : Geometry) (b0 b1 : List ℕ) (n0 n1 count seed rules : ℕ) (entries : List Entry) (dat : List ℕ)
+module _ (g : Geometry) (b0 b1 : List ℕ) (n0 n1 count seed rules e : ℕ) (entries : List Entry) (dat : List ℕ)
     (second : Bool)
     (is : List Item) (size : ℕ) where
-  pub accepted-commit : verdictOf g b0 b1 n0 n1 count seed rules entries dat ≡ accepted second is size
-      → AppendsTo (rulesOf rules) (g .«prog_size») b0 b1 entries dat second is size
+  pub accepted-commit : verdictOf g b0 b1 n0 n1 count seed rules e entries dat ≡ accepted second is size
+      → AppendsTo (rulesOf rules) e (g .«prog_size») b0 b1 entries dat second is size
   unfolding verdictOf appended
   accepted-commit h =
-      let p = past (not (commitFits g (length b0) (length b1) n0 n1 rules (length entries) (length dat))) Invalid _
+      let p = past (not (commitFits g (length b0) (length b1) n0 n1 rules e (length entries) (length dat))) Invalid _
       second is size h in
-      let prog = fits-prog g (fits-geometry g (length b0) (length b1) n0 n1 rules (length entries) (length dat)
-      (not-false _ (p .0))) in
+      let fits = not-false _ (p .0) in
+      let prog = fits-prog g (fits-geometry g (length b0) (length b1) n0 n1 rules e (length entries) (length dat) fits) in
+      let byte = fits-byte g (length b0) (length b1) n0 n1 rules e (length entries) (length dat) fits in
       let f = found-then (fetchOf g b0 b1 n0 n1 count seed) _ second is size (p .1) in
       let a = found-answers g b0 b1 n0 n1 count seed (f .m) (f .s) (f .found) in
-      let t : appended (rulesOf rules) (g .«prog_size») (a .w) (blockAt (a .w) b0 b1) (log (blockAt (a .w) b0 b1))
+      let t : appended (rulesOf rules) e (g .«prog_size») (a .w) (blockAt (a .w) b0 b1) (log (blockAt (a .w) b0 b1))
       entries dat
       ≡ accepted second is size = rw (a .place) at (f .then) in
       let q = past (not (Regular (rulesOf rules) (log (blockAt (a .w) b0 b1)))) Irregular _ second is size t in
       let j = good-then (judge dat 0 (countOf 0 (log (blockAt (a .w) b0 b1))) entries) _ second is size (q .1) in
       let some : log (blockAt (a .w) b0 b1) ≢ [] = view-log (a .w) (blockAt (a .w) b0 b1) (blockAt (not (a .w)) b0 b1)
       (a .rev) (log (blockAt (a .w) b0 b1)) (a .answers) .1 in
-      let k = placed-accepts (g .«prog_size») (prog .0) (prog .1) (blockAt (a .w) b0 b1) (log (blockAt (a .w) b0 b1))
+      let k = placed-accepts e byte (g .«prog_size») (prog .0) (prog .1) (blockAt (a .w) b0 b1) (log (blockAt (a .w) b0 b1))
       refl some (widest (rulesOf rules) _ (not-false _ (q .0))) dat entries (j .c) (j .all) (a .w) second is size
       (j .then) in
       rw (k .0) (record {

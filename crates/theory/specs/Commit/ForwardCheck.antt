@@ -83,19 +83,19 @@ carried-silent f = go (f .seen)
     go true = (forward-silent f, tt)
     go false = tt
 
-module _ (prog block from : ℕ) (is : List Item) where
+module _ (e prog block from : ℕ) (is : List Item) where
   abbrev fcrc : LfsFcrc
-  fcrc = carriedFor prog block (from + entriesLength is)
+  fcrc = carriedFor e prog block (from + entriesLength is)
 
-  pub with-made : AllMade is → AllMade (withForward prog block from is)
+  pub with-made : AllMade is → AllMade (withForward e prog block from is)
   unfolding withForward
   with-made h = made-behind is (forwardItems fcrc) h (silent-loose (forwardItems fcrc) (carried-silent fcrc))
 
-  pub with-hold : (c : ℕ) → itemsHold c is ≡ true → itemsHold c (withForward prog block from is) ≡ true
+  pub with-hold : (c : ℕ) → itemsHold c is ≡ true → itemsHold c (withForward e prog block from is) ≡ true
   unfolding withForward
   with-hold c h = hold-behind is (forwardItems fcrc) c h (silent-loose (forwardItems fcrc) (carried-silent fcrc))
 
-  pub with-ran : (M : Machine) → ran M (written (withForward prog block from is) []) ≡ ran M (written is [])
+  pub with-ran : (M : Machine) → ran M (written (withForward e prog block from is) []) ≡ ran M (written is [])
   unfolding withForward
   with-ran M = ran-silent M is (forwardItems fcrc) (carried-silent fcrc)
 
@@ -115,23 +115,23 @@ rounded-on prog at more h =
     mul-le-mul-right prog (le-div-iff-mul-le {k = prog} {y = at + more + checkLength + (prog - 1)} (omega arith) .1
     (omega (arith, div-mul-le-self (at + checkLength + (prog - 1)) prog)))
 
-module _ (prog block from : ℕ) (is : List Item) (some : 4 ≤ prog) where
+module _ (e prog block from : ℕ) (is : List Item) (some : 4 ≤ prog) where
   abbrev end : ℕ
   end = from + entriesLength is
 
   abbrev laidEnd : ℕ
-  laidEnd = from + entriesLength (withForward prog block from is)
+  laidEnd = from + entriesLength (withForward e prog block from is)
 
   -- where it is carried, the entries are longer by it, and a unit behind the end is in the block
   pub carried-end : carries prog block end ≡ true
       → (laidEnd ≡ end + forwardLength) × (roundedEnd prog laidEnd + prog ≤ block)
   unfolding withForward carriedFor carries entriesLength
   carried-end h =
-      let n : from + entriesLength (is ++ (forwardItem (unitCheck prog) ∷ [])) ≡ end + forwardLength =
-      omega (arith, length-app is (forwardItem (unitCheck prog) ∷ []), forward-long) in
+      let n : from + entriesLength (is ++ (forwardItem (unitCheck e prog) ∷ [])) ≡ end + forwardLength =
+      omega (arith, length-app is (forwardItem (unitCheck e prog) ∷ []), forward-long) in
       rw (h, n) (refl, leb-true (roundedEnd prog (end + forwardLength) + prog) block h)
 
-  pub bare-end : carries prog block end ≡ false → withForward prog block from is ≡ is
+  pub bare-end : carries prog block end ≡ false → withForward e prog block from is ≡ is
   unfolding withForward carriedFor
   bare-end h = rw h (append-nil is)
 

@@ -12,7 +12,8 @@ use Rattle.format.specs.Log.{log, logEndTag}
 use Rattle.format.specs.Count.{secondFirst}
 use Rattle.format.specs.View.{View, rank, view, at}
 use Rattle.format.specs.Commit.{Item, commitBytes, commitSum, written}
-use Rattle.format.specs.Stores.{erased, fill, compactBytes, compacted, compacting}
+use Rattle.format.specs.Erased.{erased}
+use Rattle.format.specs.Stores.{fill, compactBytes, compacted, compacting}
 use Rattle.format.proofs.Words.{le32-toLe32}
 use Rattle.format.proofs.Order.{next-first, next-stays}
 use Rattle.theory.specs.Walk.Locality.{le32-front}
@@ -150,63 +151,63 @@ view-log true x o v es h =
     let i = rank-right-is (secondFirst (le32 o) (le32 x)) (le32 o) (le32 x) (log o) (log x) v es h in (i .1, i .2)
 
 -- DEMAND 3, append: after any number k of stores
-pub crash-append : (w : Bool) (o pre : List ℕ) (M : ℕ) (v : ℕ) (es : List Event) (is : List Item) (ct m k : ℕ)
-    → viewAt w (pre ++ erased M) o ≡ at w v es → Appends pre M es is ct m
-    → (pre ++ room allOnes (logEndTag es) is ct m k ≡ pre ++ filled allOnes (logEndTag es) is ct m)
-    ⊎ (viewAt w (pre ++ room allOnes (logEndTag es) is ct m k) o ≡ at w v es)
-crash-append w o pre M v es is ct m k h a = go (append-cut pre M es is ct m k a)
+pub crash-append : (e : ℕ) (w : Bool) (o pre : List ℕ) (M : ℕ) (v : ℕ) (es : List Event) (is : List Item) (ct m k : ℕ)
+    → viewAt w (pre ++ erased e M) o ≡ at w v es → Appends e pre M es is ct m
+    → (pre ++ room e allOnes (logEndTag es) is ct m k ≡ pre ++ filled e allOnes (logEndTag es) is ct m)
+    ⊎ (viewAt w (pre ++ room e allOnes (logEndTag es) is ct m k) o ≡ at w v es)
+crash-append e w o pre M v es is ct m k h a = go (append-cut e pre M es is ct m k a)
   where
     X : List ℕ
-    X = room allOnes (logEndTag es) is ct m k
+    X = room e allOnes (logEndTag es) is ct m k
 
-    go : (X ≡ filled allOnes (logEndTag es) is ct m) ⊎ (log (pre ++ X) ≡ es)
-        → (pre ++ X ≡ pre ++ filled allOnes (logEndTag es) is ct m) ⊎ (viewAt w (pre ++ X) o ≡ at w v es)
-    go (inl e) = inl (ap (λ z. pre ++ z) e)
-    go (inr e) = inr (view-same w (pre ++ X) (pre ++ erased M) o (le32-front pre X (erased M) (omega (arith, a .end)))
-        (e ∙ sym (a .old)) ∙ h)
+    go : (X ≡ filled e allOnes (logEndTag es) is ct m) ⊎ (log (pre ++ X) ≡ es)
+        → (pre ++ X ≡ pre ++ filled e allOnes (logEndTag es) is ct m) ⊎ (viewAt w (pre ++ X) o ≡ at w v es)
+    go (inl q) = inl (ap (λ z. pre ++ z) q)
+    go (inr q) = inr (view-same w (pre ++ X) (pre ++ erased e M) o (le32-front pre X (erased e M) (omega (arith, a .end)))
+        (q ∙ sym (a .old)) ∙ h)
 
-pub done-append : (w : Bool) (o pre : List ℕ) (M : ℕ) (v : ℕ) (es : List Event) (is : List Item) (ct m : ℕ)
-    → viewAt w (pre ++ erased M) o ≡ at w v es → Appends pre M es is ct m
-    → viewAt w (pre ++ filled allOnes (logEndTag es) is ct m) o ≡ at w v
+pub done-append : (e : ℕ) (w : Bool) (o pre : List ℕ) (M : ℕ) (v : ℕ) (es : List Event) (is : List Item) (ct m : ℕ)
+    → viewAt w (pre ++ erased e M) o ≡ at w v es → Appends e pre M es is ct m
+    → viewAt w (pre ++ filled e allOnes (logEndTag es) is ct m) o ≡ at w v
     (es ++ commitEvents allOnes (logEndTag es) is ct)
-done-append w o pre M v es is ct m h a =
-    let Y : List ℕ = filled allOnes (logEndTag es) is ct m in
-    let d : log (pre ++ Y) ≡ es ++ commitEvents allOnes (logEndTag es) is ct = append-done pre M es is ct m a in
+done-append e w o pre M v es is ct m h a =
+    let Y : List ℕ = filled e allOnes (logEndTag es) is ct m in
+    let d : log (pre ++ Y) ≡ es ++ commitEvents allOnes (logEndTag es) is ct = append-done e pre M es is ct m a in
     let n : log (pre ++ Y) ≢ [] = rw d (app-some es (commitEvents allOnes (logEndTag es) is ct) (a .nonempty)) in
-    view-grow w (pre ++ erased M) (pre ++ Y) o v es h (le32-front pre (erased M) Y (omega (arith, a .end))) n
+    view-grow w (pre ++ erased e M) (pre ++ Y) o v es h (le32-front pre (erased e M) Y (omega (arith, a .end))) n
     ∙ ap (λ z. at w v z) d
 
 -- DEMAND 3, compaction: the other block after n stores; the first is the erase
-pub crash-compact : (w : Bool) (x o : List ℕ) (v : ℕ) (es : List Event) (is : List Item) (ct m n : ℕ)
-    → viewAt w x o ≡ at w v es → CommitFits (crc allOnes (toLe32 (plus32 v 1))) allOnes is ct m
-    → (compacting o (plus32 v 1) is ct m n ≡ compacted (plus32 v 1) is ct m)
-    ⊎ (viewAt w x (compacting o (plus32 v 1) is ct m n) ≡ at w v es)
+pub crash-compact : (e : ℕ) (w : Bool) (x o : List ℕ) (v : ℕ) (es : List Event) (is : List Item) (ct m n : ℕ)
+    → viewAt w x o ≡ at w v es → CommitFits e (crc allOnes (toLe32 (plus32 v 1))) allOnes is ct m
+    → (compacting e o (plus32 v 1) is ct m n ≡ compacted e (plus32 v 1) is ct m)
+    ⊎ (viewAt w x (compacting e o (plus32 v 1) is ct m n) ≡ at w v es)
 unfolding compacting
-crash-compact w x o v es is ct m zero h f = inr h
-crash-compact w x o v es is ct m (suc k) h f = go (compact-cut (plus32 v 1) is ct m k f)
+crash-compact e w x o v es is ct m zero h f = inr h
+crash-compact e w x o v es is ct m (suc k) h f = go (compact-cut e (plus32 v 1) is ct m k f)
   where
     X : List ℕ
-    X = fill k (compactBytes (plus32 v 1) is ct) ++ erased m
+    X = fill e k (compactBytes (plus32 v 1) is ct) ++ erased e m
 
-    go : (X ≡ compacted (plus32 v 1) is ct m) ⊎ (log X ≡ [])
-        → (X ≡ compacted (plus32 v 1) is ct m) ⊎ (viewAt w x X ≡ at w v es)
-    go (inl e) = inl e
-    go (inr e) = inr (view-alone w x o X v es h e)
+    go : (X ≡ compacted e (plus32 v 1) is ct m) ⊎ (log X ≡ [])
+        → (X ≡ compacted e (plus32 v 1) is ct m) ⊎ (viewAt w x X ≡ at w v es)
+    go (inl q) = inl q
+    go (inr q) = inr (view-alone w x o X v es h q)
 
-compacted-rev : (rev : ℕ) (is : List Item) (ct m : ℕ) → le32 (compacted rev is ct m) ≡ rev
+compacted-rev : (e rev : ℕ) (is : List Item) (ct m : ℕ) → le32 (compacted e rev is ct m) ≡ rev
 unfolding compacted compactBytes
-compacted-rev rev is ct m =
+compacted-rev e rev is ct m =
     let N : List ℕ = commitBytes (crc allOnes (toLe32 rev)) allOnes is ct in
-    rw (append-assoc (toLe32 rev) N (erased m)) (le32-toLe32 rev (N ++ erased m))
+    rw (append-assoc (toLe32 rev) N (erased e m)) (le32-toLe32 rev (N ++ erased e m))
 
-pub done-compact : (w : Bool) (x o : List ℕ) (v : ℕ) (es : List Event) (is : List Item) (ct m : ℕ)
-    → viewAt w x o ≡ at w v es → v < 2 ^ 32 → CommitFits (crc allOnes (toLe32 (plus32 v 1))) allOnes is ct m
-    → viewAt w x (compacted (plus32 v 1) is ct m) ≡ at (not w) (plus32 v 1)
+pub done-compact : (e : ℕ) (w : Bool) (x o : List ℕ) (v : ℕ) (es : List Event) (is : List Item) (ct m : ℕ)
+    → viewAt w x o ≡ at w v es → v < 2 ^ 32 → CommitFits e (crc allOnes (toLe32 (plus32 v 1))) allOnes is ct m
+    → viewAt w x (compacted e (plus32 v 1) is ct m) ≡ at (not w) (plus32 v 1)
     (commitEvents (crc allOnes (toLe32 (plus32 v 1))) allOnes is ct)
 unfolding commitEvents
-done-compact w x o v es is ct m h small f =
+done-compact e w x o v es is ct m h small f =
     let r : ℕ = plus32 v 1 in
     let S : ℕ = crc allOnes (toLe32 r) in
-    let d : log (compacted r is ct m) ≡ commitEvents S allOnes is ct = compact-done r is ct m f in
-    let n : log (compacted r is ct m) ≢ [] = rw d (written-some is (chk ct (commitSum S allOnes is ct))) in
-    view-next w x o (compacted r is ct m) v es h small (compacted-rev r is ct m) n ∙ ap (λ z. at (not w) r z) d
+    let d : log (compacted e r is ct m) ≡ commitEvents S allOnes is ct = compact-done e r is ct m f in
+    let n : log (compacted e r is ct m) ≢ [] = rw d (written-some is (chk ct (commitSum S allOnes is ct))) in
+    view-next w x o (compacted e r is ct m) v es h small (compacted-rev e r is ct m) n ∙ ap (λ z. at (not w) r z) d

@@ -45,9 +45,9 @@ use Rattle.theory.specs.Commit.MachineAfter.{commit-ran}
 use Rattle.theory.specs.Commit.ForwardCheck.{with-ran}
 
 -- ---- a commit
-module _ (g : Geometry) (b0 b1 : List ℕ) (n0 n1 count seed rules : ℕ) (entries : List Entry) (dat : List ℕ) (w : Bool)
+module _ (g : Geometry) (b0 b1 : List ℕ) (n0 n1 count seed rules e : ℕ) (entries : List Entry) (dat : List ℕ) (w : Bool)
     (is : List Item) (size : ℕ)
-    (h : verdictOf g b0 b1 n0 n1 count seed rules entries dat ≡ accepted w is size) where
+    (h : verdictOf g b0 b1 n0 n1 count seed rules e entries dat ≡ accepted w is size) where
   abbrev x : List ℕ
   x = blockAt w b0 b1
 
@@ -58,14 +58,14 @@ module _ (g : Geometry) (b0 b1 : List ℕ) (n0 n1 count seed rules : ℕ) (entri
   unfolding verdictOf
   commit-found =
       let f = found-then (fetchOf g b0 b1 n0 n1 count seed) _ w is size
-      (past (not (commitFits g (length b0) (length b1) n0 n1 rules (length entries) (length dat))) Invalid _ w is size h
+      (past (not (commitFits g (length b0) (length b1) n0 n1 rules e (length entries) (length dat))) Invalid _ w is size h
       .1) in
       (f .m, f .s, f .found)
 
-  pub appends : AppendsTo (rulesOf rules) (g .«prog_size») b0 b1 entries dat w is size
-  appends = accepted-commit g b0 b1 n0 n1 count seed rules entries dat w is size h
+  pub appends : AppendsTo (rulesOf rules) e (g .«prog_size») b0 b1 entries dat w is size
+  appends = accepted-commit g b0 b1 n0 n1 count seed rules e entries dat w is size h
 
-  pub takes : Accepts (blockAt w b0 b1) (log (blockAt w b0 b1)) is size
+  pub takes : Accepts e (blockAt w b0 b1) (log (blockAt w b0 b1)) is size
   takes = appends .accepts
 
   place : isSecond n0 (commit-found .0) ≡ w
@@ -75,42 +75,42 @@ module _ (g : Geometry) (b0 b1 : List ℕ) (n0 n1 count seed rules : ℕ) (entri
       (a .answers) (appends .answers)
 
   -- the images after n stores: only the block that answers is altered
-  pub commit-written : (n : ℕ) → (blockAt w (commitImages g b0 b1 n0 n1 count seed rules entries dat n .b0)
-      (commitImages g b0 b1 n0 n1 count seed rules entries dat n .b1) ≡ storedTo x is size n)
-      × (blockAt (not w) (commitImages g b0 b1 n0 n1 count seed rules entries dat n .b0)
-      (commitImages g b0 b1 n0 n1 count seed rules entries dat n .b1) ≡ o)
+  pub commit-written : (n : ℕ) → (blockAt w (commitImages g b0 b1 n0 n1 count seed rules e entries dat n .b0)
+      (commitImages g b0 b1 n0 n1 count seed rules e entries dat n .b1) ≡ storedTo e x is size n)
+      × (blockAt (not w) (commitImages g b0 b1 n0 n1 count seed rules e entries dat n .b0)
+      (commitImages g b0 b1 n0 n1 count seed rules e entries dat n .b1) ≡ o)
   unfolding commitImages
   commit-written n = rw h (go w)
     where
-      go : (v : Bool) → (let i : Images = imagesAfter n b0 b1 (accepted v is size) in
-          (blockAt v (i .b0) (i .b1) ≡ storedTo (blockAt v b0 b1) is size n)
+      go : (v : Bool) → (let i : Images = imagesAfter e n b0 b1 (accepted v is size) in
+          (blockAt v (i .b0) (i .b1) ≡ storedTo e (blockAt v b0 b1) is size n)
           × (blockAt (not v) (i .b0) (i .b1) ≡ blockAt (not v) b0 b1))
       go false = (refl, refl)
       go true = (refl, refl)
 
-  pub ok : AppendOk (blockAt w b0 b1) (log (blockAt w b0 b1)) is (checkTag size)
-  ok = writing.accepted x (log x) is size takes
+  pub ok : AppendOk e (blockAt w b0 b1) (log (blockAt w b0 b1)) is (checkTag e size)
+  ok = writing.accepted e x (log x) is size takes
 
-  pub bytes-length : length (commitBytes allOnes (logEndTag (log x)) is (checkTag size)) ≡ allStores is
-  bytes-length = length-commit is allOnes (logEndTag (log x)) (checkTag size) (ok .items)
+  pub bytes-length : length (commitBytes allOnes (logEndTag (log x)) is (checkTag e size)) ≡ allStores is
+  bytes-length = length-commit is allOnes (logEndTag (log x)) (checkTag e size) (ok .items)
 
   pub room : logEnd (log x) + allStores is ≤ length x
   room = omega (arith, ok .fits, ok .check .long)
 
-  pub stored-length : (k : ℕ) → k ≤ allStores is → length (appending x (log x) is (checkTag size) k) ≡ length x
+  pub stored-length : (k : ℕ) → k ≤ allStores is → length (appending x (log x) is (checkTag e size) k) ≡ length x
   unfolding appending
-  stored-length k hk = length-paste x (logEnd (log x)) (commitBytes allOnes (logEndTag (log x)) is (checkTag size)) k
+  stored-length k hk = length-paste x (logEnd (log x)) (commitBytes allOnes (logEndTag (log x)) is (checkTag e size)) k
       (omega (arith, room)) (omega (arith, bytes-length))
 
-  pub stored-front : (k : ℕ) → take (logEnd (log x)) (appending x (log x) is (checkTag size) k) ≡ take (logEnd
+  pub stored-front : (k : ℕ) → take (logEnd (log x)) (appending x (log x) is (checkTag e size) k) ≡ take (logEnd
       (log x)) x
   unfolding appending
   stored-front k =
-      let e : ℕ = logEnd (log x) in
-      let N : List ℕ = commitBytes allOnes (logEndTag (log x)) is (checkTag size) in
-      rw (append-assoc (take e x) (take k N) (drop (e + k) x))
-      (take-append-le e (take e x) (take k N ++ drop (e + k) x)
-      (omega (arith, room, length-take-le e x (omega (arith, room)))) ∙ take-take e e x (le-refl e))
+      let E : ℕ = logEnd (log x) in
+      let N : List ℕ = commitBytes allOnes (logEndTag (log x)) is (checkTag e size) in
+      rw (append-assoc (take E x) (take k N) (drop (E + k) x))
+      (take-append-le E (take E x) (take k N ++ drop (E + k) x)
+      (omega (arith, room, length-take-le E x (omega (arith, room)))) ∙ take-take E E x (le-refl E))
 
   all-stores : min unlimited (allStores is) ≡ allStores is
   all-stores =
@@ -119,7 +119,7 @@ module _ (g : Geometry) (b0 b1 : List ℕ) (n0 n1 count seed rules : ℕ) (entri
 
   module _ (n : ℕ) where
     abbrev i : Images
-    i = commitImages g b0 b1 n0 n1 count seed rules entries dat n
+    i = commitImages g b0 b1 n0 n1 count seed rules e entries dat n
 
     image-lengths : (length (i .b0) ≡ length b0) × (length (i .b1) ≡ length b1)
     image-lengths =
@@ -128,21 +128,21 @@ module _ (g : Geometry) (b0 b1 : List ℕ) (n0 n1 count seed rules : ℕ) (entri
         (ap length (commit-written n .1))
 
   abbrev f : Images
-  f = commitImages g b0 b1 n0 n1 count seed rules entries dat unlimited
+  f = commitImages g b0 b1 n0 n1 count seed rules e entries dat unlimited
 
-  finished-block : blockAt w (f .b0) (f .b1) ≡ appending x (log x) is (checkTag size) (allStores is)
-  finished-block = commit-written unlimited .0 ∙ ap (appending x (log x) is (checkTag size)) all-stores
+  finished-block : blockAt w (f .b0) (f .b1) ≡ appending x (log x) is (checkTag e size) (allStores is)
+  finished-block = commit-written unlimited .0 ∙ ap (appending x (log x) is (checkTag e size)) all-stores
 
-  after : (k : ℕ) → k ≤ allStores is → AfterAppend w o (appends .rev) (log x) is (checkTag size)
-      (appending x (log x) is (checkTag size) k) (appending x (log x) is (checkTag size) (allStores is))
-  after k hk = accepted-stopped x (log x) is size takes w o (appends .rev) (appends .answers) k hk
+  after : (k : ℕ) → k ≤ allStores is → AfterAppend w o (appends .rev) (log x) is (checkTag e size)
+      (appending x (log x) is (checkTag e size) k) (appending x (log x) is (checkTag e size) (allStores is))
+  after k hk = accepted-stopped e x (log x) is size takes w o (appends .rev) (appends .answers) k hk
 
   commit-either : (n : ℕ) → ((i n .b0 ≡ f .b0) × (i n .b1 ≡ f .b1)) ⊎ ReadsAs g n0 n1 b0 b1 (i n .b0) (i n .b1)
   commit-either n = go (after (min n (allStores is)) (min-le-right n (allStores is)) .either)
     where
-      go : (appending x (log x) is (checkTag size) (min n (allStores is)) ≡ appending x (log x) is (checkTag size)
+      go : (appending x (log x) is (checkTag e size) (min n (allStores is)) ≡ appending x (log x) is (checkTag e size)
           (allStores is))
-          ⊎ (viewAt w (appending x (log x) is (checkTag size) (min n (allStores is))) o ≡ at w (appends .rev) (log x))
+          ⊎ (viewAt w (appending x (log x) is (checkTag e size) (min n (allStores is))) o ≡ at w (appends .rev) (log x))
           → ((i n .b0 ≡ f .b0) × (i n .b1 ≡ f .b1)) ⊎ ReadsAs g n0 n1 b0 b1 (i n .b0) (i n .b1)
       go (inl e) =
           inl (both-blocks w (i n .b0) (i n .b1) (f .b0) (f .b1) (commit-written n .0 ∙ e ∙ sym finished-block)
@@ -155,7 +155,7 @@ module _ (g : Geometry) (b0 b1 : List ℕ) (n0 n1 count seed rules : ℕ) (entri
 
   -- ---- the finished pair
   abbrev finishedLog : List Event
-  finishedLog = log x ++ commitEvents allOnes (logEndTag (log x)) is (checkTag size)
+  finishedLog = log x ++ commitEvents allOnes (logEndTag (log x)) is (checkTag e size)
 
   finished-view : viewAt w (blockAt w (f .b0) (f .b1)) (blockAt (not w) (f .b0) (f .b1))
       ≡ at w (appends .rev) finishedLog
@@ -166,7 +166,7 @@ module _ (g : Geometry) (b0 b1 : List ℕ) (n0 n1 count seed rules : ℕ) (entri
       finished-view .0
 
   regular-finished : Regular (rulesOf rules) finishedLog ≡ true
-  regular-finished = finished-regular x (log x) is size takes (rulesOf rules) (appends .ruled)
+  regular-finished = finished-regular e x (log x) is size takes (rulesOf rules) (appends .ruled)
 
   pub commit-found-again : fetchOf g (f .b0) (f .b1) n0 n1 count seed
       ≡ fetched.Found (mdirOf (g .«prog_size») (cond w n1 n0) (cond w n0 n1) (blockAt w (f .b0) (f .b1)) (appends .rev)
@@ -186,11 +186,11 @@ module _ (g : Geometry) (b0 b1 : List ℕ) (n0 n1 count seed rules : ℕ) (entri
       (commit-found .2) (appends .rev) finishedLog w in
       let s = shows g (f .b0) (f .b1) n0 n1 count seed _ _ commit-found-again (rulesOf rules) w p
       (rw finished-log regular-finished) in
-      let e : machineOf (log (blockAt w (f .b0) (f .b1))) ≡ ran (machineOf (log x)) (written (itemsOf dat entries) [])
-      = ap machineOf finished-log ∙ commit-ran (log x) allOnes (logEndTag (log x)) is (checkTag size)
+      let q : machineOf (log (blockAt w (f .b0) (f .b1))) ≡ ran (machineOf (log x)) (written (itemsOf dat entries) [])
+      = ap machineOf finished-log ∙ commit-ran (log x) allOnes (logEndTag (log x)) is (checkTag e size)
       ∙ ap (λ (l : List Item). ran (machineOf (log x)) (written l [])) (appends .items)
-      ∙ with-ran (g .«prog_size») (length x) (logEnd (log x)) (itemsOf dat entries) (machineOf (log x)) in
-      subst (λ (M : Machine). Shows g n0 n1 (rulesOf rules) (f .b0) (f .b1) M) e s
+      ∙ with-ran e (g .«prog_size») (length x) (logEnd (log x)) (itemsOf dat entries) (machineOf (log x)) in
+      subst (λ (M : Machine). Shows g n0 n1 (rulesOf rules) (f .b0) (f .b1) M) q s
 
   -- the call's own fetch of it
   pub commit-refetched : (m : LfsMdir) × (s : ℕ) × (fetchOf g (f .b0) (f .b1) n0 n1 count seed ≡ fetched.Found m s)
@@ -204,21 +204,21 @@ module _ (g : Geometry) (b0 b1 : List ℕ) (n0 n1 count seed rules : ℕ) (entri
     abbrev prog : ℕ
     prog = g .«prog_size»
 
-    laid-is : is ≡ itemsOf dat entries ++ (forwardItem (unitCheck prog) ∷ [])
-    laid-is = carried-items prog (length x) (logEnd (log x)) (itemsOf dat entries) is size (appends .sized .0)
+    laid-is : is ≡ itemsOf dat entries ++ (forwardItem (unitCheck e prog) ∷ [])
+    laid-is = carried-items e prog (length x) (logEnd (log x)) (itemsOf dat entries) is size (appends .sized .0)
         (appends .sized .1) (appends .items) (appends .rounded′) carried
 
-    pub commit-held : forwardOf noForward finishedLog ≡ unitCheck prog
+    pub commit-held : forwardOf noForward finishedLog ≡ unitCheck e prog
     commit-held = rw laid-is
-        (forward-held (log x) allOnes (logEndTag (log x)) (itemsOf dat entries) (checkTag size) prog)
+        (forward-held e (log x) allOnes (logEndTag (log x)) (itemsOf dat entries) (checkTag e size) prog)
 
     pub commit-erased : erasedOf prog (blockAt w (f .b0) (f .b1)) finishedLog ≡ true
     commit-erased =
         rw finished-block
-        (append-erased prog (appends .sized .0) x (log x) is (checkTag size) ok
-        (carried-aligned prog (length x) (logEnd (log x)) (itemsOf dat entries) is size (appends .sized .0)
+        (append-erased e prog (appends .sized .0) x (log x) is (checkTag e size) ok
+        (carried-aligned e prog (length x) (logEnd (log x)) (itemsOf dat entries) is size (appends .sized .0)
         (appends .sized .1) (appends .items) (appends .rounded′) carried)
-        (carried-unit prog (length x) (logEnd (log x)) (itemsOf dat entries) is size (appends .sized .0)
+        (carried-unit e prog (length x) (logEnd (log x)) (itemsOf dat entries) is size (appends .sized .0)
         (appends .sized .1) (appends .items) (appends .rounded′) carried)
         commit-held)
 
@@ -227,14 +227,14 @@ module _ (g : Geometry) (b0 b1 : List ℕ) (n0 n1 count seed rules : ℕ) (entri
       (rulesOf rules) w place (appends .ruled)
 
 -- DEMAND 3, COMMIT
-pub stopped-commit : (g : Geometry) (b0 b1 : List ℕ) (n0 n1 count seed rules : ℕ) (entries : List Entry) (dat : List ℕ)
+pub stopped-commit : (g : Geometry) (b0 b1 : List ℕ) (n0 n1 count seed rules e : ℕ) (entries : List Entry) (dat : List ℕ)
     (n : ℕ)
-    → CommitStopped g b0 b1 n0 n1 count seed rules entries dat
-    (commitImages g b0 b1 n0 n1 count seed rules entries dat n .b0)
-    (commitImages g b0 b1 n0 n1 count seed rules entries dat n .b1)
-stopped-commit g b0 b1 n0 n1 count seed rules entries dat n w is size h =
+    → CommitStopped g b0 b1 n0 n1 count seed rules e entries dat
+    (commitImages g b0 b1 n0 n1 count seed rules e entries dat n .b0)
+    (commitImages g b0 b1 n0 n1 count seed rules e entries dat n .b1)
+stopped-commit g b0 b1 n0 n1 count seed rules e entries dat n w is size h =
     record {
-      either = commit-either g b0 b1 n0 n1 count seed rules entries dat w is size h n;
-      old = commit-before g b0 b1 n0 n1 count seed rules entries dat w is size h;
-      finished = commit-finished g b0 b1 n0 n1 count seed rules entries dat w is size h;
+      either = commit-either g b0 b1 n0 n1 count seed rules e entries dat w is size h n;
+      old = commit-before g b0 b1 n0 n1 count seed rules e entries dat w is size h;
+      finished = commit-finished g b0 b1 n0 n1 count seed rules e entries dat w is size h;
     }

@@ -14,11 +14,13 @@ use Rattle.format.specs.Log.{log, logEnd}
 use Rattle.format.specs.View.{at}
 use Rattle.format.specs.Record.{noForward, forwardOf, seedOf}
 use Rattle.format.specs.Fetch.{erasedOf, mdirOf, fetchOf}
-use Rattle.format.specs.Regular.{Regular, rulesFit, rulesOf}
+use Rattle.format.specs.Regular.{Regular, rulesOf}
 use Rattle.format.specs.Directory.{dirOf}
 use Rattle.format.specs.Commit.{Item, checkTag}
-use Rattle.format.specs.Stores.{erased, fill, compactBytes, compacted, compacting}
-use Rattle.format.specs.Writer.{checkLength, unitCheck, forwardItem, carries, blockAt, isSecond, Images, unlimited}
+use Rattle.format.specs.Erased.{erased}
+use Rattle.format.specs.Stores.{fill, compactBytes, compacted, compacting}
+use Rattle.format.specs.Writer.{checkLength, unitCheck, forwardItem, carries, writesFit, blockAt, isSecond, Images}
+use Rattle.format.specs.Writer.{unlimited}
 use Rattle.format.specs.Compaction.{compactAccepted, compactCheckAt, compactStores, compactedTo, compactVerdict}
 use Rattle.format.specs.Compaction.{compactionItems, compactImages}
 use Rattle.format.specs.declared.Geometry.{Geometry}
@@ -63,8 +65,8 @@ turned : (w : Bool) (x y : List ℕ) → viewAt w x y ≡ viewAt (not w) y x
 turned true x y = refl
 turned false x y = refl
 
-module _ (g : Geometry) (b0 b1 : List ℕ) (n0 n1 count seed rules : ℕ) (w : Bool) (rev : ℕ) (is : List Item) (size : ℕ)
-    (h : compactVerdict g b0 b1 n0 n1 count seed rules ≡ compactAccepted w rev is size)
+module _ (g : Geometry) (b0 b1 : List ℕ) (n0 n1 count seed rules e : ℕ) (w : Bool) (rev : ℕ) (is : List Item) (size : ℕ)
+    (h : compactVerdict g b0 b1 n0 n1 count seed rules e ≡ compactAccepted w rev is size)
     (bytes : Bytes (blockAt w b0 b1)) where
   abbrev x : List ℕ
   x = blockAt w b0 b1
@@ -76,18 +78,18 @@ module _ (g : Geometry) (b0 b1 : List ℕ) (n0 n1 count seed rules : ℕ) (w : B
   rest = length o - (compactCheckAt is + checkLength)
 
   abbrev finished : List ℕ
-  finished = compacted rev is (checkTag size) rest
+  finished = compacted e rev is (checkTag e size) rest
 
   abbrev finishedLog : List Event
-  finishedLog = commitEvents (crc allOnes (toLe32 rev)) allOnes is (checkTag size)
+  finishedLog = commitEvents (crc allOnes (toLe32 rev)) allOnes is (checkTag e size)
 
   compact-found : (m : LfsMdir) × (s : ℕ) × (fetchOf g b0 b1 n0 n1 count seed ≡ fetched.Found m s)
   unfolding compactVerdict
-  compact-found = found-then (rulesOf rules) (g .«prog_size») b0 b1 n0 (fetchOf g b0 b1 n0 n1 count seed) w rev is size
-      (past (not (rulesFit rules)) Invalid _ w rev is size h .1)
+  compact-found = found-then (rulesOf rules) e (g .«prog_size») b0 b1 n0 (fetchOf g b0 b1 n0 n1 count seed) w rev is size
+      (past (not (writesFit rules e)) Invalid _ w rev is size h .1)
 
-  pub compacts : CompactsTo (rulesOf rules) g b0 b1 w rev is size
-  compacts = accepted-compaction g b0 b1 n0 n1 count seed rules w rev is size h
+  pub compacts : CompactsTo (rulesOf rules) e g b0 b1 w rev is size
+  compacts = accepted-compaction g b0 b1 n0 n1 count seed rules e w rev is size h
 
   place : isSecond n0 (compact-found .0) ≡ w
   place =
@@ -95,29 +97,29 @@ module _ (g : Geometry) (b0 b1 : List ℕ) (n0 n1 count seed rules : ℕ) (w : B
       a .place ∙ same-place b0 b1 (a .w) w (a .rev) (le32 x) (log (blockAt (a .w) b0 b1)) (log x) (a .answers)
       (compacts .answers)
 
-  bytes-length : length (compactBytes rev is (checkTag size)) + rest ≡ length o
+  bytes-length : length (compactBytes rev is (checkTag e size)) + rest ≡ length o
   unfolding compacted
   bytes-length =
-      sym (ap (λ (k : ℕ). length (compactBytes rev is (checkTag size)) + k) (length-erased rest))
-      ∙ sym (length-append (compactBytes rev is (checkTag size)) (erased rest))
-      ∙ compaction-length g b0 b1 n0 n1 count seed rules w rev is size h
+      sym (ap (λ (k : ℕ). length (compactBytes rev is (checkTag e size)) + k) (length-erased e rest))
+      ∙ sym (length-append (compactBytes rev is (checkTag e size)) (erased e rest))
+      ∙ compaction-length g b0 b1 n0 n1 count seed rules e w rev is size h
 
-  image-length : (n : ℕ) → length (compacting o rev is (checkTag size) rest n) ≡ length o
+  image-length : (n : ℕ) → length (compacting e o rev is (checkTag e size) rest n) ≡ length o
   unfolding compacting
   image-length zero = refl
   image-length (suc k) =
-      length-append (fill k (compactBytes rev is (checkTag size))) (erased rest)
-      ∙ rw (length-fill k (compactBytes rev is (checkTag size)), length-erased rest) bytes-length
+      length-append (fill e k (compactBytes rev is (checkTag e size))) (erased e rest)
+      ∙ rw (length-fill e k (compactBytes rev is (checkTag e size)), length-erased e rest) bytes-length
 
   abbrev i : ℕ → Images
-  i n = compactImages g b0 b1 n0 n1 count seed rules n
+  i n = compactImages g b0 b1 n0 n1 count seed rules e n
 
   abbrev f : Images
-  f = compactImages g b0 b1 n0 n1 count seed rules unlimited
+  f = compactImages g b0 b1 n0 n1 count seed rules e unlimited
 
-  left : (n : ℕ) → (blockAt (not w) (i n .b0) (i n .b1) ≡ compactedTo o rev is size n)
+  left : (n : ℕ) → (blockAt (not w) (i n .b0) (i n .b1) ≡ compactedTo e o rev is size n)
       × (blockAt w (i n .b0) (i n .b1) ≡ x)
-  left n = compaction-written g b0 b1 n0 n1 count seed rules w rev is size h n
+  left n = compaction-written g b0 b1 n0 n1 count seed rules e w rev is size h n
 
   image-lengths : (n : ℕ) → (length (i n .b0) ≡ length b0) × (length (i n .b1) ≡ length b1)
   image-lengths n = lengths w (i n .b0) (i n .b1) b0 b1 (ap length (left n .1))
@@ -128,25 +130,25 @@ module _ (g : Geometry) (b0 b1 : List ℕ) (n0 n1 count seed rules : ℕ) (w : B
       let z = found-sized g b0 b1 n0 n1 count seed (compact-found .0) (compact-found .1) (compact-found .2) in
       min-eq-right (omega (arith, compacts .room, block-length g b0 b1 (not w) z, z .block .1))
 
-  whole : compacting o rev is (checkTag size) rest (suc (compactCheckAt is + checkLength)) ≡ finished
+  whole : compacting e o rev is (checkTag e size) rest (suc (compactCheckAt is + checkLength)) ≡ finished
   unfolding compacting compacted
   whole =
-      ap (λ (l : List ℕ). l ++ erased rest)
-      (fill-all (compactCheckAt is + checkLength) (compactBytes rev is (checkTag size))
+      ap (λ (l : List ℕ). l ++ erased e rest)
+      (fill-all e (compactCheckAt is + checkLength) (compactBytes rev is (checkTag e size))
       (omega (arith, bytes-length, compacts .room)))
 
   finished-block : blockAt (not w) (f .b0) (f .b1) ≡ finished
   finished-block =
       let n : min unlimited (compactStores is) ≡ suc (compactCheckAt is + checkLength) = all-stores ∙ omega arith in
-      left unlimited .0 ∙ ap (compacting o rev is (checkTag size) rest) n ∙ whole
+      left unlimited .0 ∙ ap (compacting e o rev is (checkTag e size) rest) n ∙ whole
 
-  after : (n : ℕ) → AfterCompact w x (le32 x) (log x) is (checkTag size) (compactedTo o rev is size n) finished
-  after n = compaction-stopped g b0 b1 n0 n1 count seed rules w rev is size h (word-fits x bytes) n
+  after : (n : ℕ) → AfterCompact w x (le32 x) (log x) is (checkTag e size) (compactedTo e o rev is size n) finished
+  after n = compaction-stopped g b0 b1 n0 n1 count seed rules e w rev is size h (word-fits x bytes) n
 
   compact-either : (n : ℕ) → ((i n .b0 ≡ f .b0) × (i n .b1 ≡ f .b1)) ⊎ ReadsAs g n0 n1 b0 b1 (i n .b0) (i n .b1)
   compact-either n = go (after n .either)
     where
-      go : (compactedTo o rev is size n ≡ finished) ⊎ (viewAt w x (compactedTo o rev is size n) ≡ at w (le32 x) (log x))
+      go : (compactedTo e o rev is size n ≡ finished) ⊎ (viewAt w x (compactedTo e o rev is size n) ≡ at w (le32 x) (log x))
           → ((i n .b0 ≡ f .b0) × (i n .b1 ≡ f .b1)) ⊎ ReadsAs g n0 n1 b0 b1 (i n .b0) (i n .b1)
       go (inl e) =
           inl
@@ -170,11 +172,11 @@ module _ (g : Geometry) (b0 b1 : List ℕ) (n0 n1 count seed rules : ℕ) (w : B
 
   regular-finished : Regular Document finishedLog ≡ true
   regular-finished = rw (compacts .next, compacts .items)
-      (compacted-regular x (le32 x) (log x) (laidBehind (g .«prog_size») x) size rest (compacts .compacts))
+      (compacted-regular e x (le32 x) (log x) (laidBehind e (g .«prog_size») x) size rest (compacts .compacts))
 
   same-machine : machineOf finishedLog ≡ machineOf (log x)
   same-machine =
-      let k = compaction-keeps g b0 b1 n0 n1 count seed rules w rev is size h in
+      let k = compaction-keeps g b0 b1 n0 n1 count seed rules e w rev is size h in
       let d : dirOf finishedLog ≡ dirOf (log x) = rw (compacts .next) (after 0 .same) in
       rw (d, k .0, k .1, k .2)
 
@@ -211,23 +213,23 @@ module _ (g : Geometry) (b0 b1 : List ℕ) (n0 n1 count seed rules : ℕ) (w : B
     abbrev I : List Item
     I = compactionItems (log x)
 
-    laid-is : is ≡ I ++ (forwardItem (unitCheck prog) ∷ [])
-    laid-is = carried-items prog (length x) 4 I is size (compacts .sized .0) (compacts .sized .1) (compacts .laid)
+    laid-is : is ≡ I ++ (forwardItem (unitCheck e prog) ∷ [])
+    laid-is = carried-items e prog (length x) 4 I is size (compacts .sized .0) (compacts .sized .1) (compacts .laid)
         (compacts .rounded′) carried
 
-    pub compact-held : forwardOf noForward finishedLog ≡ unitCheck prog
-    compact-held = rw laid-is (forward-held [] (crc allOnes (toLe32 rev)) allOnes I (checkTag size) prog)
+    pub compact-held : forwardOf noForward finishedLog ≡ unitCheck e prog
+    compact-held = rw laid-is (forward-held e [] (crc allOnes (toLe32 rev)) allOnes I (checkTag e size) prog)
 
     pub compact-erased : erasedOf prog (blockAt (not w) (f .b0) (f .b1)) finishedLog ≡ true
     compact-erased =
-        let unit = carried-unit prog (length x) 4 I is size (compacts .sized .0) (compacts .sized .1) (compacts .laid)
+        let unit = carried-unit e prog (length x) 4 I is size (compacts .sized .0) (compacts .sized .1) (compacts .laid)
         (compacts .rounded′) carried in
-        let fits = compact-fits x (le32 x) (log x) (laidBehind prog x) size rest (compacts .compacts) in
+        let fits = compact-fits e x (le32 x) (log x) (laidBehind e prog x) size rest (compacts .compacts) in
         rw finished-block
-        (behind.compact-erased prog (compacts .sized .0) rev is (checkTag size) rest
-        (subst (λ (l : List Item). CommitFits (crc allOnes (toLe32 rev)) allOnes l (checkTag size) rest)
+        (behind.compact-erased e prog (compacts .sized .0) rev is (checkTag e size) rest
+        (subst (λ (l : List Item). CommitFits e (crc allOnes (toLe32 rev)) allOnes l (checkTag e size) rest)
         (sym (compacts .items)) (rw (compacts .next) fits))
-        (carried-aligned prog (length x) 4 I is size (compacts .sized .0) (compacts .sized .1) (compacts .laid)
+        (carried-aligned e prog (length x) 4 I is size (compacts .sized .0) (compacts .sized .1) (compacts .laid)
         (compacts .rounded′) carried)
         (omega (arith, unit, compacts .room, long)) compact-held)
       where
@@ -241,13 +243,13 @@ module _ (g : Geometry) (b0 b1 : List ℕ) (n0 n1 count seed rules : ℕ) (w : B
       (rulesOf rules) w place (compacts .ruled)
 
 -- DEMAND 3, COMPACTION
-pub stopped-compaction : (g : Geometry) (b0 b1 : List ℕ) (n0 n1 count seed rules n : ℕ) → Bytes b0 → Bytes b1
-    → CompactStopped g b0 b1 n0 n1 count seed rules (compactImages g b0 b1 n0 n1 count seed rules n .b0)
-    (compactImages g b0 b1 n0 n1 count seed rules n .b1)
-stopped-compaction g b0 b1 n0 n1 count seed rules n y0 y1 w rev is size h =
+pub stopped-compaction : (g : Geometry) (b0 b1 : List ℕ) (n0 n1 count seed rules e n : ℕ) → Bytes b0 → Bytes b1
+    → CompactStopped g b0 b1 n0 n1 count seed rules e (compactImages g b0 b1 n0 n1 count seed rules e n .b0)
+    (compactImages g b0 b1 n0 n1 count seed rules e n .b1)
+stopped-compaction g b0 b1 n0 n1 count seed rules e n y0 y1 w rev is size h =
     let y = block-bytes w b0 b1 y0 y1 in
     record {
-      either = compact-either g b0 b1 n0 n1 count seed rules w rev is size h y n;
-      old = compact-before g b0 b1 n0 n1 count seed rules w rev is size h y;
-      finished = compact-finished g b0 b1 n0 n1 count seed rules w rev is size h y;
+      either = compact-either g b0 b1 n0 n1 count seed rules e w rev is size h y n;
+      old = compact-before g b0 b1 n0 n1 count seed rules e w rev is size h y;
+      finished = compact-finished g b0 b1 n0 n1 count seed rules e w rev is size h y;
     }

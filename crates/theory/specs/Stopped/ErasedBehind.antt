@@ -10,25 +10,27 @@ use lib.Seq.{drop-drop, drop-append-add, drop-at, length-take-le}
 use borrow.Author.Tests.{eq-eqb, le-leb}
 use Rattle.format.specs.Word.{toLe32, allOnes}
 use Rattle.format.specs.Tag.{tagLength, tagFlipped}
-use Rattle.format.specs.Kind.{typeCheck, typeForward, noSlot, isForward}
+use Rattle.format.specs.Kind.{typeForward, noSlot, isForward}
 use Rattle.format.specs.Crc.{crc}
 use Rattle.format.specs.Walk.{Event, ent, chk, inv, walk, walkFrom}
 use Rattle.format.specs.Log.{eventLength, span, logEnd, logEndTag, stoppedStraight}
 use Rattle.format.specs.Record.{forwardIn, noForward, forwardOf}
 use Rattle.format.specs.Fetch.{erasedOf}
 use Rattle.format.specs.Commit.{Item, checkTag, commitBytes, commitSum, written}
-use Rattle.format.specs.Stores.{erased, entriesLength, appending, compacted}
+use Rattle.format.specs.Erased.{erased, validityFits}
+use Rattle.format.specs.Stores.{entriesLength, appending, compacted}
 use Rattle.format.specs.Writer.{roundedEnd, checkSize, unitCheck, forwardItem, carries, carriedFor, withForward}
 use Rattle.format.specs.declared.LfsFcrc.{LfsFcrc}
 use Rattle.format.specs.declared.LfsPair.{LfsPair}
-use Rattle.format.proofs.Tags.{of-type3, of-length}
-use Rattle.theory.specs.Walk.Erased.{length-erased, blank-stop}
+use Rattle.format.proofs.Tags.{of-type3}
+use Rattle.format.proofs.Erased.{Erases}
+use Rattle.theory.specs.Walk.Erased.{length-erased, drop-erased-is, stops-behind}
 use Rattle.theory.specs.Walk.ReadBack.{AllGood, GoodCheck, decode}
 use Rattle.theory.specs.Log.Folds.{span-app, forward-app}
 use Rattle.theory.specs.Log.Stores.{CommitFits, commitEvents, reach-walk, compact-walk, filled}
 use Rattle.theory.specs.Back.EventBytes.{Stands, log-stands}
-use Rattle.theory.specs.Blocks.Append.{length-commit, take-erased, drop-erased-is, AppendOk, appends}
-use Rattle.theory.specs.Blocks.Append.{as-filled}
+use Rattle.theory.specs.Blocks.Append.{length-commit, take-erased, AppendOk, appends, as-filled}
+use Rattle.theory.specs.Blocks.OtherItems.{check-length}
 use Rattle.theory.specs.Rules.LooseEntry.{pair-back}
 use Rattle.theory.specs.Commit.ForwardCheck.{carried-end}
 use Rattle.theory.specs.Commit.AcceptedVerdict.{check-size, check-ends}
@@ -46,11 +48,6 @@ straight-app [] more a st h = h a
 straight-app (ent t d ∷ es) more a st h = straight-app es more false (st .1) h
 straight-app (chk t c ∷ es) more a st h = straight-app es more true (st .1) h
 straight-app (inv ∷ es) more a st h = absurd st
-
-erased-stop : (p n : ℕ) → p < 2 ^ 31 → 4 ≤ n → walkFrom allOnes p (erased n) ≡ inv ∷ []
-erased-stop p n h k =
-    let e : n ≡ suc (suc (suc (suc (n - 4)))) = omega arith in
-    rw e (blank-stop allOnes p (n - 4) h)
 
 -- ---- where a log ends with a commit more
 span-written : (is : List Item) (t c : ℕ) → span (written is (chk t c ∷ [])) ≡ entriesLength is + tagLength t
@@ -72,29 +69,29 @@ forward-last [] f g t c h =
     rw (of-type3 typeForward noSlot 8 (omega arith) (omega arith) (omega arith)) (forward-reads f h)
 forward-last (i ∷ is) f g t c h = forward-last is f (cond (isForward (i .tag)) (forwardIn (i .body)) g) t c h
 
-pub forward-held : (es : List Event) (sum p : ℕ) (is : List Item) (ct prog : ℕ)
-    → forwardOf noForward (es ++ commitEvents sum p (is ++ (forwardItem (unitCheck prog) ∷ [])) ct) ≡ unitCheck prog
+pub forward-held : (e : ℕ) (es : List Event) (sum p : ℕ) (is : List Item) (ct prog : ℕ)
+    → forwardOf noForward (es ++ commitEvents sum p (is ++ (forwardItem (unitCheck e prog) ∷ [])) ct) ≡ unitCheck e prog
 unfolding commitEvents
-forward-held es sum p is ct prog =
+forward-held e es sum p is ct prog =
     forward-app es _ noForward
-    ∙ forward-last is (unitCheck prog) (forwardOf noForward es) ct
-    (commitSum sum p (is ++ (forwardItem (unitCheck prog) ∷ [])) ct) refl
+    ∙ forward-last is (unitCheck e prog) (forwardOf noForward es) ct
+    (commitSum sum p (is ++ (forwardItem (unitCheck e prog) ∷ [])) ct) refl
 
 -- ---- a block b with the log es, then a commit of the items is with the check tag ct, then m erased bytes
-module _ (prog : ℕ) (some : 4 ≤ prog) (b : List ℕ) (es : List Event) (sum p : ℕ) (is : List Item) (ct m : ℕ)
-    (stands : Stands es) (walks : walk b ≡ es ++ walkFrom sum p (commitBytes sum p is ct ++ erased m))
-    (rest : drop (logEnd es) b ≡ commitBytes sum p is ct ++ erased m) (good : AllGood is) (check : GoodCheck ct)
-    (plain : tagFlipped ct < 2 ^ 31) (follows : tagLength ct + prog ≤ 8 + m) where
+module _ (e : ℕ) (byte : Erases e) (prog : ℕ) (some : 4 ≤ prog) (b : List ℕ) (es : List Event) (sum p : ℕ) (is : List Item) (ct m : ℕ)
+    (stands : Stands es) (walks : walk b ≡ es ++ walkFrom sum p (commitBytes sum p is ct ++ erased e m))
+    (rest : drop (logEnd es) b ≡ commitBytes sum p is ct ++ erased e m) (good : AllGood is) (check : GoodCheck ct)
+    (flips : validityFits e (tagFlipped ct) ≡ true) (follows : tagLength ct + prog ≤ 8 + m) where
   -- the erased bytes behind its end
   abbrev left : ℕ
   left = m - (tagLength ct - 8)
 
   straight : stoppedStraight false (walk b) ≡ true
   straight =
-      let stop : walkFrom allOnes (tagFlipped ct) (drop (tagLength ct - 8) (erased m)) ≡ inv ∷ [] =
-      rw (drop-erased-is (tagLength ct - 8) m left (omega (arith, check .long)) refl)
-      (erased-stop (tagFlipped ct) left plain (omega (arith, check .long))) in
-      rw (walks, decode is sum p ct (erased m) good check (omega (arith, length-erased m)), stop)
+      let stop : walkFrom allOnes (tagFlipped ct) (drop (tagLength ct - 8) (erased e m)) ≡ inv ∷ [] =
+      rw (drop-erased-is e (tagLength ct - 8) m left (omega (arith, check .long)) refl)
+      (stops-behind e byte allOnes (tagFlipped ct) left (omega (arith, check .long)) flips) in
+      rw (walks, decode is sum p ct (erased e m) good check (omega (arith, length-erased e m)), stop)
       (straight-app es _ false stands (λ q. straight-written is q ct (commitSum sum p is ct)))
 
   end-is : logEnd (es ++ commitEvents sum p is ct) ≡ logEnd es + (entriesLength is + tagLength ct)
@@ -106,24 +103,24 @@ module _ (prog : ℕ) (some : 4 ≤ prog) (b : List ℕ) (es : List Event) (sum 
   bytes : length (commitBytes sum p is ct) ≡ entriesLength is + 8
   bytes = length-commit is sum p ct good
 
-  behind : drop (logEnd es + (entriesLength is + tagLength ct)) b ≡ erased left
+  behind : drop (logEnd es + (entriesLength is + tagLength ct)) b ≡ erased e left
   behind =
       let k : entriesLength is + tagLength ct ≡ length (commitBytes sum p is ct) + (tagLength ct - 8) =
       omega (arith, bytes, check .long) in
       sym (drop-drop (entriesLength is + tagLength ct) (logEnd es) b)
-      ∙ rw (rest, k) (drop-append-add (commitBytes sum p is ct) (erased m) (tagLength ct - 8)
-      ∙ drop-erased-is (tagLength ct - 8) m left (omega (arith, check .long)) refl)
+      ∙ rw (rest, k) (drop-append-add (commitBytes sum p is ct) (erased e m) (tagLength ct - 8)
+      ∙ drop-erased-is e (tagLength ct - 8) m left (omega (arith, check .long)) refl)
 
   long : logEnd es + (entriesLength is + tagLength ct) + prog ≤ length b
   long =
       let n : length (drop (logEnd es) b) ≡ entriesLength is + 8 + m =
-      ap length rest ∙ length-append (commitBytes sum p is ct) (erased m)
-      ∙ rw (bytes, length-erased m) refl in
+      ap length rest ∙ length-append (commitBytes sum p is ct) (erased e m)
+      ∙ rw (bytes, length-erased e m) refl in
       omega (arith, length-drop (logEnd es) b, check .long)
 
   -- the mark: what is held is the check of the erased unit
   pub erased-behind : (logEnd es + (entriesLength is + tagLength ct)) % prog ≡ 0
-      → forwardOf noForward (es ++ commitEvents sum p is ct) ≡ unitCheck prog
+      → forwardOf noForward (es ++ commitEvents sum p is ct) ≡ unitCheck e prog
       → erasedOf prog b (es ++ commitEvents sum p is ct) ≡ true
   unfolding erasedOf
   erased-behind aligned held =
@@ -134,63 +131,62 @@ module _ (prog : ℕ) (some : 4 ≤ prog) (b : List ℕ) (es : List Event) (sum 
         eq-eqb ((logEnd es + (entriesLength is + tagLength ct)) % prog) 0 aligned,
         le-leb (logEnd es + (entriesLength is + tagLength ct) + prog) (length b) long,
         behind,
-        take-erased prog left (omega (arith, check .long)),
-        eq-eqb (crc allOnes (erased prog)) (crc allOnes (erased prog)) refl,
+        take-erased e prog left (omega (arith, check .long)),
+        eq-eqb (crc allOnes (erased e prog)) (crc allOnes (erased e prog)) refl,
       )
 
 -- ---- an append
-pub append-erased : (prog : ℕ) → 4 ≤ prog → (b : List ℕ) (es : List Event) (is : List Item) (ct : ℕ)
-    → AppendOk b es is ct → (logEnd es + (entriesLength is + tagLength ct)) % prog ≡ 0
+pub append-erased : (e prog : ℕ) → 4 ≤ prog → (b : List ℕ) (es : List Event) (is : List Item) (ct : ℕ)
+    → AppendOk e b es is ct → (logEnd es + (entriesLength is + tagLength ct)) % prog ≡ 0
     → logEnd es + (entriesLength is + tagLength ct) + prog ≤ length b
-    → forwardOf noForward (es ++ commitEvents allOnes (logEndTag es) is ct) ≡ unitCheck prog
+    → forwardOf noForward (es ++ commitEvents allOnes (logEndTag es) is ct) ≡ unitCheck e prog
     → erasedOf prog (appending b es is ct (entriesLength is + 8)) (es ++ commitEvents allOnes (logEndTag es) is ct)
     ≡ true
 unfolding filled
-append-erased prog some b es is ct ok aligned unit held =
-    let a = appends b es is ct ok in
-    let e : ℕ = logEnd es in
+append-erased e prog some b es is ct ok aligned unit held =
+    let a = appends e b es is ct ok in
     let M : ℕ = length b - (logEnd es) in
     let m : ℕ = length b - (logEnd es) - (entriesLength is + 8) in
-    let y : List ℕ = commitBytes allOnes (logEndTag es) is ct ++ erased m in
-    rw (as-filled b es is ct ok)
-    (erased-behind prog some (take e b ++ y) es allOnes (logEndTag es) is ct m
+    let y : List ℕ = commitBytes allOnes (logEndTag es) is ct ++ erased e m in
+    rw (as-filled e b es is ct ok)
+    (erased-behind e (ok .byte) prog some (take (logEnd es) b ++ y) es allOnes (logEndTag es) is ct m
     (rw (ok .old) at (log-stands b))
-    (reach-walk (take e b) M es (a .old) (a .nonempty) (a .reg) (a .end) y)
-    (drop-at (take e b) y e (length-take-le e b (omega (arith, ok .fits)))) (ok .items) (ok .check) (ok .plain)
+    (reach-walk e (take (logEnd es) b) M es (a .old) (a .nonempty) (a .reg) (a .end) y)
+    (drop-at (take (logEnd es) b) y (logEnd es) (length-take-le (logEnd es) b (omega (arith, ok .fits)))) (ok .items) (ok .check) (ok .flips)
     (omega (arith, ok .check .long)) aligned held)
 
 -- ---- a compaction
-pub compact-erased : (prog : ℕ) → 4 ≤ prog → (rev : ℕ) (is : List Item) (ct m : ℕ)
-    → CommitFits (crc allOnes (toLe32 rev)) allOnes is ct m → (4 + (entriesLength is + tagLength ct)) % prog ≡ 0
+pub compact-erased : (e prog : ℕ) → 4 ≤ prog → (rev : ℕ) (is : List Item) (ct m : ℕ)
+    → CommitFits e (crc allOnes (toLe32 rev)) allOnes is ct m → (4 + (entriesLength is + tagLength ct)) % prog ≡ 0
     → tagLength ct + prog ≤ 8 + m
-    → forwardOf noForward (commitEvents (crc allOnes (toLe32 rev)) allOnes is ct) ≡ unitCheck prog
-    → erasedOf prog (compacted rev is ct m) (commitEvents (crc allOnes (toLe32 rev)) allOnes is ct) ≡ true
+    → forwardOf noForward (commitEvents (crc allOnes (toLe32 rev)) allOnes is ct) ≡ unitCheck e prog
+    → erasedOf prog (compacted e rev is ct m) (commitEvents (crc allOnes (toLe32 rev)) allOnes is ct) ≡ true
 unfolding span
-compact-erased prog some rev is ct m fits aligned unit held =
-    let w = compact-walk rev is ct m in
-    erased-behind prog some (compacted rev is ct m) [] (crc allOnes (toLe32 rev)) allOnes is ct m tt (w .1) (w .0)
-    (fits .items) (fits .check) (fits .plain) unit aligned held
+compact-erased e prog some rev is ct m fits aligned unit held =
+    let w = compact-walk e rev is ct m in
+    erased-behind e (fits .byte) prog some (compacted e rev is ct m) [] (crc allOnes (toLe32 rev)) allOnes is ct m tt (w .1) (w .0)
+    (fits .items) (fits .check) (fits .flips) unit aligned held
 
 -- ---- what is laid of entries that begin at `from`, with the forward check: `size` is that of its check
-module _ (prog block from : ℕ) (is js : List Item) (size : ℕ) (some : 4 ≤ prog) (most : prog ≤ 512)
-    (laid : js ≡ withForward prog block from is) (sized : size ≡ checkSize prog (from + entriesLength js))
+module _ (e prog block from : ℕ) (is js : List Item) (size : ℕ) (some : 4 ≤ prog) (most : prog ≤ 512)
+    (laid : js ≡ withForward e prog block from is) (sized : size ≡ checkSize prog (from + entriesLength js))
     (carried : carries prog block (from + entriesLength is) ≡ true) where
-  pub carried-items : js ≡ is ++ (forwardItem (unitCheck prog) ∷ [])
+  pub carried-items : js ≡ is ++ (forwardItem (unitCheck e prog) ∷ [])
   unfolding withForward carriedFor
   carried-items = laid ∙ rw carried
 
-  ends : from + (entriesLength js + tagLength (checkTag size)) ≡ from + entriesLength js + 4
+  ends : from + (entriesLength js + tagLength (checkTag e size)) ≡ from + entriesLength js + 4
       + checkSize prog (from + entriesLength js)
   ends =
       let k = check-size prog (from + entriesLength js) some most in
-      omega (arith, sized, k .1, of-length typeCheck noSlot size (omega (arith, sized, k .1)))
+      omega (arith, sized, k .1, check-length e size (omega (arith, sized, k .1)))
 
-  pub carried-aligned : (from + (entriesLength js + tagLength (checkTag size))) % prog ≡ 0
+  pub carried-aligned : (from + (entriesLength js + tagLength (checkTag e size))) % prog ≡ 0
   carried-aligned = rw ends (check-ends prog (from + entriesLength js) some)
 
-  pub carried-unit : from + (entriesLength js + tagLength (checkTag size)) + prog ≤ block
+  pub carried-unit : from + (entriesLength js + tagLength (checkTag e size)) + prog ≤ block
   carried-unit =
       let k = check-size prog (from + entriesLength js) some most in
       let r : roundedEnd prog (from + entriesLength js) + prog ≤ block =
-      rw (← laid) at (carried-end prog block from is some carried .1) in
+      rw (← laid) at (carried-end e prog block from is some carried .1) in
       omega (arith, ends, k .2)

@@ -35,20 +35,20 @@ at-place b0 b1 n0 m w h = rw (← h) (go (eqb (m .pair .n0) n0))
     go true = (refl, refl)
     go false = (refl, refl)
 
-module _ (g : Geometry) (b0 b1 : List ℕ) (n0 n1 count seed rules : ℕ) (entries : List Entry) (dat : List ℕ) (n : ℕ)
+module _ (g : Geometry) (b0 b1 : List ℕ) (n0 n1 count seed rules e : ℕ) (entries : List Entry) (dat : List ℕ) (n : ℕ)
     (m : LfsMdir) (s : ℕ) where
   abbrev i : Images
-  i = commitImages g b0 b1 n0 n1 count seed rules entries dat n
+  i = commitImages g b0 b1 n0 n1 count seed rules e entries dat n
 
   module _ (found : fetchOf g b0 b1 n0 n1 count seed ≡ Found m s) (w : Bool) (is : List Item) (size : ℕ)
-      (h : verdictOf g b0 b1 n0 n1 count seed rules entries dat ≡ accepted w is size) where
+      (h : verdictOf g b0 b1 n0 n1 count seed rules e entries dat ≡ accepted w is size) where
     x : List ℕ
     x = blockAt w b0 b1
 
     place : isSecond n0 m ≡ w
     place =
         let a = found-answers g b0 b1 n0 n1 count seed m s found in
-        let t = appends g b0 b1 n0 n1 count seed rules entries dat w is size h in
+        let t = appends g b0 b1 n0 n1 count seed rules e entries dat w is size h in
         a .place ∙ same-place b0 b1 (a .w) w (a .rev) (t .rev) (log (blockAt (a .w) b0 b1)) (log (blockAt w b0 b1))
         (a .answers) (t .answers)
 
@@ -56,35 +56,35 @@ module _ (g : Geometry) (b0 b1 : List ℕ) (n0 n1 count seed rules : ℕ) (entri
     known : knownTo m ≡ logEnd (log (blockAt w b0 b1))
     known =
         let a = found-answers g b0 b1 n0 n1 count seed m s found in
-        let o = ok g b0 b1 n0 n1 count seed rules entries dat w is size h in
+        let o = ok g b0 b1 n0 n1 count seed rules e entries dat w is size h in
         let p : a .w ≡ w = sym (a .place) ∙ place in
-        let e : m .off ≡ logEnd (log (blockAt w b0 b1)) = rw p at (a .end) in
+        let q : m .off ≡ logEnd (log (blockAt w b0 b1)) = rw p at (a .end) in
         let t : m .etag ≡ logEndTag (log (blockAt w b0 b1)) = rw p at (a .endTag) in
         let long = contained-end (log (blockAt w b0 b1)) allOnes (log-whole (blockAt w b0 b1)) (o .nonempty) (o .reg) in
-        rw (e, t) (omega arith)
+        rw (q, t) (omega arith)
 
     accepted-again : refetchOf g (i .b0) (i .b1) n0 n1 count s m ≡ fetchOf g (i .b0) (i .b1) n0 n1 count seed
     accepted-again =
         let k = min n (allStores is) in
-        let written = commit-written g b0 b1 n0 n1 count seed rules entries dat w is size h n in
+        let written = commit-written g b0 b1 n0 n1 count seed rules e entries dat w is size h n in
         let old = at-place b0 b1 n0 m w place in
         let new = at-place (i .b0) (i .b1) n0 m w place in
         refetched g g b0 b1 (i .b0) (i .b1) n0 n1 count count seed m s (inl found)
         (rw (known, new .0, old .0, written .0)
-        (stored-front g b0 b1 n0 n1 count seed rules entries dat w is size h (min n (allStores is))))
+        (stored-front g b0 b1 n0 n1 count seed rules e entries dat w is size h (min n (allStores is))))
         (new .1 ∙ written .1 ∙ sym (old .1))
 
   pub refetch-behind : Gave (fetchOf g b0 b1 n0 n1 count seed) m s
       → refetchOf g (i .b0) (i .b1) n0 n1 count s m ≡ fetchOf g (i .b0) (i .b1) n0 n1 count seed
   unfolding commitImages
-  refetch-behind gave = go (verdictOf g b0 b1 n0 n1 count seed rules entries dat) refl gave
+  refetch-behind gave = go (verdictOf g b0 b1 n0 n1 count seed rules e entries dat) refl gave
     where
-      go : (v : Verdict) → verdictOf g b0 b1 n0 n1 count seed rules entries dat ≡ v
+      go : (v : Verdict) → verdictOf g b0 b1 n0 n1 count seed rules e entries dat ≡ v
           → Gave (fetchOf g b0 b1 n0 n1 count seed) m s
-          → refetchOf g (imagesAfter n b0 b1 v .b0) (imagesAfter n b0 b1 v .b1) n0 n1 count s m
-          ≡ fetchOf g (imagesAfter n b0 b1 v .b0) (imagesAfter n b0 b1 v .b1) n0 n1 count seed
+          → refetchOf g (imagesAfter e n b0 b1 v .b0) (imagesAfter e n b0 b1 v .b1) n0 n1 count s m
+          ≡ fetchOf g (imagesAfter e n b0 b1 v .b0) (imagesAfter e n b0 b1 v .b1) n0 n1 count seed
       go (refused r) h gave = refetched g g b0 b1 b0 b1 n0 n1 count count seed m s gave refl refl
       go (accepted w is size) h (inl found) = rw h at (accepted-again found w is size h)
       go (accepted w is size) h (inr many) =
-          let f = commit-found g b0 b1 n0 n1 count seed rules entries dat w is size h in
+          let f = commit-found g b0 b1 n0 n1 count seed rules e entries dat w is size h in
           absurd (let z : _≡_ {A = ℕ} 0 1 = cc in omega arith)

@@ -1,0 +1,92 @@
+-- Laws of the erased byte: which two it is, what erased bytes are as a tag behind a previous one, and the check tag that
+-- goes with it. Assumes nothing.
+use mathlib.Core.Path.{_≡_, refl, _∙_}
+use mathlib.Core.Logic.{_⊎_, inl, inr}
+use mathlib.Core.Bool.{Bool, true, false, not, cond, _||_}
+use Prim.Native.Nat.{ℕ, _+_, _*_, _^_, _≤_, _<_}
+use native.Mathlib.Omega.{arith}
+use lib.Bits.{xor-comm, xor-zero-r}
+use lib.Dec.{eqb}
+use borrow.Author.Tests.{eqb-true, ltb-true, ltb-false, lt-ltb, le-ltb}
+use Rattle.format.specs.Word.{be32, xor, allOnes}
+use Rattle.format.specs.Tag.{tagValid, tagFlipped, tagOf}
+use Rattle.format.specs.Kind.{noSlot}
+use Rattle.format.specs.Erased.{erasedFits, erased, validityFits, checkType}
+use Rattle.format.specs.Commit.{checkTag}
+use Rattle.format.proofs.Tags.{allOnes-invalid}
+
+-- ---- "0xff or 0x00"
+abbrev pub Erases : ℕ → Type 0
+Erases e = (e ≡ 0xff) ⊎ (e ≡ 0x00)
+
+pub erases : (e : ℕ) → erasedFits e ≡ true → Erases e
+erases e h = go (eqb e 0xff) (eqb e 0x00) refl refl h
+  where
+    go : (a b : Bool) → eqb e 0xff ≡ a → eqb e 0x00 ≡ b → a || b ≡ true → Erases e
+    go true b ha hb q = inl (eqb-true e 0xff ha)
+    go false true ha hb q = inr (eqb-true e 0x00 hb)
+    go false false ha hb q = absurd (let z : _≡_ {A = ℕ} 0 1 = cc in omega arith)
+
+pub erases-byte : (e : ℕ) → Erases e → e < 2 ^ 8
+erases-byte e (inl h) = omega arith
+erases-byte e (inr h) = omega arith
+
+-- ---- four erased bytes as a tag
+ones : be32 (erased 0xff 4) ≡ allOnes
+unfolding be32
+ones = refl
+
+zeros : be32 (erased 0x00 4) ≡ 0
+unfolding be32
+zeros = refl
+
+xor-zero : (p : ℕ) → xor 0 p ≡ p
+unfolding xor
+xor-zero p = xor-comm 0 p ∙ xor-zero-r p
+
+not-valid : (p : ℕ) → not (tagValid p) ≡ true → 2 ^ 31 ≤ p
+not-valid p h = go (tagValid p) refl h
+  where
+    go : (b : Bool) → tagValid p ≡ b → not b ≡ true → 2 ^ 31 ≤ p
+    go true e q = absurd (let z : _≡_ {A = ℕ} 0 1 = cc in omega arith)
+    go false e q = ltb-false p (2 ^ 31) e
+
+-- behind an end tag whose validity bit fits they are invalid
+pub erased-stops : (e p : ℕ) → Erases e → validityFits e p ≡ true → 2 ^ 31 ≤ xor (be32 (erased e 4)) p
+unfolding validityFits
+erased-stops e p (inl h) v = rw (h, ones) (allOnes-invalid p (ltb-true p (2 ^ 31) (rw h at v)))
+erased-stops e p (inr h) v = rw (h, zeros, xor-zero p) (not-valid p (rw h at v))
+
+-- behind any valid tag they are invalid, or that tag again
+pub erased-repeats : (e p : ℕ) → Erases e → p < 2 ^ 31 → xor (be32 (erased e 4)) p < 2 ^ 31
+    → xor (be32 (erased e 4)) p ≡ p
+erased-repeats e p (inl h) small v =
+    let w : xor allOnes p < 2 ^ 31 = rw (h, ones) at v in absurd (omega (arith, allOnes-invalid p small))
+erased-repeats e p (inr h) small v = rw (h, zeros) (xor-zero p)
+
+-- ---- the check tag
+pub check-type : (e : ℕ) → (0x500 ≤ checkType e) × (checkType e < 0x502)
+unfolding checkType
+check-type e = go (eqb e 0x00)
+  where
+    go : (z : Bool) → (0x500 ≤ cond z 0x501 0x500) × (cond z 0x501 0x500 < 0x502)
+    go true = (omega arith, omega arith)
+    go false = (omega arith, omega arith)
+
+flips-set : (s : ℕ) → s < 2 ^ 10 → 2 ^ 31 ≤ tagFlipped (tagOf 0x501 noSlot s)
+unfolding tagFlipped tagOf
+flips-set s h = omega arith
+
+flips-none : (s : ℕ) → s < 2 ^ 10 → tagFlipped (tagOf 0x500 noSlot s) < 2 ^ 31
+unfolding tagFlipped tagOf
+flips-none s h = omega arith
+
+-- the end tag behind it has the validity bit that fits
+pub check-fits : (e s : ℕ) → s < 2 ^ 10 → validityFits e (tagFlipped (checkTag e s)) ≡ true
+unfolding validityFits checkType
+check-fits e s h = go (eqb e 0x00)
+  where
+    go : (z : Bool) → cond z (not (tagValid (tagFlipped (tagOf (cond z 0x501 0x500) noSlot s))))
+        (tagValid (tagFlipped (tagOf (cond z 0x501 0x500) noSlot s))) ≡ true
+    go true = rw (le-ltb (tagFlipped (tagOf 0x501 noSlot s)) (2 ^ 31) (flips-set s h))
+    go false = lt-ltb (tagFlipped (tagOf 0x500 noSlot s)) (2 ^ 31) (flips-none s h)
