@@ -49,7 +49,7 @@ pub fn compare<F: Finds, R: Voice>(voices: &Voices<F, R>, parts: u64) -> Vec<Sub
     }
     let real = real::cases();
     for number in 0..REAL.div_ceil(parts) {
-        let case = &real[number as usize % real.len()];
+        let case = &real[number as usize % real.len()].case;
         inputs::ask_of(case, number, &mut |asked| all.judge(voices, asked));
     }
     let mut subject = all.find.subject();

@@ -20,7 +20,7 @@ mod sizes;
 
 pub use behind::behind;
 pub use edges::{broken, broken_blocks, Edge};
-pub use log::Log;
+pub use log::{erased_behind, Log};
 pub use lookups::{tags_in, Asked};
 pub use pairs::{finish, log};
 pub use sizes::geometry;

@@ -1,5 +1,6 @@
-//! Writing: random histories of commits, compactions and cuts, under both rules,
-//! from made pairs and from pairs that a real littlefs wrote. There is no Rust that
+//! Writing: random histories of commits, compactions and cuts, under both rules, on
+//! flash that erases to 0xff, to 0x00 and on boards of both kinds in turn, from made
+//! pairs and from pairs that a real littlefs wrote. There is no Rust that
 //! writes; the port is held against the second implementation, answers and both
 //! images byte for byte, and what stands there afterwards is read by the unchanged
 //! Rust and held against a simple directory machine.
@@ -9,11 +10,13 @@
 pub mod ask;
 pub mod carried;
 mod cuts;
+pub mod flash;
 pub mod history;
 pub mod lists;
 mod long;
 pub mod reads;
 pub mod real;
+mod room;
 mod solve;
 mod solved;
 pub mod start;
@@ -65,8 +68,8 @@ pub fn compare(voice: &impl Writes, parts: u64) -> Vec<Subject> {
     }
     let real = real::cases();
     for number in 0..REAL.div_ceil(parts) {
-        let case = &real[number as usize % real.len()];
-        history::run_from(case, number, STEPS, &mut |step| all.judge(voice, step));
+        let pair = &real[number as usize % real.len()];
+        history::run_from(pair, number, STEPS, &mut |step| all.judge(voice, step));
     }
     for number in 0..WIDER.div_ceil(parts) {
         history::wider(number, &mut |step| {
@@ -74,11 +77,11 @@ pub fn compare(voice: &impl Writes, parts: u64) -> Vec<Subject> {
             all.both(voice, step);
         });
     }
-    all.subjects()
+    all.subjects(voice)
 }
 
 impl Histories {
-    fn subjects(self) -> Vec<Subject> {
+    fn subjects(self, voice: &impl Writes) -> Vec<Subject> {
         let mut calls = Subject::new("writing: the calls, by the second implementation");
         for check in [
             self.commit,
@@ -88,6 +91,10 @@ impl Histories {
             self.both,
         ] {
             calls.add(check);
+        }
+        let (entries, data) = (&[][..], &[][..]);
+        if voice.can(&Work::Commit { entries, data }) && voice.can(&Work::Compact) {
+            calls.add(self.reads.flash.demand(true));
         }
         let mut read = Subject::new("writing: what the Rust reads afterwards");
         for check in [

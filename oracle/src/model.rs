@@ -25,6 +25,7 @@ mod lay;
 mod lookup;
 mod refetch;
 mod refetch_fault;
+mod room;
 mod rules;
 mod sizes;
 mod stores;

@@ -75,7 +75,7 @@ pub fn compare<F: Refetches, W: Writes, R: Voice>(
     }
     let real = real::cases();
     for number in 0..REAL.div_ceil(parts) {
-        let case = &real[number as usize % real.len()];
+        let case = &real[number as usize % real.len()].case;
         inputs::ask_of(voices, case, number, &mut |asked| all.judge(voices, asked));
     }
     // Where it is never seen, what is unchanged would not have to be told apart.

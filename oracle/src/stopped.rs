@@ -17,6 +17,7 @@ mod next;
 use crate::calls::write::{Answer, Committed, Stored, Task, Writes, DOCUMENT};
 use crate::calls::{Fetched, Mdir, Voice};
 use crate::histories::ask::{text, Outcome, Step};
+use crate::histories::flash::{named, Flash};
 use crate::histories::{history, real};
 use crate::model::{fetched_log, regular, WriteFault};
 use crate::tally::{grouped, Check, Subject};
@@ -43,6 +44,11 @@ pub struct Stopped {
     wider: u64,
     /// Those that carry a forward check.
     carried: u64,
+    /// Those for flash that erases to 0x00, and those of either kind on a log that has
+    /// checks for the other.
+    zero: u64,
+    both: u64,
+    flash: Flash,
     stops: u64,
     stores: Check,
     forward: Check,
@@ -60,6 +66,9 @@ impl Default for Stopped {
             calls: 0,
             wider: 0,
             carried: 0,
+            zero: 0,
+            both: 0,
+            flash: Flash::default(),
             stops: 0,
             stores: Check::ours("stores: single bytes, rising"),
             forward: Check::ours("finished: forward check"),
@@ -84,24 +93,16 @@ pub fn compare<W: Writes, R: Voice>(asked: &Asked<W, R>, parts: u64) -> (Subject
     }
     let real = real::cases();
     for number in 0..REAL.div_ceil(parts) {
-        let (case, calls) = (&real[number as usize % real.len()], stopped.calls);
-        history::run_from(case, number, STEPS, &mut |step| stopped.judge(asked, step));
+        let (pair, calls) = (&real[number as usize % real.len()], stopped.calls);
+        history::run_from(pair, number, STEPS, &mut |step| stopped.judge(asked, step));
         pairs += u64::from(stopped.calls > calls);
     }
     let mut subject = Subject::new("stopped: every stop of an accepted call");
     for check in stopped.checks() {
         subject.add(check.clone());
     }
-    let line = format!(
-        "stopped: {} pairs, {} accepted calls, {} of them on wider logs, {} with a forward check, \
-         {} stops, {} comparisons",
-        grouped(pairs),
-        grouped(stopped.calls),
-        grouped(stopped.wider),
-        grouped(stopped.carried),
-        grouped(stopped.stops),
-        grouped(subject.totals().ours)
-    );
+    subject.add(std::mem::take(&mut stopped.flash).demand(false));
+    let line = stopped.line(pairs, subject.totals().ours);
     (subject, line)
 }
 
@@ -122,6 +123,21 @@ impl Stopped {
             &self.old_lookups,
             &self.next,
         ]
+    }
+
+    fn line(&self, pairs: u64, comparisons: u64) -> String {
+        format!(
+            "stopped: {} pairs, {} accepted calls, {} of them on wider logs, {} with a forward \
+             check, {} for flash of 0x00, {} on logs of both kinds, {} stops, {} comparisons",
+            grouped(pairs),
+            grouped(self.calls),
+            grouped(self.wider),
+            grouped(self.carried),
+            grouped(self.zero),
+            grouped(self.both),
+            grouped(self.stops),
+            grouped(comparisons)
+        )
     }
 
     /// The checks that found a difference.
@@ -153,6 +169,9 @@ impl Stopped {
         self.wider += u64::from(wider(step));
         let call = Call::of(asked, step, answer, whole.images(), every_type);
         self.carried += u64::from(call.forward.carried);
+        self.zero += u64::from(step.task.erased == 0x00);
+        self.both += u64::from(call.for_both());
+        self.flash.accepted(&step.task, call.for_both());
         self.forward(&call);
         self.ends(asked, &call);
         for limit in 0..=call.all + 1 {
@@ -255,6 +274,10 @@ impl Stopped {
             true => "before the last store",
             false => "all stores made",
         });
+        if limit < call.all {
+            let byte = named(call.step.task.erased);
+            self.finished.outcome_of("before the last store", byte);
+        }
         let lookups = &mut self.finished_lookups;
         machine::hold(lookups, questions, &state.answers, weight, say);
     }

@@ -109,6 +109,11 @@ impl Check {
         }
     }
 
+    /// Whether one was counted.
+    pub fn met(&self, group: &str, kind: &str) -> bool {
+        self.outcomes.iter().any(|of| (of.0, of.1) == (group, kind))
+    }
+
     /// Its name, if something differed.
     pub fn differing(&self) -> Option<&'static str> {
         (self.differences > 0).then_some(self.name)

@@ -8,18 +8,22 @@
 use super::{Geometry, Mdir};
 
 /// Document 01's numbers for the refusals of commit and compaction, beside
-/// those of fetch, and the three of document 02, L1, in the place of -203.
+/// those of fetch, and the three of document 02, L1, in the place of -203, the
+/// second of them as L7 has it.
 pub const BAD_ENTRY: i32 = -201;
 pub const IRREGULAR: i32 = -202;
 pub const NO_SPACE: i32 = -28;
 pub const MISALIGNED: i32 = -211;
-pub const TOP_BIT: i32 = -212;
+pub const WRONG_VALIDITY: i32 = -212;
 pub const NOT_ERASED: i32 = -213;
 pub const COINCIDENCE: i32 = -204;
 
 /// Which logs are regular: by document 01's rule, or by littlefs's beside it.
 pub const DOCUMENT: u32 = 0;
 pub const LITTLEFS: u32 = 1;
+
+/// "the erased byte, 0xff or 0x00" (document 02, L7)
+pub const ERASED: [u8; 2] = [0xff, 0x00];
 
 /// `lanolin_entry`.
 #[repr(C)]
@@ -68,6 +72,8 @@ pub struct Task<'a> {
     pub seed: u32,
     /// `DOCUMENT` or `LITTLEFS`; "any other number is -22".
     pub rules: u32,
+    /// One of `ERASED`; "any other erased byte is -22".
+    pub erased: u8,
     pub work: Work<'a>,
     /// The limit of n stores, in the two calls that have one.
     pub stores: Option<u32>,

@@ -23,9 +23,9 @@ pub fn weight_of(blocks: &Blocks) -> usize {
     1000 * bytes + blocks.images[0].len()
 }
 
-/// The bytes up to the last one that is not 0xff.
+/// The bytes up to the last one that is not as the very last: behind it, all is erased.
 fn written(image: &[u8]) -> usize {
-    let last = image.iter().rposition(|&byte| byte != 0xff);
+    let last = image.iter().rposition(|byte| Some(byte) != image.last());
     last.map_or(0, |last| last + 1)
 }
 

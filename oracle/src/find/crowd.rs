@@ -27,7 +27,8 @@ struct Crowd<'a> {
 /// Slots that creates make, or names; then commits that splice among them.
 pub fn case(random: &mut Random, habits: &Habits) -> Case {
     let revision = random.word();
-    let mut log = Log::new(GEOMETRY.block_size as usize, revision);
+    let board = habits.board(random);
+    let mut log = Log::on(board, GEOMETRY.block_size as usize, revision);
     let mut crowd = Crowd {
         random,
         habits,

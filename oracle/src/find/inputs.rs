@@ -9,7 +9,7 @@ use super::past::Past;
 use crate::calls::find::Find;
 use crate::calls::write::{Work, DOCUMENT, LITTLEFS};
 use crate::calls::Geometry;
-use crate::generate::{self, Case, Log, Sizes};
+use crate::generate::{self, erased_behind, Case, Log, Sizes};
 use crate::histories::ask::{task, Outcome};
 use crate::histories::lists::{self, Habits};
 use crate::histories::{history, start};
@@ -150,14 +150,15 @@ fn too_many(random: &mut Random, geometry: Geometry) -> Case {
 /// A commit that is stopped somewhere, or not: behind what is committed stand
 /// entries that are not.
 fn stop(random: &mut Random, case: &mut Case, habits: &Habits) {
-    let count = FAULTLESS.fetch_and_say(&case.fetch()).0.dir.count;
-    let (list, _) = lists::good(random, habits, count.into());
+    let dir = FAULTLESS.fetch_and_say(&case.fetch()).0.dir;
+    let (list, _) = lists::good(random, habits, dir.count.into());
     let work = Work::Commit {
         entries: &list.entries,
         data: &list.data,
     };
     let limit = random.below(list.length() + 24) as u32;
-    let task = task(case, LITTLEFS, work, Some(limit));
+    let erased = erased_behind(dir.etag);
+    let task = task(case, LITTLEFS, erased, work, Some(limit));
     case.images = Outcome::of(&FAULTLESS_WRITER, &task, &case.images).images();
 }
 

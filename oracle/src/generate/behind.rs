@@ -13,11 +13,12 @@ use crate::random::Random;
 const CROWD: u16 = 1000;
 
 /// The image with more behind the record's end. What the record knows stays; the rest
-/// is erased first.
+/// is erased first, to either byte.
 pub fn behind(random: &mut Random, geometry: Geometry, image: &[u8], dir: &Mdir) -> Vec<u8> {
     let (mut bytes, known) = (image.to_vec(), known_to(dir));
-    bytes[known..].fill(0xff);
-    let mut log = Log::behind(bytes, dir.off as usize, dir.etag);
+    let erased = [0xff, 0xff, 0xff, 0x00][random.below(4)];
+    bytes[known..].fill(erased);
+    let mut log = Log::behind(bytes, erased, dir.off as usize, dir.etag);
     if !adopt(random, &mut log, known) {
         return log.bytes;
     }
@@ -55,7 +56,7 @@ fn splices(random: &mut Random, log: &mut Log, prog: usize) {
     for _ in 0..1 + random.below(4) {
         log.put(tag_of(type_, random.below(1023) as u32, 0), &[]);
     }
-    let tag = tag_of(CHECK, NO_SLOT, log.check_size(0, prog));
+    let tag = tag_of(log.check_type(), NO_SLOT, log.check_size(0, prog));
     if length_of(tag) <= log.room() {
         log.check(tag);
     }

@@ -210,7 +210,7 @@ impl Writer<'_> {
     /// A check, mostly as a file system writes it.
     pub fn check(&mut self) -> bool {
         let type_ = match self.random.below(20) {
-            0..14 => CHECK,
+            0..14 => self.log.check_type(),
             14..17 => CHECK + 1,
             _ => CHECK + self.random.below(128) as u32,
         };
@@ -258,7 +258,7 @@ pub fn put_forward(random: &mut Random, log: &mut Log, prog: usize) {
     let read = if length > left { left / 8 * 8 } else { length };
     let sum = match random.below(6) {
         0 => random.word(),
-        _ => crc(ONES, &vec![0xff; read]),
+        _ => crc(ONES, &vec![log.erased; read]),
     };
     let mut data = (length as u32).to_le_bytes().to_vec();
     data.extend(sum.to_le_bytes());

@@ -5,36 +5,59 @@
 //!
 //! Assumes nothing: what does not fit is not written.
 
-use crate::model::{be32, chunk_of, crc, length_of, INVALID, ONES};
+use crate::model::{be32, chunk_of, crc, length_of, CHECK, INVALID, ONES};
 
 pub struct Log {
     pub bytes: Vec<u8>,
+    /// The byte that the flash erases to: what is laid for it says so.
+    pub erased: u8,
     /// Where the next tag stands.
     at: usize,
+    /// Up to where bytes are laid: behind a check's padding, or a short one's
+    /// checksum, that is another place.
+    laid: usize,
     previous: u32,
     sum: u32,
     /// Where the commits end.
     pub ends: Vec<usize>,
 }
 
+/// The byte that the room behind a commit is erased to, if its check was laid for it:
+/// "the check tag's low chunk bit [..] say[s] which validity bit the next tag must have".
+pub fn erased_behind(end_tag: u32) -> u8 {
+    match end_tag & INVALID {
+        0 => 0xff,
+        _ => 0x00,
+    }
+}
+
 impl Log {
     pub fn new(block_size: usize, revision: u32) -> Log {
-        let mut bytes = vec![0xff; block_size];
+        Log::on(0xff, block_size, revision)
+    }
+
+    /// On flash that erases to this byte.
+    pub fn on(erased: u8, block_size: usize, revision: u32) -> Log {
+        let mut bytes = vec![erased; block_size];
         bytes[..4].copy_from_slice(&revision.to_le_bytes());
         Log {
             sum: crc(ONES, &bytes[..4]),
             bytes,
+            erased,
             at: 4,
+            laid: 4,
             previous: ONES,
             ends: Vec::new(),
         }
     }
 
     /// A log that goes on behind a commit, over what stands there.
-    pub fn behind(bytes: Vec<u8>, end: usize, end_tag: u32) -> Log {
+    pub fn behind(bytes: Vec<u8>, erased: u8, end: usize, end_tag: u32) -> Log {
         Log {
             bytes,
+            erased,
             at: end,
+            laid: end,
             previous: end_tag,
             sum: ONES,
             ends: Vec::new(),
@@ -61,8 +84,22 @@ impl Log {
         self.bytes[self.at..self.at + length].copy_from_slice(&entry);
         self.sum = crc(self.sum, &entry);
         self.at += length;
+        self.laid = self.at;
         self.previous = tag;
         true
+    }
+
+    /// The type of a check that is laid for the flash: "0x500 for 0xff and 0x501 for
+    /// 0x00".
+    pub fn check_type(&self) -> u32 {
+        CHECK + u32::from(self.erased == 0x00)
+    }
+
+    /// Erases all behind the log, as another board might.
+    pub fn erase_rest(&mut self) {
+        let end = self.at.max(self.laid);
+        let rest = self.bytes.get_mut(end..).unwrap_or_default();
+        rest.fill(self.erased);
     }
 
     /// A commit check whose checksum fits. Only its eight bytes must have room:
@@ -75,6 +112,7 @@ impl Log {
         let sum = crc(self.sum, &raw);
         self.bytes[self.at..self.at + 4].copy_from_slice(&raw);
         self.bytes[self.at + 4..self.at + 8].copy_from_slice(&sum.to_le_bytes());
+        self.laid = self.at + 8;
         self.at += length_of(tag);
         self.previous = tag ^ (chunk_of(tag) & 1) << 31;
         self.sum = ONES;
@@ -95,6 +133,7 @@ impl Log {
         let end = self.at + length_of(tag);
         self.sum = crc(self.sum, &self.bytes[self.at..end]);
         (self.at, self.previous) = (end, tag);
+        self.laid = end;
         true
     }
 

@@ -99,13 +99,20 @@ pub struct Step<'a> {
     pub types: &'a [u32],
 }
 
-pub fn task<'a>(case: &Case, rules: u32, work: Work<'a>, stores: Option<u32>) -> Task<'a> {
+pub fn task<'a>(
+    case: &Case,
+    rules: u32,
+    erased: u8,
+    work: Work<'a>,
+    stores: Option<u32>,
+) -> Task<'a> {
     Task {
         geometry: case.geometry,
         numbers: case.numbers,
         block_count: case.block_count,
         seed: case.seed,
         rules,
+        erased,
         work,
         stores,
     }
@@ -134,11 +141,12 @@ pub fn text(step: &Step) -> String {
         Work::Compact => String::from("compaction"),
     };
     format!(
-        "{geometry:?}, numbers {numbers:x?}, block count {:#x}, seed {:#x}, rules {}, stores {:?}, \
-         {work}, images {} and {}",
+        "{geometry:?}, numbers {numbers:x?}, block count {:#x}, seed {:#x}, rules {}, \
+         erased byte {:#04x}, stores {:?}, {work}, images {} and {}",
         step.task.block_count,
         step.task.seed,
         step.task.rules,
+        step.task.erased,
         step.task.stores,
         hex(b0),
         hex(b1)

@@ -1,5 +1,6 @@
 //! Whether an accepted call carried a forward check, and how much room there was for
-//! it: by the log that the call left, whoever wrote it.
+//! it, and for which flash its checks were laid: by the log that the call left, whoever
+//! wrote it.
 //!
 //! Assumes a log that is regular.
 
@@ -14,6 +15,8 @@ pub struct Carried {
     pub carried: bool,
     /// The log's last one, as a record has it: a mark, the size, the checksum.
     pub last: (u8, u32, u32),
+    /// It has checks for flash of both kinds.
+    pub both: bool,
     /// How many bytes were left behind forward check, check and one program unit, or
     /// lacked.
     spare: isize,
@@ -36,6 +39,7 @@ impl Carried {
         Carried {
             carried,
             last,
+            both: for_both(&log),
             spare: geometry.block_size as isize - prog - entries - LAST_ENTRIES,
             prog,
         }
@@ -52,4 +56,11 @@ impl Carried {
             _ => "up to a unit too little",
         }
     }
+}
+
+fn for_both(log: &[Logged]) -> bool {
+    let checks = log.iter().filter(|logged| type2_of(logged.tag) == CHECK);
+    let mut bits = checks.map(|logged| chunk_of(logged.tag) & 1);
+    let first = bits.next();
+    bits.any(|bit| Some(bit) != first)
 }

@@ -78,7 +78,7 @@ impl History<'_> {
         let task = self.task(work, None);
         let images = [&self.case.images[0][..], &self.case.images[1][..]];
         match FAULTLESS_WRITER.plan(&task, images) {
-            Ok(plan) => plan.laid.bytes.len() + usize::from(plan.erase),
+            Ok(plan) => plan.laid.bytes.len() + usize::from(plan.erase.is_some()),
             Err(_) => 0,
         }
     }

@@ -8,10 +8,11 @@
 
 use super::ask::{fetched, task, After, Outcome, Step};
 use super::lists::{self, Habits, List};
+use super::real::Real;
 use super::start;
 use crate::calls::write::*;
 use crate::calls::{Fetched, Mdir};
-use crate::generate::{self, Case, Sizes};
+use crate::generate::{self, erased_behind, Case, Sizes};
 use crate::model::*;
 use crate::random::Random;
 
@@ -25,8 +26,10 @@ pub struct History<'a> {
     pub(super) directory: Directory,
     /// Those of the step at hand.
     pub(super) rules: u32,
+    /// The byte that the flash erases to, of the board it is on.
+    pub(super) erased: u8,
     /// The last answer asked for a compaction.
-    stuck: bool,
+    pub(super) stuck: bool,
     pub(super) tell: Tell<'a>,
 }
 
@@ -48,16 +51,23 @@ pub fn run(number: u64, steps: usize, tell: Tell) {
     }
 }
 
-/// The same from a given pair.
-pub fn run_from(case: &Case, number: u64, steps: usize, tell: Tell) {
+/// The same from a pair that a real littlefs wrote, on its own board at first; one in
+/// four goes to others.
+pub fn run_from(real: &Real, number: u64, steps: usize, tell: Tell) {
     let mut random = Random::numbered(number, 0x9e1);
-    let habits = habits(&mut random, case.geometry.block_size);
+    let mut habits = habits(&mut random, real.case.geometry.block_size);
+    habits.boards = match (random.below(4), real.erased) {
+        (0, _) => &ERASED,
+        (_, 0x00) => &[0x00],
+        _ => &[0xff],
+    };
     let seed = random.word();
     let case = Case {
         seed,
-        ..case.clone()
+        ..real.case.clone()
     };
     let mut history = History::new(random, case, habits, tell);
+    history.erased = real.erased;
     for _ in 0..steps {
         history.step();
     }
@@ -87,6 +97,7 @@ pub fn wider(number: u64, tell: Tell) {
 
 pub fn habits(random: &mut Random, block_size: u32) -> Habits {
     const TYPES: [u32; 6] = [0x374, 0x300, 0x3ff, 0x301, 0x380, 0x37f];
+    const BOARDS: [&[u8]; 4] = [&[0xff], &[0x00], &ERASED, &ERASED];
     let first = random.below(TYPES.len());
     let number = 1 + random.below(3);
     Habits {
@@ -95,6 +106,16 @@ pub fn habits(random: &mut Random, block_size: u32) -> Habits {
         longest: [4, 6, 12, 40][random.below(4)],
         names: Vec::new(),
         commits: 4,
+        boards: BOARDS[random.below(4)],
+    }
+}
+
+/// Mostly the board that the last commit was laid for, if the history knows it.
+fn first_board(random: &mut Random, case: &Case, habits: &Habits) -> u8 {
+    let last = erased_behind(fetched(case, &case.images).dir.etag);
+    match habits.boards.contains(&last) && random.below(4) > 0 {
+        true => last,
+        false => habits.board(random),
     }
 }
 
@@ -104,9 +125,10 @@ pub(super) fn read(case: &Case) -> Directory {
 }
 
 impl<'a> History<'a> {
-    fn new(random: Random, case: Case, habits: Habits, tell: Tell<'a>) -> History<'a> {
+    fn new(mut random: Random, case: Case, habits: Habits, tell: Tell<'a>) -> History<'a> {
         History {
             directory: read(&case),
+            erased: first_board(&mut random, &case, &habits),
             random,
             case,
             habits,
@@ -118,12 +140,12 @@ impl<'a> History<'a> {
 }
 
 impl History<'_> {
-    /// The step's own rules, on the pair as it is.
+    /// The step's own rules, on the pair as it is, on the board at hand.
     pub(super) fn task<'a>(&self, work: Work<'a>, stores: Option<u32>) -> Task<'a> {
-        task(&self.case, self.rules, work, stores)
+        task(&self.case, self.rules, self.erased, work, stores)
     }
 
-    fn record(&self) -> Mdir {
+    pub(super) fn record(&self) -> Mdir {
         self.fetched().dir
     }
 
@@ -134,6 +156,9 @@ impl History<'_> {
     fn step(&mut self) {
         // littlefs's takes every log that document 01's takes.
         self.rules = [DOCUMENT, LITTLEFS, LITTLEFS, LITTLEFS][self.random.below(4)];
+        if self.random.below(8) == 0 {
+            self.moved();
+        }
         if self.stuck && self.random.below(4) > 0 {
             self.stuck = false;
             return self.compact("compaction of a block without room");
@@ -167,7 +192,7 @@ impl History<'_> {
             self.limited(kind, work, limit, false);
         }
         let result = self.whole(kind, work);
-        self.stuck = matches!(result, NO_SPACE | MISALIGNED | TOP_BIT | NOT_ERASED);
+        self.stuck = matches!(result, NO_SPACE | MISALIGNED | WRONG_VALIDITY | NOT_ERASED);
         result
     }
 
@@ -220,7 +245,7 @@ impl History<'_> {
         lists::good(&mut self.random, &self.habits, count)
     }
 
-    fn good(&mut self) {
+    pub(super) fn good(&mut self) {
         let list = self.list();
         self.commit("good entries", &list);
     }
@@ -240,7 +265,7 @@ impl History<'_> {
 
     /// Entries that end at the block's end, or where their forward check just has
     /// room.
-    fn filled(&mut self) {
+    pub(super) fn filled(&mut self) {
         let (mut list, count) = self.list_and_count();
         let room = self.case.geometry.block_size as isize - self.record().off as isize;
         let (kind, left) = match self.random.below(2) {
@@ -286,47 +311,25 @@ impl History<'_> {
         (self.case, self.directory) = kept;
     }
 
-    /// A pair without room for one of the reasons, for several at once or for
-    /// none. The history stays where it is.
-    fn no_room(&mut self) {
-        let kept = (self.case.clone(), self.directory.clone(), self.stuck);
-        self.case = start::no_room(&mut self.random, self.case.geometry);
-        self.directory = read(&self.case);
-        match self.random.below(4) {
-            0 => self.coincidence(),
-            1 => self.filled(),
-            _ => self.good(),
-        }
-        (self.case, self.directory, self.stuck) = kept;
-    }
-
-    /// A byte behind the end that isn't erased: near, far or the last.
-    fn dirt(&mut self) {
-        let record = self.record();
-        let which = usize::from(record.pair[0] == self.case.numbers[1]);
-        let image = &mut self.case.images[which];
-        let room = image.len().saturating_sub(record.off as usize);
-        if room == 0 {
-            return;
-        }
-        let place = [0, room - 1, self.random.below(room)][self.random.below(3)];
-        image[record.off as usize + place] &= !(1 << self.random.below(8));
-        self.directory = read(&self.case);
-        self.good();
-    }
-
     /// A call on other inputs: any generated pair, sizes at their bounds, numbers
-    /// that are no rules. The history stays where it is.
+    /// that are no rules, bytes that no flash erases to. The history stays where it is.
     fn elsewhere(&mut self) {
-        if self.random.below(4) == 0 {
-            self.rules = [2, 3, 0x100, 1 << 31, u32::MAX][self.random.below(5)];
+        let kept = (self.case.clone(), self.directory.clone(), self.erased);
+        match self.random.below(8) {
+            0 | 1 => self.rules = [2, 3, 0x100, 1 << 31, u32::MAX][self.random.below(5)],
+            2 | 3 => {
+                let any = self.random.word() as u8;
+                self.erased = [0x01, 0x7f, 0x80, 0xfe, any][self.random.below(5)];
+            }
+            _ => {}
         }
-        let kept = (self.case.clone(), self.directory.clone());
-        self.case = match self.random.below(5) {
-            0 => start::irregular_and_coincident(&mut self.random).unwrap_or(kept.0.clone()),
-            1..3 => generate::case(self.random.word().into(), Sizes::Small).0,
-            _ => generate::broken_blocks(&mut self.random, &self.case),
-        };
+        self.case = match self.random.below(6) {
+            0 => start::irregular_and_coincident(&mut self.random, self.erased),
+            1..3 => Some(generate::case(self.random.word().into(), Sizes::Small).0),
+            3 => None,
+            _ => Some(generate::broken_blocks(&mut self.random, &self.case)),
+        }
+        .unwrap_or(kept.0.clone());
         self.directory = read(&self.case);
         let mut list = self.list();
         if self.random.below(8) == 0 {
@@ -342,7 +345,7 @@ impl History<'_> {
                 self.limited("elsewhere", Work::Compact, limit, false);
             }
         }
-        (self.case, self.directory) = kept;
+        (self.case, self.directory, self.erased) = kept;
     }
 
     /// What some histories begin with: very many entries, long data.

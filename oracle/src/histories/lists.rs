@@ -25,6 +25,8 @@ pub struct Habits {
     pub names: Vec<Vec<u8>>,
     /// The most commits of a log that it starts from.
     pub commits: usize,
+    /// The boards it is on: the bytes that their flash erases to.
+    pub boards: &'static [u8],
 }
 
 impl Habits {
@@ -34,6 +36,11 @@ impl Habits {
             0 => random.bytes(length),
             some => self.names[random.below(some)].clone(),
         }
+    }
+
+    /// One of its boards.
+    pub fn board(&self, random: &mut Random) -> u8 {
+        one_of(random, self.boards)
     }
 }
 

@@ -42,7 +42,7 @@ impl History<'_> {
 
     /// Creates up to a count of 1,021 to 1,024, in a block that has the room.
     pub(super) fn many_slots(&mut self) {
-        let large = start::large(&mut self.random);
+        let large = start::large(&mut self.random, self.erased);
         let kept = (
             std::mem::replace(&mut self.case, large),
             std::mem::take(&mut self.directory),

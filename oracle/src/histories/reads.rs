@@ -3,11 +3,13 @@
 //!
 //! Assumes block numbers below 0xfffffffe, as the histories have them.
 
-use super::ask::{After, Step};
+use super::ask::{fetched, After, Step};
 use super::carried::Carried;
+use super::flash::Flash;
 use crate::calls::write::{Answer, Committed, Work};
 use crate::calls::{Blocks, Fetch, Fetched, Gstate, Lookup, Mdir, Query, NOENT};
 use crate::device::Rust;
+use crate::generate::erased_behind;
 use crate::model::*;
 use crate::tally::Check;
 
@@ -22,6 +24,8 @@ pub struct Reads {
     pub forwards: Check,
     pub lookups: Check,
     pub cuts: Check,
+    /// What was met.
+    pub flash: Flash,
 }
 
 /// A word answered, and the buffer behind it.
@@ -35,6 +39,7 @@ impl Default for Reads {
             forwards: Check::rust("erased behind a forward check"),
             lookups: Check::rust("lookups of what was written"),
             cuts: Check::rust("fetch of what was cut short"),
+            flash: Flash::default(),
         }
     }
 }
@@ -80,7 +85,7 @@ impl Reads {
                     self.directory(fetch.blocks, read.dir, left, step.types, text);
                 }
             }
-            _ => {}
+            _ => self.flash.refused(step),
         }
     }
 
@@ -117,6 +122,14 @@ impl Reads {
         if carried.carried {
             self.forwards.same(1, dir.erased, text);
         }
+        let for_both = match step.task.work {
+            Work::Commit { .. } => carried.both,
+            Work::Compact => {
+                let old = fetched(step.case, &step.case.images).dir;
+                erased_behind(old.etag) != step.task.erased
+            }
+        };
+        self.flash.accepted(&step.task, for_both);
     }
 
     /// The finished record if the finished bytes are there, else the old one;

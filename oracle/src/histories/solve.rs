@@ -8,10 +8,11 @@ use crate::model::{crc, le32, Laid, ONES};
 /// What the checksum shall do.
 #[derive(Clone, Copy)]
 pub enum Goal {
-    /// The coincidence with so many bytes of the check tag.
-    Coincide(usize),
-    /// The checksum itself: with a high byte of 0xff the commit is there before
-    /// its last store.
+    /// With so many bytes of the check tag, and its four filled with the first byte,
+    /// it shall be four of the second: the coincidence, where both are erased bytes.
+    Coincide { put: usize, fill: u8, against: u8 },
+    /// The checksum itself: with a high byte that is the erased one the commit is
+    /// there before its last store.
     Sum(u32),
 }
 
@@ -39,11 +40,11 @@ pub fn solve(laid: &Laid, goal: Goal) -> Option<[u8; 4]> {
     let check = laid.bytes.len().checked_sub(8)?;
     let free = laid.forward.unwrap_or(check).checked_sub(4)?;
     let raw: [u8; 4] = laid.bytes.get(check..check + 4)?.try_into().ok()?;
-    let (target, put) = match goal {
-        Goal::Coincide(put) => (ONES, put),
-        Goal::Sum(sum) => (sum, 4),
+    let (target, put, fill) = match goal {
+        Goal::Coincide { put, fill, against } => (u32::from_le_bytes([against; 4]), put, fill),
+        Goal::Sum(sum) => (sum, 4, 0),
     };
-    let mut four = [0xff; 4];
+    let mut four = [fill; 4];
     four[..put].copy_from_slice(&raw[..put]);
     let forward = laid.bytes.get(free + 4..check)?.rchunks(4);
     let wanted = forward.fold(before(target, &four), before);

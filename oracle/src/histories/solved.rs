@@ -29,10 +29,34 @@ impl History<'_> {
         Some(list)
     }
 
+    /// The coincidence with so many bytes of the check tag; at times that of the other
+    /// erased byte, or half of it, which is none here.
+    fn coincide(&mut self, put: usize) -> Goal {
+        let byte = self.erased;
+        let (fill, against) = match self.random.below(12) {
+            0 => (!byte, byte),
+            1 => (byte, !byte),
+            2 => (!byte, !byte),
+            _ => (byte, byte),
+        };
+        Goal::Coincide { put, fill, against }
+    }
+
+    /// A checksum that ends in one to four erased bytes: what has it is there before
+    /// its last store.
+    fn early_sum(&mut self) -> u32 {
+        let sum = ONES << [8, 16, 24, 0][self.random.below(4)] | self.random.word() & 0x7f;
+        match self.erased {
+            0x00 => !sum,
+            _ => sum,
+        }
+    }
+
     /// The coincidence, also where another refusal comes before it.
     pub(super) fn coincidence(&mut self) {
         let put = self.random.below(5);
-        let Some(mut list) = self.solved(Goal::Coincide(put)) else {
+        let goal = self.coincide(put);
+        let Some(mut list) = self.solved(goal) else {
             return;
         };
         if self.random.below(6) == 0 {
@@ -46,8 +70,8 @@ impl History<'_> {
     /// checksum early.
     pub(super) fn coincident_compaction(&mut self) {
         let goal = match self.random.below(4) {
-            3 => Goal::Sum(ONES << [8, 16, 24, 0][self.random.below(4)]),
-            put => Goal::Coincide(put + 1),
+            3 => Goal::Sum(self.early_sum()),
+            put => self.coincide(put + 1),
         };
         let mut list = List::default();
         list.push(MOVE_STATE, NO_SLOT, &self.random.bytes(12));
@@ -87,10 +111,10 @@ impl History<'_> {
         }
     }
 
-    /// A commit whose checksum ends in 0xff: it is there before its last store.
+    /// A commit that is there before its last store.
     pub(super) fn early(&mut self) {
-        let sum = ONES << [8, 16, 24, 0][self.random.below(4)] | self.random.word() & 0x7f;
-        let Some(list) = self.solved(Goal::Sum(sum)) else {
+        let goal = Goal::Sum(self.early_sum());
+        let Some(list) = self.solved(goal) else {
             return;
         };
         let work = Work::Commit {

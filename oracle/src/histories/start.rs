@@ -6,7 +6,7 @@ use super::ask;
 use super::lists::{self, Habits, List};
 use super::solve::{solve, Goal};
 use super::wide;
-use crate::calls::write::{Work, DOCUMENT};
+use crate::calls::write::{Work, DOCUMENT, ERASED};
 use crate::calls::Geometry;
 use crate::generate::{self, Case, Log, Sizes};
 use crate::model::*;
@@ -60,7 +60,7 @@ fn of_kinds(random: &mut Random, geometry: Geometry, habits: &Habits, kinds: Ran
         _ => random.word(),
     };
     let (kind, log) = match kinds.start + random.below(kinds.len()) {
-        0..9 => ("fresh", fresh(geometry, revision)),
+        0..9 => ("fresh", fresh(geometry, habits.board(random), revision)),
         9..16 => (
             "regular",
             regular(random, geometry, habits, revision, false),
@@ -89,14 +89,18 @@ pub fn wider(random: &mut Random, geometry: Geometry, habits: &Habits) -> Case {
     finished(random, "wider", geometry, habits, (log, revision))
 }
 
-/// The log with another block beside it.
+/// The log with another block beside it. What is behind it mostly is erased, as on the
+/// board that wrote last.
 pub fn finished(
     random: &mut Random,
     kind: &'static str,
     geometry: Geometry,
     habits: &Habits,
-    (log, revision): (Log, u32),
+    (mut log, revision): (Log, u32),
 ) -> Case {
+    if random.below(8) > 0 {
+        log.erase_rest();
+    }
     let other = other(random, geometry, habits, revision);
     let mut case = generate::finish(random, kind, geometry, [log.bytes, other]);
     let high = case.numbers[0].max(case.numbers[1]);
@@ -105,27 +109,29 @@ pub fn finished(
 }
 
 /// A fresh pair with room for all slots.
-pub fn large(random: &mut Random) -> Case {
+pub fn large(random: &mut Random, erased: u8) -> Case {
     let geometry = Geometry {
         block_size: 8192,
         prog_size: 16,
     };
-    let images = [fresh(geometry, 1).bytes, vec![0xff; 8192]];
+    let images = [fresh(geometry, erased, 1).bytes, vec![0xff; 8192]];
     let mut case = generate::finish(random, "fresh", geometry, images);
     case.block_count = 0;
     case
 }
 
-/// An empty directory whose end may be no multiple, whose end tag may have its top
-/// bit set, and behind which up to two bytes may not be erased.
+/// An empty directory whose end may be no multiple, whose end tag has either validity
+/// bit, and behind which all is of either erased byte, but for up to two that may have
+/// a bit of the other, or be it.
 pub fn no_room(random: &mut Random, geometry: Geometry) -> Case {
-    let mut log = Log::new(geometry.block_size as usize, random.word());
+    let mut log = empty(random, geometry);
     let size = log.check_size(0, geometry.prog_size as usize) + random.below(2) as u32;
     log.check(tag_of(CHECK + random.below(2) as u32, NO_SLOT, size));
     let (end, room) = (log.at(), log.room());
     for _ in 0..random.below(3) {
         if room > 0 {
-            log.bytes[end + random.below(room)] &= !(1 << random.below(8));
+            let bits = [0xff, 1 << random.below(8)][random.below(2)];
+            log.bytes[end + random.below(room)] ^= bits;
         }
     }
     let images = [log.bytes, vec![0xff; geometry.block_size as usize]];
@@ -137,7 +143,7 @@ pub fn no_room(random: &mut Random, geometry: Geometry) -> Case {
 /// A slot whose attributes leave so many bytes of the block behind the check of their
 /// compaction, if that carries no forward check. The log may have one of others.
 pub fn fitting(random: &mut Random, geometry: Geometry, left: isize) -> Case {
-    let mut log = Log::new(geometry.block_size as usize, random.word());
+    let mut log = empty(random, geometry);
     log.put(tag_of(CREATE, 0, 0), &[]);
     let mut length = (log.room() as isize - 8 - left).max(0) as usize;
     for type_ in ATTRIBUTE..=ATTRIBUTE + 0xff {
@@ -160,11 +166,17 @@ pub fn fitting(random: &mut Random, geometry: Geometry, left: isize) -> Case {
     case
 }
 
+/// A log of nothing yet, on flash of either kind.
+fn empty(random: &mut Random, geometry: Geometry) -> Log {
+    let erased = ERASED[random.below(2)];
+    Log::on(erased, geometry.block_size as usize, random.word())
+}
+
 /// A compacted empty directory.
-fn fresh(geometry: Geometry, revision: u32) -> Log {
-    let mut log = Log::new(geometry.block_size as usize, revision);
+fn fresh(geometry: Geometry, erased: u8, revision: u32) -> Log {
+    let mut log = Log::on(erased, geometry.block_size as usize, revision);
     let size = log.check_size(0, geometry.prog_size as usize);
-    log.check(tag_of(CHECK, NO_SLOT, size));
+    log.check(tag_of(log.check_type(), NO_SLOT, size));
     log
 }
 
@@ -172,15 +184,15 @@ fn fresh(geometry: Geometry, revision: u32) -> Log {
 fn other(random: &mut Random, geometry: Geometry, habits: &Habits, revision: u32) -> Vec<u8> {
     let older = revision.wrapping_sub(1 + random.below(3) as u32);
     match random.below(4) {
-        0 => vec![0xff; geometry.block_size as usize],
+        0 => vec![habits.board(random); geometry.block_size as usize],
         1 => random.bytes(geometry.block_size as usize),
-        2 => fresh(geometry, older).bytes,
+        2 => fresh(geometry, habits.board(random), older).bytes,
         _ => regular(random, geometry, habits, older, false).bytes,
     }
 }
 
-/// Some commits: with superblock names, forward checks and checks of any type
-/// and size; if asked for, with an entry that is not regular.
+/// Some commits, each on one of the boards: with superblock names, forward checks and
+/// checks of any type and size; if asked for, with an entry that is not regular.
 fn regular(
     random: &mut Random,
     geometry: Geometry,
@@ -188,7 +200,7 @@ fn regular(
     revision: u32,
     spoil: bool,
 ) -> Log {
-    let mut log = Log::new(geometry.block_size as usize, revision);
+    let mut log = Log::on(habits.board(random), geometry.block_size as usize, revision);
     let (mut count, commits) = (0, 1 + random.below(habits.commits));
     let spoiled = random.below(commits);
     let plain = random.below(2) == 0;
@@ -198,6 +210,7 @@ fn regular(
             break;
         }
         count = behind;
+        log.erased = habits.board(random);
         put(&mut log, &list);
         if count > 0 && random.below(3) == 0 {
             log.put(tag_of(SUPERBLOCK, 0, 8), b"littlefs");
@@ -224,7 +237,7 @@ pub fn put(log: &mut Log, list: &List) {
 }
 
 /// A pair whose log isn't regular, and whose compaction would coincide.
-pub fn irregular_and_coincident(random: &mut Random) -> Option<Case> {
+pub fn irregular_and_coincident(random: &mut Random, erased: u8) -> Option<Case> {
     let geometry = Geometry {
         block_size: 128,
         prog_size: 4,
@@ -241,9 +254,14 @@ pub fn irregular_and_coincident(random: &mut Random) -> Option<Case> {
     };
     let mut case = generate::finish(random, "irregular", geometry, images([0; 4]));
     case.block_count = 0;
-    let compact = ask::task(&case, DOCUMENT, Work::Compact, None);
+    let compact = ask::task(&case, DOCUMENT, erased, Work::Compact, None);
     let laid = FAULTLESS_WRITER.laid(&compact, [&case.images[0], &case.images[1]])?;
-    let four = solve(&laid, Goal::Coincide(1 + random.below(3)))?;
+    let goal = Goal::Coincide {
+        put: 1 + random.below(3),
+        fill: erased,
+        against: erased,
+    };
+    let four = solve(&laid, goal)?;
     let second = case.images[1].first() != Some(&0xff);
     case.images = images(four);
     if second {
@@ -258,7 +276,7 @@ pub fn holds_forward(log: &Log, geometry: Geometry) -> bool {
     12 + check <= log.room()
 }
 
-/// A forward check as others may have written it: over bytes that are still erased,
+/// A forward check as others may have written it: over bytes that will be erased,
 /// one program unit or more or less, over none, past the block, or of another sum.
 pub fn forward(random: &mut Random, log: &mut Log, geometry: Geometry) {
     let prog = geometry.prog_size as usize;
@@ -268,7 +286,7 @@ pub fn forward(random: &mut Random, log: &mut Log, geometry: Geometry) {
     let (length, sum) = match random.below(8) {
         0 => (random.word(), random.word()),
         1 => (length as u32, random.word()),
-        _ => (length as u32, crc(ONES, &vec![0xff; length])),
+        _ => (length as u32, crc(ONES, &vec![log.erased; length])),
     };
     let data = [length.to_le_bytes(), sum.to_le_bytes()].concat();
     log.put(tag_of(FORWARD, NO_SLOT, 8), &data);
@@ -291,14 +309,15 @@ fn spoilt(random: &mut Random, log: &mut Log, count: u32) {
 
 pub fn check(random: &mut Random, log: &mut Log, geometry: Geometry, plain: bool, spoil: bool) {
     let size = log.check_size(0, geometry.prog_size as usize);
+    let type_ = log.check_type();
     let tag = match random.below(12) {
-        _ if plain => tag_of(CHECK, NO_SLOT, size),
-        0 => tag_of(CHECK + 1, NO_SLOT, size),
+        _ if plain => tag_of(type_, NO_SLOT, size),
+        0 => tag_of(type_ ^ 1, NO_SLOT, size),
         1 => tag_of(CHECK + random.below(128) as u32, NO_SLOT, size),
-        2 => tag_of(CHECK, random.below(1024) as u32, size),
-        3 => tag_of(CHECK, NO_SLOT, 4 + random.below(9) as u32),
-        4 if spoil => tag_of(CHECK, NO_SLOT, REMOVAL),
-        _ => tag_of(CHECK, NO_SLOT, size),
+        2 => tag_of(type_, random.below(1024) as u32, size),
+        3 => tag_of(type_, NO_SLOT, 4 + random.below(9) as u32),
+        4 if spoil => tag_of(type_, NO_SLOT, REMOVAL),
+        _ => tag_of(type_, NO_SLOT, size),
     };
     if length_of(tag) <= log.room() {
         log.check(tag);

@@ -33,7 +33,7 @@ pub fn log(
     revision: u32,
     spoil: bool,
 ) -> Log {
-    let mut log = Log::new(geometry.block_size as usize, revision);
+    let mut log = Log::on(habits.board(random), geometry.block_size as usize, revision);
     let commits = 1 + random.below(habits.commits);
     let spoilt = random.below(commits);
     let mut wide = Wide {
@@ -51,6 +51,7 @@ pub fn log(
             if list.length() + 24 > log.room() && !log.ends.is_empty() {
                 return log;
             }
+            log.erased = habits.board(wide.random);
             put(&mut log, &list);
             // littlefs lays one in each commit that has room for it.
             if wide.random.below(3) == 0 && holds_forward(&log, geometry) {

@@ -1,5 +1,6 @@
 //! Compaction: "erases the block that fetch did not answer from to 0xff and
-//! writes revision plus one (wrapping) and one commit".
+//! writes revision plus one (wrapping) and one commit"; by document 02, L7, it
+//! erases to the byte that it takes as an input.
 //!
 //! Assumes nothing.
 
@@ -13,7 +14,7 @@ use crate::calls::write::*;
 impl Writer {
     /// "Compaction: the same without -201 and -203."
     pub(super) fn compact(&self, task: &Task, read: &Read) -> Result<Plan, (i32, u32)> {
-        let laid = self.compacted(read).finish(task.geometry);
+        let laid = self.compacted(task, read).finish(task.geometry);
         let mut tests = [
             self.irregular(task, read),
             self.full(task, &laid)
@@ -32,7 +33,7 @@ impl Writer {
             Some(refusal) => Err(refusal),
             None => Ok(Plan {
                 which,
-                erase: true,
+                erase: Some(task.erased),
                 laid,
             }),
         }
@@ -54,7 +55,7 @@ impl Writer {
     /// "for each id create, newest name (type under 0x700), struct (under
     /// 0x700), user attributes by rising type; then tail unless it is soft and
     /// both 0xffffffff; then move state if found"
-    pub(super) fn compacted(&self, read: &Read) -> Lay {
+    pub(super) fn compacted(&self, task: &Task, read: &Read) -> Lay {
         let revision = self.revision(read);
         let mut lay = Lay {
             fault: self.fault,
@@ -65,7 +66,8 @@ impl Writer {
                 WriteFault::RevisionUnsummed => ONES,
                 _ => crc(ONES, &revision),
             },
-            forwarded: false,
+            erased: task.erased,
+            old: read.dir,
         };
         let mut directory = Directory::of(&read.log);
         let wider = !regular(WriteFault::None, DOCUMENT, &read.log);

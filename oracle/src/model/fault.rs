@@ -54,6 +54,7 @@ faults! { Fault FAULTS;
     SeedXored Rust "fetch: seed XORed with the checksum";
     SeedForgotten Rust "fetch: seed as given behind uncommitted entries";
     ErasedSumFits Rust "fetch: a checksum of 0xffffffff always fits";
+    ZeroSumFits Rust "fetch: a checksum of 0 always fits";
     SecondBlockGoesOn Rust "fetch: second block's state not reset";
     SecondBlockUntried Rust "fetch: second block never tried";
     UncommittedShown Rust "fetch: uncommitted count and tail shown";

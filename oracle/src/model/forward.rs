@@ -1,7 +1,7 @@
 //! The forward check that a commit carries: "When at least one whole program unit
 //! follows the new end, counted with the added bytes, a commit shall carry, before
 //! its check tag, a forward check entry: program size and the checksum of that
-//! erased unit." (document 02, L5)
+//! erased unit." (document 02, L5) Erased is the byte that L7 takes as an input.
 //!
 //! Assumes nothing.
 
@@ -37,7 +37,7 @@ impl Lay {
             WriteFault::ForwardNever => false,
             WriteFault::ForwardUncompacted => fits && !compacts,
             WriteFault::ForwardInCompactions => fits && compacts,
-            WriteFault::ForwardOnce => fits && !self.forwarded,
+            WriteFault::ForwardOnce => fits && (compacts || self.old.forward == 0),
             _ => fits,
         }
     }
@@ -71,12 +71,16 @@ impl Lay {
             WriteFault::ForwardOfTheRest => block.saturating_sub(end.next_multiple_of(prog)),
             _ => prog,
         };
-        let (from, erased, covered) = match self.fault {
-            WriteFault::ForwardSumOneMore => (ONES, 0xff, size + 1),
-            WriteFault::ForwardSumOneLess => (ONES, 0xff, size.saturating_sub(1)),
-            WriteFault::ForwardSumFromZero => (0, 0xff, size),
-            WriteFault::ForwardSumOfZeros => (ONES, 0x00, size),
-            _ => (ONES, 0xff, size),
+        let (from, covered) = match self.fault {
+            WriteFault::ForwardSumOneMore => (ONES, size + 1),
+            WriteFault::ForwardSumOneLess => (ONES, size.saturating_sub(1)),
+            WriteFault::ForwardSumFromZero => (0, size),
+            _ => (ONES, size),
+        };
+        let erased = match self.fault {
+            WriteFault::ForwardSumOfZeros => 0x00,
+            WriteFault::ForwardSumOfOnes => 0xff,
+            _ => self.erased,
         };
         let sum = match (self.fault, crc(from, &vec![erased; covered])) {
             (WriteFault::ForwardSumInverted, sum) => !sum,

@@ -1,12 +1,13 @@
 //! The bytes of one commit: "tags chained as above, data, then a check tag
-//! 0x500, id 1,023, and the checksum little-endian"; and before the check tag the
+//! 0x500, id 1,023, and the checksum little-endian", where "the check tag is 0x500
+//! for 0xff and 0x501 for 0x00" (document 02, L7); and before the check tag the
 //! forward check, which `forward` makes.
 //!
 //! Assumes nothing: a size that a tag cannot have is cut to its ten bits.
 
 use super::forward::{unit, FORWARD_LENGTH};
 use super::{bytes::*, tag::*, WriteFault};
-use crate::calls::Geometry;
+use crate::calls::{Geometry, Mdir};
 
 /// A commit being laid.
 pub struct Lay {
@@ -16,8 +17,10 @@ pub struct Lay {
     pub bytes: Vec<u8>,
     pub previous: u32,
     pub sum: u32,
-    /// The log has a forward check already: only a fault looks at it.
-    pub forwarded: bool,
+    /// The byte that the flash erases to.
+    pub erased: u8,
+    /// The record before the call: only faults look at it.
+    pub old: Mdir,
 }
 
 /// A commit with its check: where it ends, and whether it coincides.
@@ -78,18 +81,24 @@ impl Lay {
             }
             _ => {}
         }
-        let type_ = match self.fault {
-            WriteFault::CheckIs501 => CHECK + 1,
-            _ => CHECK,
-        };
         let id = match self.fault {
             WriteFault::CheckHasId0 => 0,
             _ => NO_SLOT,
         };
-        (
-            tag_of(type_, id, end.saturating_sub(at + 4) as u32 & 0x3ff),
-            end,
-        )
+        let size = end.saturating_sub(at + 4) as u32 & 0x3ff;
+        (tag_of(self.check_type(), id, size), end)
+    }
+
+    /// "The check tag is 0x500 for 0xff and 0x501 for 0x00": its low chunk bit says
+    /// which validity bit the next tag must have, and erased bytes have the other.
+    fn check_type(&self) -> u32 {
+        match (self.fault, self.erased) {
+            (WriteFault::CheckIs500For00, _) => CHECK,
+            (WriteFault::CheckIs501ForFf, _) => CHECK + 1,
+            (WriteFault::CheckOfOldKind, _) => CHECK + (self.old.etag >> 31),
+            (_, 0x00) => CHECK + 1,
+            _ => CHECK,
+        }
     }
 
     /// The forward check, if there is one, and the check.
@@ -104,6 +113,7 @@ impl Lay {
         let raw = self.raw(tag);
         let coincides = match self.fault {
             WriteFault::CoincidenceWithoutForward => self.coincides(before, raw),
+            WriteFault::CoincidenceOfUnchained => self.coincides(self.sum, tag.to_be_bytes()),
             _ => self.coincides(self.sum, raw),
         };
         self.bytes.extend(raw);
@@ -114,7 +124,7 @@ impl Lay {
         }
         if self.has(WriteFault::PaddingStored) {
             let length = end.saturating_sub(self.start);
-            self.bytes.resize(length.max(self.bytes.len()), 0xff);
+            self.bytes.resize(length.max(self.bytes.len()), self.erased);
         }
         let Lay { start, bytes, .. } = self;
         Laid {
@@ -140,7 +150,8 @@ impl Lay {
     }
 
     /// "put 1, 2 or 3 bytes of the check tag and fill its four with 0xff; if any
-    /// of the three checksums is 0xffffffff". The register is the one before the tag.
+    /// of the three checksums is 0xffffffff", where "the coincidence fills with and
+    /// compares against erased bytes". The register is the one before the tag.
     fn coincides(&self, register: u32, raw: [u8; 4]) -> bool {
         let puts: &[usize] = match self.fault {
             WriteFault::CoincidenceUntested => &[],
@@ -151,12 +162,25 @@ impl Lay {
             WriteFault::CoincidenceWith4 => &[1, 2, 3, 4],
             _ => &[1, 2, 3],
         };
+        let fill = match self.fault {
+            WriteFault::CoincidenceFillsWithFf => 0xff,
+            _ => self.erased,
+        };
         puts.iter().any(|&put| {
-            let mut four = [0xff; 4];
+            let mut four = [fill; 4];
             for (byte, real) in four.iter_mut().zip(raw).take(put) {
                 *byte = real;
             }
-            crc(register, &four) == ONES
+            self.is_erased(crc(register, &four))
         })
+    }
+
+    /// Whether a checksum is four erased bytes, as the walk reads them behind a tag.
+    fn is_erased(&self, sum: u32) -> bool {
+        match self.fault {
+            WriteFault::CoincidenceAgainstOnes => sum == ONES,
+            WriteFault::CoincidenceAgainstBoth => sum == ONES || sum == 0,
+            _ => sum == u32::from_le_bytes([self.erased; 4]),
+        }
     }
 }

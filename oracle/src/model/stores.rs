@@ -37,7 +37,7 @@ impl Writer {
         let all = self.stores_of(plan);
         let made = task.stores.map_or(all, |limit| all.min(limit as usize));
         let made = match task.stores {
-            Some(0) if plan.erase && self.has(WriteFault::ErasedByNoStore) => 1,
+            Some(0) if plan.erase.is_some() && self.has(WriteFault::ErasedByNoStore) => 1,
             _ => made,
         };
         let block = if plan.which == 0 { &mut *b0 } else { &mut *b1 };
@@ -86,7 +86,7 @@ impl Writer {
     }
 
     fn stores_of(&self, plan: &Plan) -> usize {
-        let erase = plan.erase && !self.has(WriteFault::EraseUncounted);
+        let erase = plan.erase.is_some() && !self.has(WriteFault::EraseUncounted);
         let bytes = match (self.fault, plan.laid.forward) {
             (WriteFault::TwoAtOnce, _) => plan.laid.bytes.len().div_ceil(2),
             (WriteFault::ForwardUnstored, Some(_)) => plan.laid.bytes.len() - FORWARD_LENGTH,
@@ -107,14 +107,14 @@ impl Writer {
 
     /// The first `made` stores of a plan.
     fn store(&self, plan: &Plan, made: usize, block: &mut [u8]) {
-        let mut bytes = made;
-        if plan.erase && (made > 0 || self.has(WriteFault::EraseUncounted)) {
-            if !self.has(WriteFault::Unerased) {
-                block.fill(0xff);
+        let (mut bytes, uncounted) = (made, self.has(WriteFault::EraseUncounted));
+        if let Some(erased) = plan.erase.filter(|_| made > 0 || uncounted) {
+            match self.fault {
+                WriteFault::Unerased => {}
+                WriteFault::ErasedToFf => block.fill(0xff),
+                _ => block.fill(erased),
             }
-            if !self.has(WriteFault::EraseUncounted) {
-                bytes -= 1;
-            }
+            bytes -= usize::from(!uncounted);
         }
         let length = plan.laid.bytes.len();
         if bytes > 0 && self.has(WriteFault::AllAtOnce) {

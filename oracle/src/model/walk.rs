@@ -172,7 +172,11 @@ impl<'a> Walk<'a> {
     fn check(&mut self, tag: u32) -> Result<(), Stop> {
         let stored = le32(self.block, self.at + 4).ok_or(Stop::Other)?;
         let short = size_of(tag) < 4 || is_removal(tag);
-        let fits = stored == self.sum || (stored == ONES && self.has(Fault::ErasedSumFits));
+        let fits = match self.fault {
+            Fault::ErasedSumFits if stored == ONES => true,
+            Fault::ZeroSumFits if stored == 0 => true,
+            _ => stored == self.sum,
+        };
         if !fits || (short && self.has(Fault::ShortCheckStops)) {
             return Err(Stop::Other);
         }

@@ -21,12 +21,13 @@ macro_rules! write_faults {
 write_faults! {
     LengthsAfterFetch "order: -22 of the lengths behind fetch's refusals";
     RulesAfterFetch "order: -22 of the rules behind fetch's refusals";
+    ErasedAfterFetch "order: -22 of the erased byte behind fetch's refusals";
     BadBeforeIrregular "order: -201 before -202";
     SpaceBeforeBad "order: -28 before -201";
     RoomBeforeSpace "order: -211, -212 and -213 before -28";
-    TopBitBeforeMisaligned "order: -212 before -211";
+    BitBeforeMisaligned "order: -212 before -211";
     ByteBeforeMisaligned "order: -213 before -211";
-    ByteBeforeTopBit "order: -213 before -212";
+    ByteBeforeBit "order: -213 before -212";
     CoincidenceBeforeRoom "order: -204 before -211, -212 and -213";
     CoincidenceBeforeSpace "order: -204 before -28";
     CoincidenceBeforeIrregular "order: compaction's -204 before -202";
@@ -37,6 +38,11 @@ write_faults! {
     Rules2 "rules: 2 accepted";
     RulesOfAnyNumber "rules: any number accepted";
     RulesOfOneByte "rules: only the low byte tested";
+    Erased01 "erased byte: 0x01 taken for 0x00";
+    ErasedFe "erased byte: 0xfe taken for 0xff";
+    ErasedByTopBit "erased byte: any taken, by its top bit";
+    ErasedOfAnyByte "erased byte: any taken as it is";
+    ErasedUnread "erased byte: 0xff whatever is given";
 
     CountFromZero "entries: c from 0, not from the record";
     CreateBelowCount "entries: create at c refused";
@@ -98,7 +104,11 @@ write_faults! {
     CleanOneTag "room: only four bytes looked at";
     UnalignedEnd "room: old end that is no multiple accepted";
     AlignedByBlock "room: old end tested by the block size";
-    EndTagWithBit31 "room: end tag with bit 31 accepted";
+    BitUntestedForFf "room: for 0xff, end tag with bit 31 accepted";
+    BitUntestedFor00 "room: for 0x00, end tag without bit 31 accepted";
+    BitUnturned "room: for 0x00, bit 31 tested as for 0xff";
+    CleanOfFf "room: clean means 0xff for 0x00 too";
+    CleanOfEither "room: both 0xff and 0x00 are clean";
     LastByteNamed "room: the offset of the last byte that isn't erased";
     OffsetFromEnd "room: the byte's offset counted from the old end";
     NoOffset "room: no offset";
@@ -110,6 +120,10 @@ write_faults! {
     CoincidenceWith0 "coincidence: no bytes tested too";
     CoincidenceWith4 "coincidence: all four bytes tested too";
     CoincidenceWithoutForward "coincidence: the forward check left out of the sum";
+    CoincidenceOfUnchained "coincidence: of the check tag before it is chained";
+    CoincidenceFillsWithFf "coincidence: filled with 0xff for 0x00 too";
+    CoincidenceAgainstOnes "coincidence: compared with 0xffffffff for 0x00 too";
+    CoincidenceAgainstBoth "coincidence: compared with 0xffffffff and with 0";
 
     ForwardAlways "forward check: always carried";
     ForwardNever "forward check: never carried";
@@ -129,7 +143,8 @@ write_faults! {
     ForwardSumOneMore "forward check: checksum over one byte more";
     ForwardSumOneLess "forward check: checksum over one byte less";
     ForwardSumFromZero "forward check: checksum from 0";
-    ForwardSumOfZeros "forward check: checksum over zeros";
+    ForwardSumOfZeros "forward check: checksum over 0x00 for 0xff too";
+    ForwardSumOfOnes "forward check: checksum over 0xff for 0x00 too";
     ForwardSumInverted "forward check: checksum inverted";
     ForwardSizeBigEndian "forward check: program size big-endian";
     ForwardSumBigEndian "forward check: checksum big-endian";
@@ -137,13 +152,16 @@ write_faults! {
     ForwardUnstored "stores: forward check placed by no store of its own";
 
     ChainedFromOnes "bytes: first tag not chained to the end tag";
+    ChainedWithoutBit31 "bytes: first tag chained to the end tag without bit 31";
     TagsUnchained "bytes: tags not chained";
     TagsLittleEndian "bytes: tags little-endian";
     CheckOneUnitLong "bytes: check one program unit too long";
     CheckUnpadded "bytes: check not rounded";
     AlignedByMask "bytes: check rounded by a mask";
     AlignedFromStart "bytes: check rounded from the commit's start";
-    CheckIs501 "bytes: check is 0x501";
+    CheckIs500For00 "bytes: check is 0x500 for 0x00 too";
+    CheckIs501ForFf "bytes: check is 0x501 for 0xff too";
+    CheckOfOldKind "bytes: check by the old end tag, not by the byte";
     CheckHasId0 "bytes: check of id 0";
     CheckTagUnsummed "bytes: check tag left out of the checksum";
     ChecksumBigEndian "bytes: checksum big-endian";
@@ -152,6 +170,7 @@ write_faults! {
     EraseUncounted "stores: erase not counted";
     ErasedByNoStore "stores: limit 0 erases";
     Unerased "stores: block not erased";
+    ErasedToFf "stores: block erased to 0xff for 0x00 too";
     AllAtOnce "stores: everything placed with the first byte";
     TwoAtOnce "stores: two bytes with one store";
     Falling "stores: bytes falling";

@@ -33,7 +33,8 @@ pub const FAULTLESS_WRITER: Writer = Writer {
 pub struct Plan {
     /// Which of the two images.
     pub which: usize,
-    pub erase: bool,
+    /// The byte that the block is erased to.
+    pub erase: Option<u8>,
     pub laid: Laid,
 }
 
@@ -91,16 +92,20 @@ impl Writer {
 
     /// What the call would store, or why it is refused.
     pub fn plan(&self, task: &Task, images: [&[u8]; 2]) -> Result<Plan, Refusal> {
-        let (lengths, rules) = (self.lengths_fit(&task.work), self.rules_fit(task.rules));
-        let unread = (!lengths && !self.has(WriteFault::LengthsAfterFetch))
-            || (!rules && !self.has(WriteFault::RulesAfterFetch));
-        if unread {
-            return Err(refused((INVAL, 0), task.seed));
+        let erased = self.erased_byte(task.erased);
+        let tests = [
+            (self.lengths_fit(&task.work), WriteFault::LengthsAfterFetch),
+            (self.rules_fit(task.rules), WriteFault::RulesAfterFetch),
+            (erased.is_some(), WriteFault::ErasedAfterFetch),
+        ];
+        let invalid = || refused((INVAL, 0), task.seed);
+        if tests.iter().any(|&(fits, late)| !fits && !self.has(late)) {
+            return Err(invalid());
         }
         let read = Read::of(task, images)?;
-        if !lengths || !rules {
-            return Err(refused((INVAL, 0), task.seed));
-        }
+        let fits = tests.iter().all(|test| test.0);
+        let erased = erased.filter(|_| fits).ok_or_else(invalid)?;
+        let task = &Task { erased, ..*task };
         let planned = match task.work {
             Work::Commit { entries, data } => self.commit(task, &read, entries, data),
             Work::Compact => self.compact(task, &read),
@@ -112,8 +117,8 @@ impl Writer {
     pub fn laid(&self, task: &Task, images: [&[u8]; 2]) -> Option<Laid> {
         let read = Read::of(task, images).ok()?;
         let lay = match task.work {
-            Work::Commit { entries, data } => self.append(&read, entries, data),
-            Work::Compact => self.compacted(&read),
+            Work::Commit { entries, data } => self.append(task, &read, entries, data),
+            Work::Compact => self.compacted(task, &read),
         };
         Some(lay.finish(task.geometry))
     }
@@ -146,8 +151,22 @@ impl Writer {
         }
     }
 
+    /// "Take the erased byte, 0xff or 0x00, as an input [..]. Any other erased byte is
+    /// -22.": the byte that the call goes by, or none.
+    fn erased_byte(&self, given: u8) -> Option<u8> {
+        match (self.fault, given) {
+            (WriteFault::ErasedUnread, _) => Some(0xff),
+            (_, 0xff | 0x00) => Some(given),
+            (WriteFault::Erased01, 0x01) => Some(0x00),
+            (WriteFault::ErasedFe, 0xfe) => Some(0xff),
+            (WriteFault::ErasedByTopBit, _) => Some([0x00, 0xff][usize::from(given >> 7)]),
+            (WriteFault::ErasedOfAnyByte, _) => Some(given),
+            _ => None,
+        }
+    }
+
     /// "-202, -201, -28, -203, -204", and for -203 "-211 misaligned end, -212 top
-    /// bit, -213 byte with offset"
+    /// bit, -213 byte with offset"; "L1's second reason is now 'wrong validity bit'"
     fn commit(
         &self,
         task: &Task,
@@ -155,23 +174,23 @@ impl Writer {
         entries: &[Entry],
         data: &[u8],
     ) -> Result<Plan, (i32, u32)> {
-        let laid = self.append(read, entries, data).finish(task.geometry);
+        let laid = self.append(task, read, entries, data).finish(task.geometry);
         let mut tests = [
             self.irregular(task, read),
             self.bad_entry(task, read, entries, data),
             self.full(task, &laid),
             self.misaligned(task, read),
-            self.top_bit(read),
-            self.not_erased(read, &laid),
+            self.wrong_validity(task, read),
+            self.not_erased(task, read, &laid),
             laid.coincides.then_some((COINCIDENCE, 0)),
         ];
         match self.fault {
             WriteFault::BadBeforeIrregular => tests.swap(0, 1),
             WriteFault::SpaceBeforeBad => tests.swap(1, 2),
             WriteFault::RoomBeforeSpace => tests[2..6].rotate_left(1),
-            WriteFault::TopBitBeforeMisaligned => tests.swap(3, 4),
+            WriteFault::BitBeforeMisaligned => tests.swap(3, 4),
             WriteFault::ByteBeforeMisaligned => tests[3..6].rotate_right(1),
-            WriteFault::ByteBeforeTopBit => tests.swap(4, 5),
+            WriteFault::ByteBeforeBit => tests.swap(4, 5),
             WriteFault::CoincidenceBeforeRoom => tests[3..7].rotate_right(1),
             WriteFault::CoincidenceBeforeSpace => tests.swap(2, 6),
             _ => {}
@@ -180,7 +199,7 @@ impl Writer {
             Some(refusal) => Err(refusal),
             None => Ok(Plan {
                 which: read.which,
-                erase: false,
+                erase: None,
                 laid,
             }),
         }
@@ -191,17 +210,19 @@ impl Writer {
     }
 
     /// The entries' bytes, behind the old end.
-    fn append(&self, read: &Read, entries: &[Entry], data: &[u8]) -> Lay {
+    fn append(&self, task: &Task, read: &Read, entries: &[Entry], data: &[u8]) -> Lay {
         let mut lay = Lay {
             fault: self.fault,
             start: read.dir.off as usize,
             bytes: Vec::new(),
             previous: match self.fault {
                 WriteFault::ChainedFromOnes => super::ONES,
+                WriteFault::ChainedWithoutBit31 => read.dir.etag & !INVALID,
                 _ => read.dir.etag,
             },
             sum: super::ONES,
-            forwarded: read.dir.forward != 0,
+            erased: task.erased,
+            old: read.dir,
         };
         for entry in entries {
             let bytes = bytes_of(entry, data).unwrap_or_default();
@@ -253,48 +274,6 @@ impl Writer {
             _ => laid.end,
         };
         (end > task.geometry.block_size as usize).then_some((NO_SPACE, 0))
-    }
-
-    /// "-211 misaligned end"
-    fn misaligned(&self, task: &Task, read: &Read) -> Refused {
-        let unit = match self.fault {
-            WriteFault::AlignedByBlock => task.geometry.block_size,
-            _ => task.geometry.prog_size,
-        };
-        let aligned = read.dir.off.is_multiple_of(unit) || self.has(WriteFault::UnalignedEnd);
-        (!aligned).then_some((MISALIGNED, 0))
-    }
-
-    /// "-212 top bit"
-    fn top_bit(&self, read: &Read) -> Refused {
-        let plain = read.dir.etag & INVALID == 0 || self.has(WriteFault::EndTagWithBit31);
-        (!plain).then_some((TOP_BIT, 0))
-    }
-
-    /// "-213 byte with offset": of the bytes from the old end to the block's end the
-    /// first that isn't 0xff.
-    fn not_erased(&self, read: &Read, laid: &Laid) -> Refused {
-        let end = read.dir.off as usize;
-        let rest = read.block.get(end..).unwrap_or_default();
-        let needed = match self.fault {
-            WriteFault::CleanOnlyWhereLaid => laid.bytes.len(),
-            WriteFault::CleanToNewEnd => laid.end.saturating_sub(end),
-            WriteFault::CleanOneTag => 4,
-            _ => rest.len(),
-        };
-        let mut needed = rest.iter().take(needed);
-        let dirty = |&byte: &u8| byte != 0xff;
-        let found = match self.fault {
-            WriteFault::LastByteNamed => needed.rposition(dirty),
-            WriteFault::NeedsErased if read.dir.erased == 0 => Some(0),
-            _ => needed.position(dirty),
-        };
-        let offset = match self.fault {
-            WriteFault::OffsetFromEnd => found?,
-            WriteFault::NoOffset => found.map(|_| 0)?,
-            _ => end + found?,
-        };
-        Some((NOT_ERASED, offset as u32))
     }
 }
 

@@ -24,6 +24,7 @@ extern "C" {
         block_count: u32,
         seed: u32,
         rules: u32,
+        erased: u8,
         entries: *const crate::calls::write::Entry,
         entries_len: usize,
         data: *const u8,
@@ -40,6 +41,7 @@ extern "C" {
         block_count: u32,
         seed: u32,
         rules: u32,
+        erased: u8,
         entries: *const crate::calls::write::Entry,
         entries_len: usize,
         data: *const u8,
@@ -61,6 +63,7 @@ extern "C" {
         block_count: u32,
         seed: u32,
         rules: u32,
+        erased: u8,
     ) -> crate::calls::write::Committed;
     fn lanolin_compact_stores(
         geometry: crate::calls::Geometry,
@@ -73,6 +76,7 @@ extern "C" {
         block_count: u32,
         seed: u32,
         rules: u32,
+        erased: u8,
         stores: u32,
     ) -> crate::calls::write::Stored;
 }
@@ -106,7 +110,7 @@ fn commit(
     data: &[u8],
 ) -> Answer {
     let ([n0, n1], count) = (task.numbers, task.block_count);
-    let (seed, rules) = (task.seed, task.rules);
+    let (seed, rules, erased) = (task.seed, task.rules, task.erased);
     let (g, l0, l1) = (task.geometry, b0.len(), b1.len());
     let (p0, p1) = (start_of_mut(b0), start_of_mut(b1));
     let e = match entries {
@@ -119,10 +123,10 @@ fn commit(
     unsafe {
         match task.stores {
             None => Answer::Committed(lanolin_commit(
-                g, p0, l0, p1, l1, n0, n1, count, seed, rules, e, el, d, dl,
+                g, p0, l0, p1, l1, n0, n1, count, seed, rules, erased, e, el, d, dl,
             )),
             Some(n) => Answer::Stored(lanolin_commit_stores(
-                g, p0, l0, p1, l1, n0, n1, count, seed, rules, e, el, d, dl, n,
+                g, p0, l0, p1, l1, n0, n1, count, seed, rules, erased, e, el, d, dl, n,
             )),
         }
     }
@@ -131,17 +135,17 @@ fn commit(
 #[cfg(lanolin_compact)]
 fn compact(task: &Task, [b0, b1]: [&mut [u8]; 2]) -> Answer {
     let ([n0, n1], count) = (task.numbers, task.block_count);
-    let (seed, rules) = (task.seed, task.rules);
+    let (seed, rules, erased) = (task.seed, task.rules, task.erased);
     let (g, l0, l1) = (task.geometry, b0.len(), b1.len());
     let (p0, p1) = (start_of_mut(b0), start_of_mut(b1));
     // SAFETY: as for `commit`.
     unsafe {
         match task.stores {
             None => Answer::Committed(lanolin_compact(
-                g, p0, l0, p1, l1, n0, n1, count, seed, rules,
+                g, p0, l0, p1, l1, n0, n1, count, seed, rules, erased,
             )),
             Some(n) => Answer::Stored(lanolin_compact_stores(
-                g, p0, l0, p1, l1, n0, n1, count, seed, rules, n,
+                g, p0, l0, p1, l1, n0, n1, count, seed, rules, erased, n,
             )),
         }
     }

@@ -6,9 +6,9 @@
 
 use super::inputs::{Given, History, Known};
 use crate::calls::refetch::Refetches;
-use crate::calls::write::{Answer, Committed, Work, Writes, LITTLEFS};
+use crate::calls::write::{Answer, Committed, Work, Writes, ERASED, LITTLEFS};
 use crate::calls::Voice;
-use crate::generate;
+use crate::generate::{self, erased_behind};
 use crate::histories::ask::{task, Outcome};
 use crate::histories::lists;
 use crate::model::known_to;
@@ -46,7 +46,8 @@ impl<F: Refetches, W: Writes, R: Voice> History<'_, F, W, R> {
         given
     }
 
-    /// One call of the writer; what it answers is known then.
+    /// One call of the writer; what it answers is known then. It is for flash of the
+    /// kind that the record's end is, or of any.
     pub(super) fn written(
         &mut self,
         known: Known,
@@ -55,7 +56,11 @@ impl<F: Refetches, W: Writes, R: Voice> History<'_, F, W, R> {
         stores: Option<u32>,
     ) -> Given {
         let mut given = self.as_it_was(known);
-        let task = task(&self.case, LITTLEFS, work, stores);
+        let erased = match self.random.below(4) {
+            0 => ERASED[self.random.below(2)],
+            _ => erased_behind(known.dir.etag),
+        };
+        let task = task(&self.case, LITTLEFS, erased, work, stores);
         if !self.voices.writer.can(&work) {
             return given;
         }
@@ -88,7 +93,10 @@ impl<F: Refetches, W: Writes, R: Voice> History<'_, F, W, R> {
             data: &list.data,
         };
         let some = self.random.below(list.length() + 24) as u32;
-        let kinds = ["a commit", "a commit with a limit"];
+        let kinds = match erased_behind(known.dir.etag) {
+            0x00 => ["a commit for 0x00", "a commit for 0x00 with a limit"],
+            _ => ["a commit", "a commit with a limit"],
+        };
         let given = self.written(known, kinds, work, limited.then_some(some));
         // Another writer may go on where ours refuses.
         match given.kind == REFUSED_CALL && self.random.below(4) > 0 {

@@ -3,7 +3,7 @@
 //! Assumes nothing.
 
 use crate::calls::{Geometry, Mdir, Voice};
-use crate::generate::{self, tags_in, Case, Log, Sizes};
+use crate::generate::{self, erased_behind, tags_in, Case, Log, Sizes};
 use crate::histories::lists::{self, Habits};
 use crate::histories::{history, start};
 use crate::model::*;
@@ -35,7 +35,8 @@ pub fn case(random: &mut Random) -> (Case, Habits) {
     (case, habits)
 }
 
-/// An earlier state of the log, so that there is room behind it.
+/// An earlier state of the log, so that there is room behind it, which mostly is erased
+/// as the last check says.
 pub fn cut_back(random: &mut Random, case: &mut Case) {
     let dir = FAULTLESS.fetch(&case.fetch()).dir;
     let block = &mut case.images[usize::from(dir.pair[0] == case.numbers[1])];
@@ -44,7 +45,11 @@ pub fn cut_back(random: &mut Random, case: &mut Case) {
         return;
     };
     let known = known_to(&Mdir { off, etag, ..dir });
-    block.get_mut(known..).unwrap_or_default().fill(0xff);
+    let erased = match random.below(8) {
+        0 => !erased_behind(etag),
+        _ => erased_behind(etag),
+    };
+    block.get_mut(known..).unwrap_or_default().fill(erased);
 }
 
 /// Where the checks of an image end, and with which end tags.
@@ -63,7 +68,8 @@ pub fn ends_in(image: &[u8]) -> Vec<(u32, u32)> {
 /// before it, the end is 8 to 11.
 fn short_check(random: &mut Random, geometry: Geometry, habits: &Habits) -> Case {
     let revision = random.word();
-    let mut log = Log::new(geometry.block_size as usize, revision);
+    let board = habits.board(random);
+    let mut log = Log::on(board, geometry.block_size as usize, revision);
     if random.below(3) > 0 {
         start::put(&mut log, &lists::good(random, habits, 0).0);
     }
@@ -85,7 +91,8 @@ fn short_check(random: &mut Random, geometry: Geometry, habits: &Habits) -> Case
 /// 1,020 to 1,024 slots, by one name: the last are more than a pair may have.
 fn crowded(random: &mut Random, geometry: Geometry, habits: &Habits) -> Case {
     let revision = random.word();
-    let mut log = Log::new(geometry.block_size as usize, revision);
+    let board = habits.board(random);
+    let mut log = Log::on(board, geometry.block_size as usize, revision);
     log.put(tag_of(FILE, 1019 + random.below(5) as u32, 1), b"a");
     if random.below(2) == 0 && start::holds_forward(&log, geometry) {
         start::forward(random, &mut log, geometry);

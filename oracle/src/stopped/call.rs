@@ -9,6 +9,7 @@ use super::Asked;
 use crate::calls::write::{Committed, Work, Writes};
 use crate::calls::{Blocks, Fetch, Fetched, Gstate, Lookup, Voice};
 use crate::dirs::truth::{Sliced, Slicer};
+use crate::generate::erased_behind;
 use crate::histories::ask::{text, Step};
 use crate::histories::carried::Carried;
 use crate::model::size_of;
@@ -122,6 +123,12 @@ impl<'a> Call<'a> {
         matches!(self.step.task.work, Work::Compact)
     }
 
+    /// The log has a check for flash of the other kind, before the call or behind it.
+    pub fn for_both(&self) -> bool {
+        let old = self.before.fetched.dir.etag;
+        self.forward.both || erased_behind(old) != self.step.task.erased
+    }
+
     /// For the counts.
     pub fn kind(&self) -> &'static str {
         match self.compacts() {
@@ -147,7 +154,7 @@ impl<'a> Call<'a> {
         let bytes = match (self.compacts(), made) {
             (_, 0) => return images,
             (true, _) => {
-                block.fill(0xff);
+                block.fill(self.step.task.erased);
                 made - 1
             }
             (false, _) => made,

@@ -1,13 +1,14 @@
 //! What a recovery does next, at some of the stops: it fetches again; it tries a
 //! commit, which a torn room refuses with -213 at the old end, since a commit's
-//! first byte is never 0xff; it compacts, which is accepted as it would have been
-//! before, and gives the directory that fetch gave.
+//! first byte is never the erased one: its top bit is another; it compacts, on a board
+//! of either kind, which is accepted as it would have been before, and gives the
+//! directory that fetch gave.
 //!
 //! Assumes nothing.
 
 use super::call::{Call, State};
 use super::{machine, Asked};
-use crate::calls::write::{Answer, Committed, Task, Work, Writes, NOT_ERASED};
+use crate::calls::write::{Answer, Committed, Task, Work, Writes, ERASED, NOT_ERASED};
 use crate::calls::{Mdir, Voice};
 use crate::histories::ask::Outcome;
 use crate::tally::Check;
@@ -37,7 +38,7 @@ pub fn recover<W: Writes, R: Voice>(
 }
 
 /// The same call without a limit, with other work.
-fn task<'a>(call: &Call, work: Work<'a>) -> Task<'a> {
+fn task<'a>(call: &Call, erased: u8, work: Work<'a>) -> Task<'a> {
     let Task {
         geometry,
         numbers,
@@ -52,6 +53,7 @@ fn task<'a>(call: &Call, work: Work<'a>) -> Task<'a> {
         block_count,
         seed,
         rules,
+        erased,
         work,
         stores: None,
     }
@@ -69,7 +71,7 @@ fn commit<W: Writes, R: Voice>(
         entries: &[],
         data: &[],
     };
-    let bare = task(call, bare);
+    let bare = task(call, call.step.task.erased, bare);
     let old = &call.step.case.images;
     let torn = images != old;
     let expected = match torn {
@@ -104,7 +106,8 @@ fn compact<W: Writes, R: Voice>(
     limit: usize,
 ) {
     let (weight, say) = (|| call.weight(limit), || call.text(limit));
-    let again = task(call, Work::Compact);
+    let erased = ERASED[call.before.fetched.seed as usize >> 8 & 1];
+    let again = task(call, erased, Work::Compact);
     let next = Outcome::of(asked.writer, &again, images);
     if !finished {
         let before = Outcome::of(asked.writer, &again, &call.step.case.images);

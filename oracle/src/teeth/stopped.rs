@@ -19,7 +19,7 @@ use crate::stopped::{run, Asked, Stopped};
 const HISTORIES: u64 = 6_000;
 
 /// The writer's faults that demand 3 rules out.
-const WRITES: [WriteFault; 44] = [
+const WRITES: [WriteFault; 56] = [
     WriteFault::TwoAtOnce,
     WriteFault::AllAtOnce,
     WriteFault::Falling,
@@ -27,6 +27,14 @@ const WRITES: [WriteFault; 44] = [
     WriteFault::LastUnplaced,
     WriteFault::PaddingStored,
     WriteFault::Unerased,
+    WriteFault::ErasedToFf,
+    WriteFault::ErasedUnread,
+    WriteFault::CleanOfFf,
+    WriteFault::CleanOfEither,
+    WriteFault::ChainedWithoutBit31,
+    WriteFault::CheckIs500For00,
+    WriteFault::CheckIs501ForFf,
+    WriteFault::CheckOfOldKind,
     WriteFault::EraseUncounted,
     WriteFault::ErasedByNoStore,
     WriteFault::LimitAnswered,
@@ -38,6 +46,9 @@ const WRITES: [WriteFault; 44] = [
     WriteFault::CoincidenceWithout2,
     WriteFault::CoincidenceWithout3,
     WriteFault::CoincidenceWithoutForward,
+    WriteFault::CoincidenceOfUnchained,
+    WriteFault::CoincidenceFillsWithFf,
+    WriteFault::CoincidenceAgainstOnes,
     WriteFault::OldForward,
     WriteFault::OldErasedMark,
     WriteFault::ForwardUnstored,
@@ -48,6 +59,7 @@ const WRITES: [WriteFault; 44] = [
     WriteFault::ForwardAtBlocksEnd,
     WriteFault::ForwardSumOneMore,
     WriteFault::ForwardSumOneLess,
+    WriteFault::ForwardSumOfOnes,
     WriteFault::ForwardSizeBigEndian,
     WriteFault::AnsweringBlock,
     WriteFault::SecondBlock,
@@ -67,11 +79,14 @@ const WRITES: [WriteFault; 44] = [
 ];
 
 /// The reader's.
-const READS: [Fault; 14] = [
+const READS: [Fault; 17] = [
     Fault::ForwardUncommitted,
     Fault::ForwardOfLastCommit,
     Fault::SeedForgotten,
     Fault::ErasedSumFits,
+    Fault::ZeroSumFits,
+    Fault::PreviousUnflipped,
+    Fault::EndTagUnflipped,
     Fault::UncommittedShown,
     Fault::SecondBlockUntried,
     Fault::SecondBlockGoesOn,
