@@ -7,10 +7,9 @@ use lib.ListN.{length, length-append}
 use Rattle.format.specs.Word.{toBe32, toLe32, xor}
 use Rattle.format.specs.Crc.{crc}
 use Rattle.format.specs.Commit.{Item, commitBytes}
-use Rattle.format.specs.Stores.{entriesLength, coincides}
+use Rattle.format.specs.Stores.{entriesLength, tagCoincides, coincides}
 use Rattle.format.specs.Writer.{allStores}
 use Rattle.format.proofs.Words.{length-toBe32, length-toLe32}
-use Rattle.commit_room.specs.Tests.{meets}
 use Rattle.theory.specs.Rules.MadeItem.{AllMade}
 
 unfoldable pub lastTag : ℕ → List Item → ℕ
@@ -60,10 +59,11 @@ bytes-cut (i ∷ is) s p ct =
     append-assoc (t ++ i .body) (entriesBytes (i .tag) is) c ∙ append-assoc t (i .body) (entriesBytes (i .tag) is ++ c)
     ∙ ap (λ (l : List ℕ). t ++ (i .body ++ l)) (bytes-cut is s1 (i .tag) ct)
 
-pub meets-last : (is : List Item) (s p ct : ℕ) → meets (lastSum s p is) (xor ct (lastTag p is)) ≡ coincides s p is ct
-unfolding lastSum lastTag coincides meets
-meets-last [] s p ct = refl
-meets-last (i ∷ is) s p ct = meets-last is (crc s (toBe32 (xor (i .tag) p) ++ i .body)) (i .tag) ct
+pub meets-last : (byte : ℕ) (is : List Item) (s p ct : ℕ)
+    → tagCoincides byte (lastSum s p is) (xor ct (lastTag p is)) ≡ coincides byte s p is ct
+unfolding lastSum lastTag coincides
+meets-last byte [] s p ct = refl
+meets-last byte (i ∷ is) s p ct = meets-last byte is (crc s (toBe32 (xor (i .tag) p) ++ i .body)) (i .tag) ct
 
 pub bytes-length : (is : List Item) (s p ct : ℕ) → AllMade is → length (commitBytes s p is ct) ≡ allStores is
 unfolding commitBytes entriesLength

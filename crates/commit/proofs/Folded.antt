@@ -40,15 +40,15 @@ module _ (second : Bool) (r : Refusal) (b0 b1 : List ℕ) where
   unfolding sealedOf
   laid-refused es dat = ap sealT (pass-fold es dat (trio (state second (Refused r)) b0 b1) ∙ fold-refused dat es)
 
-  pub decided-refused : (g : Geometry) (n : ℕ) (es : List Entry) (dat : List ℕ)
-      → sealT (passOf es dat (decideT g n (trio (state second (Refused r)) b0 b1)))
+  pub decided-refused : (byte : ℕ) (g : Geometry) (n : ℕ) (es : List Entry) (dat : List ℕ)
+      → sealT (passOf es dat (decideT byte g n (trio (state second (Refused r)) b0 b1)))
       ≡ trio (state second (Refused r)) b0 b1
   unfolding decidedOf
-  decided-refused g n es dat = laid-refused es dat
+  decided-refused byte g n es dat = laid-refused es dat
 
-  pub all-refused : (g : Geometry) (n : ℕ) (es : List Entry) (dat : List ℕ)
-      → sealT (passOf es dat (decideT g n (passOf es dat (trio (state second (Refused r)) b0 b1))))
+  pub all-refused : (byte : ℕ) (g : Geometry) (n : ℕ) (es : List Entry) (dat : List ℕ)
+      → sealT (passOf es dat (decideT byte g n (passOf es dat (trio (state second (Refused r)) b0 b1))))
       ≡ trio (state second (Refused r)) b0 b1
-  all-refused g n es dat =
-      ap (λ (t : Trio). sealT (passOf es dat (decideT g n t))) (pass-fold es dat (trio (state second (Refused r)) b0 b1)
-      ∙ fold-refused dat es) ∙ decided-refused g n es dat
+  all-refused byte g n es dat =
+      ap (λ (t : Trio). sealT (passOf es dat (decideT byte g n t))) (pass-fold es dat (trio (state second (Refused r)) b0 b1)
+      ∙ fold-refused dat es) ∙ decided-refused byte g n es dat

@@ -34,67 +34,67 @@ module _ (es : List Entry) (dat b0 b1 : List ℕ) (st : State) where
   each-step i s z0 z1 r y0 y1 e said = said ∙ ap (λ (t : Trio). stepE t dat (entryAt es i)) e
 
 -- ---- demand 3, of what a call left
-stopped : (g : Geometry) (b0 b1 : List ℕ) (n0 n1 count seed rules : ℕ) (es : List Entry) (dat : List ℕ) (n : ℕ)
+stopped : (g : Geometry) (b0 b1 : List ℕ) (n0 n1 count seed rules byte : ℕ) (es : List Entry) (dat : List ℕ) (n : ℕ)
     (x0 y0 : List ℕ)
-    → x0 ≡ commitImages g b0 b1 n0 n1 count seed rules es dat n .b0 → y0 ≡ commitImages g b0 b1 n0 n1 count seed rules
+    → x0 ≡ commitImages g b0 b1 n0 n1 count seed rules byte es dat n .b0 → y0 ≡ commitImages g b0 b1 n0 n1 count seed rules byte
     es dat n .b1
-    → CommitStopped g b0 b1 n0 n1 count seed rules es dat x0 y0
-stopped g b0 b1 n0 n1 count seed rules es dat n x0 y0 ex ey = rw (ex, ey)
-    (stopped-commit g b0 b1 n0 n1 count seed rules es dat n)
+    → CommitStopped g b0 b1 n0 n1 count seed rules byte es dat x0 y0
+stopped g b0 b1 n0 n1 count seed rules byte es dat n x0 y0 ex ey = rw (ex, ey)
+    (stopped-commit g b0 b1 n0 n1 count seed rules byte es dat n)
 
 -- ---- the steps, one after the other
-module _ (b0 b1 : List ℕ) (es : List Entry) (dat : List ℕ) (g : Geometry) (n0 n1 count seed rules : ℕ) where
+module _ (b0 b1 : List ℕ) (es : List Entry) (dat : List ℕ) (g : Geometry) (n0 n1 count seed rules byte : ℕ) where
   pub run-glue : (stores : ℕ) (r0 r1 : State) (x1 y1 : List ℕ) (r2 r3 : State) (x3 y3 : List ℕ) (r4 : State)
       (x4 y4 : List ℕ)
-      → r0 ≡ begunOf g b0 b1 n0 n1 count seed rules (length es) dat
+      → r0 ≡ begunOf g b0 b1 n0 n1 count seed rules byte (length es) dat
       → trio r1 x1 y1 ≡ eachOf (length es) es dat b0 b1 r0
-      → r2 ≡ decidedOf r1 g x1 y1 stores
+      → r2 ≡ decidedOf byte r1 g x1 y1 stores
       → trio r3 x3 y3 ≡ eachOf (length es) es dat x1 y1 r2
       → trio r4 x4 y4 ≡ sealedOf r3 x3 y3
-      → trio r4 x4 y4 ≡ ranOf g b0 b1 n0 n1 count seed rules es dat stores
+      → trio r4 x4 y4 ≡ ranOf g b0 b1 n0 n1 count seed rules byte es dat stores
   unfolding ranOf
   run-glue stores r0 r1 x1 y1 r2 r3 x3 y3 r4 x4 y4 e0 e1 e2 e3 e4 =
-      let f1 : trio r1 x1 y1 ≡ passOf es dat (trio (begunOf g b0 b1 n0 n1 count seed rules (length es) dat) b0 b1) =
+      let f1 : trio r1 x1 y1 ≡ passOf es dat (trio (begunOf g b0 b1 n0 n1 count seed rules byte (length es) dat) b0 b1) =
       e1 ∙ ap (λ (s : State). eachOf (length es) es dat b0 b1 s) e0 in
-      let f2 : trio r2 x1 y1 ≡ decideT g stores (trio r1 x1 y1) = ap (λ (s : State). trio s x1 y1) e2 in
-      let f3 : trio r3 x3 y3 ≡ passOf es dat (decideT g stores (trio r1 x1 y1)) = e3 ∙ ap (passOf es dat) f2 in
-      e4 ∙ ap sealT (f3 ∙ ap (λ (t : Trio). passOf es dat (decideT g stores t)) f1)
+      let f2 : trio r2 x1 y1 ≡ decideT byte g stores (trio r1 x1 y1) = ap (λ (s : State). trio s x1 y1) e2 in
+      let f3 : trio r3 x3 y3 ≡ passOf es dat (decideT byte g stores (trio r1 x1 y1)) = e3 ∙ ap (passOf es dat) f2 in
+      e4 ∙ ap sealT (f3 ∙ ap (λ (t : Trio). passOf es dat (decideT byte g stores t)) f1)
 
   pub commit-glue : (n : ℕ) (r0 : State) (x0 y0 : List ℕ) (r1 : Committed) → n ≡ unlimited
-      → trio r0 x0 y0 ≡ ranOf g b0 b1 n0 n1 count seed rules es dat n
+      → trio r0 x0 y0 ≡ ranOf g b0 b1 n0 n1 count seed rules byte es dat n
       → r1 ≡ answeredOf r0 (refetchOf g x0 y0 n0 n1 count)
-      → (r1 ≡ commitOf g b0 b1 n0 n1 count seed rules es dat)
-      × CommitLeaves g b0 b1 n0 n1 count seed rules es dat x0 y0
+      → (r1 ≡ commitOf g b0 b1 n0 n1 count seed rules byte es dat)
+      × CommitLeaves g b0 b1 n0 n1 count seed rules byte es dat x0 y0
   unfolding commitOf commitImages
   commit-glue n r0 x0 y0 r1 en e0 e1 =
-      let e : trio r0 x0 y0 ≡ ranOf g b0 b1 n0 n1 count seed rules es dat unlimited =
-      e0 ∙ ap (λ (k : ℕ). ranOf g b0 b1 n0 n1 count seed rules es dat k) en in
-      let t = ran g b0 b1 n0 n1 count seed rules es dat unlimited in
-      let ex : x0 ≡ commitImages g b0 b1 n0 n1 count seed rules es dat unlimited .b0 =
+      let e : trio r0 x0 y0 ≡ ranOf g b0 b1 n0 n1 count seed rules byte es dat unlimited =
+      e0 ∙ ap (λ (k : ℕ). ranOf g b0 b1 n0 n1 count seed rules byte es dat k) en in
+      let t = ran g b0 b1 n0 n1 count seed rules byte es dat unlimited in
+      let ex : x0 ≡ commitImages g b0 b1 n0 n1 count seed rules byte es dat unlimited .b0 =
       ap (λ (u : Trio). u .b0) e ∙ t .first in
-      let ey : y0 ≡ commitImages g b0 b1 n0 n1 count seed rules es dat unlimited .b1 =
+      let ey : y0 ≡ commitImages g b0 b1 n0 n1 count seed rules byte es dat unlimited .b1 =
       ap (λ (u : Trio). u .b1) e ∙ t .second in
       let again : (m : LfsMdir) (s : ℕ) → fetchOf g b0 b1 n0 n1 count seed ≡ fetched.Found m s
       → refetchOf g x0 y0 n0 n1 count s m ≡ fetchOf g x0 y0 n0 n1 count seed =
-      λ m s h. rw (ex, ey) (refetch-behind g b0 b1 n0 n1 count seed rules es dat unlimited m s (inl h)) in
-      let answers : r1 ≡ commitOf g b0 b1 n0 n1 count seed rules es dat =
+      λ m s h. rw (ex, ey) (refetch-behind g b0 b1 n0 n1 count seed rules byte es dat unlimited m s (inl h)) in
+      let answers : r1 ≡ commitOf g b0 b1 n0 n1 count seed rules byte es dat =
       e1 ∙ ap (λ (u : Trio). answeredOf (u .st) (refetchOf g x0 y0 n0 n1 count)) e
       ∙ t .answers (refetchOf g x0 y0 n0 n1 count) (fetchOf g x0 y0 n0 n1 count seed) again
-      ∙ (λ i. answerOf (fetchOf g (ex i) (ey i) n0 n1 count seed) (verdictOf g b0 b1 n0 n1 count seed rules es dat)) in
-      (answers, (ex, ey, stopped-commit g b0 b1 n0 n1 count seed rules es dat))
+      ∙ (λ i. answerOf (fetchOf g (ex i) (ey i) n0 n1 count seed) (verdictOf g b0 b1 n0 n1 count seed rules byte es dat)) in
+      (answers, (ex, ey, stopped-commit g b0 b1 n0 n1 count seed rules byte es dat))
 
   pub stores-glue : (stores : ℕ) (r0 : State) (x0 y0 : List ℕ) (r1 : Stored)
-      → trio r0 x0 y0 ≡ ranOf g b0 b1 n0 n1 count seed rules es dat stores
+      → trio r0 x0 y0 ≡ ranOf g b0 b1 n0 n1 count seed rules byte es dat stores
       → r1 ≡ madeOf r0 stores
-      → (r1 ≡ commitStoresOf g b0 b1 n0 n1 count seed rules es dat stores)
-      × CommitStoresLeaves g b0 b1 n0 n1 count seed rules es dat stores x0 y0
+      → (r1 ≡ commitStoresOf g b0 b1 n0 n1 count seed rules byte es dat stores)
+      × CommitStoresLeaves g b0 b1 n0 n1 count seed rules byte es dat stores x0 y0
   unfolding commitStoresOf commitImages
   stores-glue stores r0 x0 y0 r1 e0 e1 =
-      let t = ran g b0 b1 n0 n1 count seed rules es dat stores in
-      let ex : x0 ≡ commitImages g b0 b1 n0 n1 count seed rules es dat stores .b0 = ap (λ (u : Trio). u .b0) e0 ∙ t
+      let t = ran g b0 b1 n0 n1 count seed rules byte es dat stores in
+      let ex : x0 ≡ commitImages g b0 b1 n0 n1 count seed rules byte es dat stores .b0 = ap (λ (u : Trio). u .b0) e0 ∙ t
       .first in
-      let ey : y0 ≡ commitImages g b0 b1 n0 n1 count seed rules es dat stores .b1 = ap (λ (u : Trio). u .b1) e0
+      let ey : y0 ≡ commitImages g b0 b1 n0 n1 count seed rules byte es dat stores .b1 = ap (λ (u : Trio). u .b1) e0
       ∙ t .second in (
         e1 ∙ ap (λ (u : Trio). madeOf (u .st) stores) e0 ∙ t .made,
-        (ex, ey, stopped g b0 b1 n0 n1 count seed rules es dat stores x0 y0 ex ey),
+        (ex, ey, stopped g b0 b1 n0 n1 count seed rules byte es dat stores x0 y0 ex ey),
       )

@@ -15,7 +15,7 @@ use Rattle.format.specs.Crc.{crc}
 use Rattle.format.specs.Log.{log, logEnd, logEndTag}
 use Rattle.format.specs.Record.{countOf, noForward}
 use Rattle.format.specs.Fetch.{geometryFits, imagesFit, pairFits, fetchOf}
-use Rattle.format.specs.Regular.{Regular, rulesFit, rulesOf}
+use Rattle.format.specs.Regular.{Regular, rulesOf}
 use Rattle.format.specs.declared.Rules.the-variants.{Littlefs}
 use Rattle.format.proofs.Growing.{widest}
 use Rattle.format.specs.Commit.{Item, checkTag, commitBytes}
@@ -24,7 +24,7 @@ use Rattle.format.specs.Entries.{itemsOf, Judged, judge, bad, good}
 use Rattle.format.specs.Room.{roomOf}
 use Rattle.format.specs.Writer.{roundedEnd, checkSize, checkAt, allStores, mostData, mostEntries, commitFits}
 use Rattle.format.specs.Writer.{Verdict, refused, accepted, blockAt, roomThen, placed, judgedBy, appended, isSecond}
-use Rattle.format.specs.Writer.{fetchedThen, verdictOf, imagesAfter, storedTo, committedAs, answerOf, storesMade}
+use Rattle.format.specs.Writer.{writesFit, fetchedThen, verdictOf, imagesAfter, storedTo, committedAs, answerOf, storesMade}
 use Rattle.format.specs.Writer.{unitCheck, forwardTag, forwardItem, carries, carriedFor, forwardItems, withForward}
 use Rattle.format.specs.declared.LfsFcrc.{LfsFcrc}
 use Rattle.format.specs.declared.Geometry.{Geometry}
@@ -64,17 +64,17 @@ use Rattle.commit.proofs.Lays.{Tagged, judged-tagged, allLaid, lay-firs
 
 -- what a state and two blocks must be behind a commit with the limit n and the verdict v. F is what was fetched first;
 -- the answer is f, if that is what is fetched again behind it.
-pub record Ran (F : Fetched) (b0 b1 : List ℕ) (n : ℕ) (v : Verdict) (t : Trio) : Type 0 where
-  pub first : t .b0 ≡ imagesAfter n b0 b1 v .b0
-  pub second : t .b1 ≡ imagesAfter n b0 b1 v .b1
+pub record Ran (byte : ℕ) (F : Fetched) (b0 b1 : List ℕ) (n : ℕ) (v : Verdict) (t : Trio) : Type 0 where
+  pub first : t .b0 ≡ imagesAfter byte n b0 b1 v .b0
+  pub second : t .b1 ≡ imagesAfter byte n b0 b1 v .b1
   pub answers : (on : ℕ → LfsMdir → Fetched) (f : Fetched)
       → ((m : LfsMdir) (s : ℕ) → F ≡ fetched.Found m s → on s m ≡ f) → answeredOf (t .st) on ≡ answerOf f v
   pub made : madeOf (t .st) n ≡ storesMade n v
 
-ran-refused : (F : Fetched) (b0 b1 : List ℕ) (n : ℕ) (w : Bool) (r : Refusal) (t : Trio)
-    → t ≡ trio (state w (Refused r)) b0 b1 → Ran F b0 b1 n (refused r) t
+ran-refused : (byte : ℕ) (F : Fetched) (b0 b1 : List ℕ) (n : ℕ) (w : Bool) (r : Refusal) (t : Trio)
+    → t ≡ trio (state w (Refused r)) b0 b1 → Ran byte F b0 b1 n (refused r) t
 unfolding answeredOf madeOf
-ran-refused F b0 b1 n w r t e =
+ran-refused byte F b0 b1 n w r t e =
     record {
       first = ap (λ (u : Trio). u .b0) e;
       second = ap (λ (u : Trio). u .b1) e;
@@ -87,23 +87,23 @@ ran-refused F b0 b1 n w r t e =
 made-count : (n k : ℕ) → n - (n - k) ≡ min n k
 made-count n k = omega arith
 
-module _ (b : List ℕ) (is : List Item) (size n : ℕ) (made : AllMade is)
+module _ (byte : ℕ) (b : List ℕ) (is : List Item) (size n : ℕ) (made : AllMade is)
     (room : logEnd (log b) + allStores is ≤ length b) where
-  stores-are : putsOf (laid (runAt (logEnd (log b)) n) b) (commitBytes allOnes (logEndTag (log b)) is (checkTag size))
-      ≡ laid (runAt (logEnd (log b) + min n (allStores is)) (n - allStores is)) (storedTo b is size n)
+  stores-are : putsOf (laid (runAt (logEnd (log b)) n) b) (commitBytes allOnes (logEndTag (log b)) is (checkTag byte size))
+      ≡ laid (runAt (logEnd (log b) + min n (allStores is)) (n - allStores is)) (storedTo byte b is size n)
   unfolding appending
   stores-are =
-      let l : length (commitBytes allOnes (logEndTag (log b)) is (checkTag size)) ≡ allStores is =
-      bytes-length is allOnes (logEndTag (log b)) (checkTag size) made in
-      puts-paste (commitBytes allOnes (logEndTag (log b)) is (checkTag size)) (logEnd (log b)) n b (omega arith) ∙ rw l
+      let l : length (commitBytes allOnes (logEndTag (log b)) is (checkTag byte size)) ≡ allStores is =
+      bytes-length is allOnes (logEndTag (log b)) (checkTag byte size) made in
+      puts-paste (commitBytes allOnes (logEndTag (log b)) is (checkTag byte size)) (logEnd (log b)) n b (omega arith) ∙ rw l
 
 -- the block at place w holds them
-ran-accepted : (F : Fetched) (b0 b1 : List ℕ) (n : ℕ) (w : Bool) (is : List Item) (size a : ℕ) (l : Laying) (p : ℕ)
+ran-accepted : (byte : ℕ) (F : Fetched) (b0 b1 : List ℕ) (n : ℕ) (w : Bool) (is : List Item) (size a : ℕ) (l : Laying) (p : ℕ)
     (t : Trio) → F ≡ fetched.Found (l .old .dir) (l .old .seed) → t ≡ into w b0 b1 (laidTo l p (laid (runAt a
-    (n - allStores is)) (storedTo (blockAt w b0 b1) is size n)))
-    → Ran F b0 b1 n (accepted w is size) t
+    (n - allStores is)) (storedTo byte (blockAt w b0 b1) is size n)))
+    → Ran byte F b0 b1 n (accepted w is size) t
 unfolding answeredOf madeOf
-ran-accepted F b0 b1 n false is size a l p t found e =
+ran-accepted byte F b0 b1 n false is size a l p t found e =
     record {
       first = ap (λ (u : Trio). u .b0) e;
       second = ap (λ (u : Trio). u .b1) e;
@@ -111,7 +111,7 @@ ran-accepted F b0 b1 n false is size a l p t found e =
           ∙ ap committedAs (h (l .old .dir) (l .old .seed) found);
       made = ap (λ (u : Trio). madeOf (u .st) n) e ∙ ap stored.Made (made-count n (allStores is));
     }
-ran-accepted F b0 b1 n true is size a l p t found e =
+ran-accepted byte F b0 b1 n true is size a l p t found e =
     record {
       first = ap (λ (u : Trio). u .b0) e;
       second = ap (λ (u : Trio). u .b1) e;
@@ -126,7 +126,7 @@ lay-both dat es l false b0 b1 h = lay-first dat es l b0 b1 h
 lay-both dat es l true b0 b1 h = lay-second dat es l b0 b1 h
 
 -- ---- good entries: the block B at place w answers, the record m was found, with the seed s behind it
-module _ (F : Fetched) (dat : List ℕ) (entries : List Entry) (w : Bool) (b0 b1 : List ℕ) (n prog : ℕ) (m : LfsMdir)
+module _ (byte : ℕ) (F : Fetched) (dat : List ℕ) (entries : List Entry) (w : Bool) (b0 b1 : List ℕ) (n prog : ℕ) (m : LfsMdir)
     (s : ℕ) (found : F ≡ fetched.Found m s) (ends : m .off ≡ logEnd (log (blockAt w b0 b1)))
     (end-tag : m .etag ≡ logEndTag (log (blockAt w b0 b1))) where
   abbrev B : List ℕ
@@ -137,13 +137,13 @@ module _ (F : Fetched) (dat : List ℕ) (entries : List Entry) (w : Bool) (b0 b1
   E = itemsOf dat entries
 
   abbrev fcrc : LfsFcrc
-  fcrc = carriedFor prog (length B) (logEnd (log B) + entriesLength (itemsOf dat entries))
+  fcrc = carriedFor byte prog (length B) (logEnd (log B) + entriesLength (itemsOf dat entries))
 
   abbrev I : List Item
-  I = withForward prog (length B) (logEnd (log B)) (itemsOf dat entries)
+  I = withForward byte prog (length B) (logEnd (log B)) (itemsOf dat entries)
 
   abbrev ct : ℕ
-  ct = checkTag (checkSize prog (checkAt (log B) I))
+  ct = checkTag byte (checkSize prog (checkAt (log B) I))
 
   abbrev word : ℕ
   word = xor ct (lastTag (logEndTag (log B)) I)
@@ -184,13 +184,13 @@ module _ (F : Fetched) (dat : List ℕ) (entries : List Entry) (w : Bool) (b0 b1
   laid-all : Tagged entries → AllMade I → logEnd (log B) + allStores I ≤ length B
       → laidBy (Lay laying) ≡ into w b0 b1 (laidTo laying (lastTag (logEndTag (log B)) I)
       (laid (runAt (logEnd (log B) + min n (allStores I)) (n - allStores I))
-      (storedTo B I (checkSize prog (checkAt (log B) I)) n)))
+      (storedTo byte B I (checkSize prog (checkAt (log B) I)) n)))
   unfolding withForward
   laid-all h made room =
       ap sealT (pass-fold entries dat (trio (state w (Lay laying)) b0 b1) ∙ lay-both dat entries laying w b0 b1 h)
       ∙ sealed-done dat entries laying allOnes (logEndTag (log B)) ct refl refl refl w b0 b1
       ∙ ap (λ (u : Laid). into w b0 b1 (laidTo laying (lastTag (logEndTag (log B)) I) u))
-      (stores-are B I (checkSize prog (checkAt (log B) I)) n made room)
+      (stores-are byte B I (checkSize prog (checkAt (log B) I)) n made room)
 
   -- j is behind all that is laid
   pub record Behind (j : Judging) (is : List Item) : Type 0 where
@@ -199,12 +199,12 @@ module _ (F : Fetched) (dat : List ℕ) (entries : List Entry) (w : Bool) (b0 b1
     pub prev′ : j .prev ≡ lastTag (logEndTag (log B)) is
     pub sum′ : j .sum ≡ lastSum allOnes (logEndTag (log B)) is
 
-  tested-phase : (j : Judging) → Behind j I → testedOf j fcrc prog B n
+  tested-phase : (j : Judging) → Behind j I → testedOf byte j fcrc prog B n
       ≡ tests (ltb (length B) (roundedEnd prog (checkAt (log B) I)))
-      (roomOf prog B (logEnd (log B)) (logEndTag (log B))) (coincides allOnes (logEndTag (log B)) I ct)
+      (roomOf byte prog B (logEnd (log B)) (logEndTag (log B))) (coincides byte allOnes (logEndTag (log B)) I ct)
   unfolding testedOf
   tested-phase j k =
-      rw (k .old′, ends, end-tag, k .size′, k .prev′, k .sum′, meets-last I allOnes (logEndTag (log B)) ct)
+      rw (k .old′, ends, end-tag, k .size′, k .prev′, k .sum′, meets-last byte I allOnes (logEndTag (log B)) ct)
 
   -- the forward check is summed as one entry more
   summed-behind : (len c : ℕ) (i : Item) → i .tag ≡ forwardTag → length entries ≤ mostEntries
@@ -222,77 +222,77 @@ module _ (F : Fetched) (dat : List ℕ) (entries : List Entry) (w : Bool) (b0 b1
   unfolding forwardSummed withForward carriedFor
   behind-forward len c few = go (carries prog (length B) (logEnd (log B) + entriesLength E))
     where
-      go : (q : Bool) → (let f : LfsFcrc = cond q (unitCheck prog) noForward in
+      go : (q : Bool) → (let f : LfsFcrc = cond q (unitCheck byte prog) noForward in
           Behind (cond (f .seen) (summedOf (after J0 E len c) c forwardTag (forwardItem f .body)) (after J0 E len c))
           (E ++ forwardItems f))
       go false = rw (append-nil E)
           (record { old′ = refl; size′ = zero-add (entriesLength E); prev′ = refl; sum′ = refl })
-      go true = summed-behind len c (forwardItem (unitCheck prog)) refl few
+      go true = summed-behind len c (forwardItem (unitCheck byte prog)) refl few
 
-  placed-phase : (len c : ℕ) → length entries ≤ mostEntries → placedOf (after J0 E len c) prog B n
+  placed-phase : (len c : ℕ) → length entries ≤ mostEntries → placedOf byte (after J0 E len c) prog B n
       ≡ tests (ltb (length B) (roundedEnd prog (checkAt (log B) I)))
-      (roomOf prog B (logEnd (log B)) (logEndTag (log B))) (coincides allOnes (logEndTag (log B)) I ct)
+      (roomOf byte prog B (logEnd (log B)) (logEndTag (log B))) (coincides byte allOnes (logEndTag (log B)) I ct)
   unfolding placedOf
   placed-phase len c few =
       let j : Judging = after J0 E len c in
-      ap₂ (λ (e k : ℕ). let f : LfsFcrc = carriedFor prog (length B) (e + k) in
-      testedOf (forwardSummed j f) f prog B n) ends (zero-add (entriesLength E))
+      ap₂ (λ (e k : ℕ). let f : LfsFcrc = carriedFor byte prog (length B) (e + k) in
+      testedOf byte (forwardSummed j f) f prog B n) ends (zero-add (entriesLength E))
       ∙ tested-phase (forwardSummed j fcrc) (behind-forward len c few)
 
   module _ (some : 4 ≤ prog) (h : Tagged entries) (made : AllMade I) where
     ran-tests : (x : Bool) (y : Room) (z : Bool) → ltb (length B) (roundedEnd prog (checkAt (log B) I)) ≡ x
-        → Ran F b0 b1 n (verdict x y z) (laidBy (tests x y z))
-    ran-tests true y z e = ran-refused F b0 b1 n w NoSpace _ (laid-refused w NoSpace b0 b1 entries dat)
-    ran-tests false (room.Refused r) z e = ran-refused F b0 b1 n w r _ (laid-refused w r b0 b1 entries dat)
+        → Ran byte F b0 b1 n (verdict x y z) (laidBy (tests x y z))
+    ran-tests true y z e = ran-refused byte F b0 b1 n w NoSpace _ (laid-refused w NoSpace b0 b1 entries dat)
+    ran-tests false (room.Refused r) z e = ran-refused byte F b0 b1 n w r _ (laid-refused w r b0 b1 entries dat)
     ran-tests false room.Clean true e =
-        ran-refused F b0 b1 n w Coincidence _ (laid-refused w Coincidence b0 b1 entries dat)
+        ran-refused byte F b0 b1 n w Coincidence _ (laid-refused w Coincidence b0 b1 entries dat)
     ran-tests false room.Clean false e =
         let fit : roundedEnd prog (checkAt (log B) I) ≤ length B =
         ltb-false (length B) (roundedEnd prog (checkAt (log B) I)) e in
-        ran-accepted F b0 b1 n w I (checkSize prog (checkAt (log B) I)) (logEnd (log B) + min n (allStores I)) laying
+        ran-accepted byte F b0 b1 n w I (checkSize prog (checkAt (log B) I)) (logEnd (log B) + min n (allStores I)) laying
         (lastTag (logEndTag (log B)) I) _ found
         (laid-all h made (omega (arith, rounded prog (checkAt (log B) I) some .0)))
 
     ran-placed : (len c : ℕ) → length entries ≤ mostEntries
-        → Ran F b0 b1 n (placed prog w B (log B) I) (laidBy (placedOf (after J0 E len c) prog B n))
+        → Ran byte F b0 b1 n (placed byte prog w B (log B) I) (laidBy (placedOf byte (after J0 E len c) prog B n))
     unfolding placed
     ran-placed len c few =
-        subst (λ (p : Phase). Ran F b0 b1 n (placed prog w B (log B) I) (laidBy p)) (sym (placed-phase len c few))
+        subst (λ (p : Phase). Ran byte F b0 b1 n (placed byte prog w B (log B) I) (laidBy p)) (sym (placed-phase len c few))
         (ran-tests (ltb (length B) (roundedEnd prog (checkAt (log B) I)))
-        (roomOf prog B (logEnd (log B)) (logEndTag (log B))) (coincides allOnes (logEndTag (log B)) I ct) refl)
+        (roomOf byte prog B (logEnd (log B)) (logEndTag (log B))) (coincides byte allOnes (logEndTag (log B)) I ct) refl)
 
 -- ---- all of it
-module _ (g : Geometry) (b0 b1 : List ℕ) (n0 n1 count seed rules : ℕ) (entries : List Entry) (dat : List ℕ)
+module _ (g : Geometry) (b0 b1 : List ℕ) (n0 n1 count seed rules byte : ℕ) (entries : List Entry) (dat : List ℕ)
     (n : ℕ) where
   abbrev F : Fetched
   F = fetchOf g b0 b1 n0 n1 count seed
 
   abbrev decidedT : Trio → Trio
-  decidedT t = sealT (passOf entries dat (decideT g n t))
+  decidedT t = sealT (passOf entries dat (decideT byte g n t))
 
   -- all that is laid, of the block at place w
   abbrev laidAt : Bool → List Item
-  laidAt w = withForward (g .«prog_size») (length (blockAt w b0 b1)) (logEnd (log (blockAt w b0 b1)))
+  laidAt w = withForward byte (g .«prog_size») (length (blockAt w b0 b1)) (logEnd (log (blockAt w b0 b1)))
       (itemsOf dat entries)
 
   abbrev T : State → Trio
   T s = decidedT (passOf entries dat (trio s b0 b1))
 
-  module _ (fits : commitFits g (length b0) (length b1) n0 n1 rules (length entries) (length dat) ≡ true) where
+  module _ (fits : commitFits g (length b0) (length b1) n0 n1 rules byte (length entries) (length dat) ≡ true) where
     few : length entries ≤ 8_192
     unfolding commitFits
     few =
         let r = both-true (pairFits g (length b0) (length b1) n0 n1 && leb (length dat) mostData
-        && leb (length entries) mostEntries) (rulesFit rules) fits in
+        && leb (length entries) mostEntries) (writesFit rules byte) fits in
         leb-true (length entries) mostEntries
         (both-true (pairFits g (length b0) (length b1) n0 n1 && leb (length dat) mostData)
         (leb (length entries) mostEntries) (r .0) .1)
 
     images : imagesFit g (length b0) (length b1) ≡ true
-    images = fits-images g (length b0) (length b1) n0 n1 rules (length entries) (length dat) fits
+    images = fits-images g (length b0) (length b1) n0 n1 rules byte (length entries) (length dat) fits
 
     geometry : geometryFits g ≡ true
-    geometry = fits-geometry g (length b0) (length b1) n0 n1 rules (length entries) (length dat) fits
+    geometry = fits-geometry g (length b0) (length b1) n0 n1 rules byte (length entries) (length dat) fits
 
     -- the block at place w answers, m was found with the seed s; its log is regular, by littlefs's rule, the wider one
     module _ (w : Bool) (m : LfsMdir) (s : ℕ) (found : F ≡ fetched.Found m s)
@@ -303,31 +303,31 @@ module _ (g : Geometry) (b0 b1 : List ℕ) (n0 n1 count seed rules : ℕ) (entri
           (regular-count (blockAt w b0 b1) (log (blockAt w b0 b1)) refl regular)
 
       abbrev start : Judging
-      start = J0 F dat entries w b0 b1 n (g .«prog_size») m s found ends end-tag
+      start = J0 byte F dat entries w b0 b1 n (g .«prog_size») m s found ends end-tag
 
-      decided-good : (c : ℕ) → decideT g n
+      decided-good : (c : ℕ) → decideT byte g n
           (trio (state w (Judge (after start (itemsOf dat entries) (length entries) c))) b0 b1)
-          ≡ trio (state w (placedOf (after start (itemsOf dat entries) (length entries) c) (g .«prog_size»)
+          ≡ trio (state w (placedOf byte (after start (itemsOf dat entries) (length entries) c) (g .«prog_size»)
           (blockAt w b0 b1) n)) b0 b1
       unfolding decidedOf
       decided-good c = rw images
 
       ran-judged : (j : Judged) → judge dat 0 (countOf 0 (log (blockAt w b0 b1))) entries ≡ j
-          → Ran F b0 b1 n (judgedBy j (placed (g .«prog_size») w (blockAt w b0 b1) (log (blockAt w b0 b1)) (laidAt w)))
+          → Ran byte F b0 b1 n (judgedBy j (placed byte (g .«prog_size») w (blockAt w b0 b1) (log (blockAt w b0 b1)) (laidAt w)))
           (decidedT (trio (state w (phaseOf j start (itemsOf dat entries) (length entries))) b0 b1))
-      ran-judged (bad k) e = ran-refused F b0 b1 n w (BadEntry k) _ (decided-refused w
-          (BadEntry k) b0 b1 g n entries dat)
+      ran-judged (bad k) e = ran-refused byte F b0 b1 n w (BadEntry k) _ (decided-refused w
+          (BadEntry k) b0 b1 byte g n entries dat)
       ran-judged (good c) e =
           let good-all = judged-good dat entries 0 (countOf 0 (log (blockAt w b0 b1))) c low e in
-          subst (λ (t : Trio). Ran F b0 b1 n (placed (g .«prog_size») w (blockAt w b0 b1) (log (blockAt w b0 b1))
+          subst (λ (t : Trio). Ran byte F b0 b1 n (placed byte (g .«prog_size») w (blockAt w b0 b1) (log (blockAt w b0 b1))
           (laidAt w)) (sealT (passOf entries dat t))) (sym (decided-good c))
-          (ran-placed F dat entries w b0 b1 n (g .«prog_size») m s found ends end-tag (fits-prog g geometry .0)
+          (ran-placed byte F dat entries w b0 b1 n (g .«prog_size») m s found ends end-tag (fits-prog g geometry .0)
           (judged-tagged dat entries 0 (countOf 0 (log (blockAt w b0 b1))) c low e)
-          (with-made (g .«prog_size») (length (blockAt w b0 b1)) (logEnd (log (blockAt w b0 b1))) (itemsOf dat entries)
+          (with-made byte (g .«prog_size») (length (blockAt w b0 b1)) (logEnd (log (blockAt w b0 b1))) (itemsOf dat entries)
           (good-all .made)) (length entries) c few)
 
-      ran-regular : Ran F b0 b1 n (judgedBy (judge dat 0 (countOf 0 (log (blockAt w b0 b1))) entries)
-          (placed (g .«prog_size») w (blockAt w b0 b1) (log (blockAt w b0 b1)) (laidAt w)))
+      ran-regular : Ran byte F b0 b1 n (judgedBy (judge dat 0 (countOf 0 (log (blockAt w b0 b1))) entries)
+          (placed byte (g .«prog_size») w (blockAt w b0 b1) (log (blockAt w b0 b1)) (laidAt w)))
           (T (state w (Judge start)))
       ran-regular =
           let p : passOf entries dat (trio (state w (Judge start)) b0 b1)
@@ -335,23 +335,23 @@ module _ (g : Geometry) (b0 b1 : List ℕ) (n0 n1 count seed rules : ℕ) (entri
           (itemsOf dat entries) (length entries))) b0 b1 =
           pass-fold entries dat (trio (state w (Judge start)) b0 b1)
           ∙ judge-pass dat w b0 b1 entries start low (omega (arith, few)) (omega (arith, few)) in
-          subst (λ (t : Trio). Ran F b0 b1 n (judgedBy (judge dat 0 (countOf 0 (log (blockAt w b0 b1))) entries)
-          (placed (g .«prog_size») w (blockAt w b0 b1) (log (blockAt w b0 b1)) (laidAt w))) (decidedT t))
+          subst (λ (t : Trio). Ran byte F b0 b1 n (judgedBy (judge dat 0 (countOf 0 (log (blockAt w b0 b1))) entries)
+          (placed byte (g .«prog_size») w (blockAt w b0 b1) (log (blockAt w b0 b1)) (laidAt w))) (decidedT t))
           (sym p)
           (ran-judged (judge dat 0 (countOf 0 (log (blockAt w b0 b1))) entries) refl)
 
     ran-started : (w : Bool) (m : LfsMdir) (s : ℕ) → F ≡ fetched.Found m s → m .off ≡ logEnd (log (blockAt w b0 b1))
         → m .etag ≡ logEndTag (log (blockAt w b0 b1)) → m .count ≡ countOf 0 (log (blockAt w b0 b1))
-        → Ran F b0 b1 n (appended (rulesOf rules) (g .«prog_size») w (blockAt w b0 b1) (log (blockAt w b0 b1))
+        → Ran byte F b0 b1 n (appended (rulesOf rules) byte (g .«prog_size») w (blockAt w b0 b1) (log (blockAt w b0 b1))
         entries dat) (T (startedOf (rulesOf rules) w (blockAt w b0 b1) m s))
     unfolding appended startedOf
     ran-started w m s found eo et ec = go (Regular (rulesOf rules) (log (blockAt w b0 b1))) refl
       where
         later : Verdict
         later = judgedBy (judge dat 0 (countOf 0 (log (blockAt w b0 b1))) entries)
-            (placed (g .«prog_size») w (blockAt w b0 b1) (log (blockAt w b0 b1)) (laidAt w))
+            (placed byte (g .«prog_size») w (blockAt w b0 b1) (log (blockAt w b0 b1)) (laidAt w))
 
-        from-record : judgingFrom m s ≡ J0 F dat entries w b0 b1 n (g .«prog_size») m s found eo et
+        from-record : judgingFrom m s ≡ J0 byte F dat entries w b0 b1 n (g .«prog_size») m s found eo et
         from-record = λ k. record {
           old = record { dir = m; seed = s };
           index = 0;
@@ -362,34 +362,34 @@ module _ (g : Geometry) (b0 b1 : List ℕ) (n0 n1 count seed rules : ℕ) (entri
         }
 
         go : (x : Bool) → Regular (rulesOf rules) (log (blockAt w b0 b1)) ≡ x
-            → Ran F b0 b1 n (cond (not x) (refused Irregular) later)
+            → Ran byte F b0 b1 n (cond (not x) (refused Irregular) later)
             (T (cond (not x) (refusedState Irregular) (state w (Judge (judgingFrom m s)))))
-        go false e = ran-refused F b0 b1 n false Irregular _ (all-refused false Irregular b0 b1 g n entries dat)
-        go true e = subst (λ (j : Judging). Ran F b0 b1 n later (T (state w (Judge j)))) (sym from-record)
+        go false e = ran-refused byte F b0 b1 n false Irregular _ (all-refused false Irregular b0 b1 byte g n entries dat)
+        go true e = subst (λ (j : Judging). Ran byte F b0 b1 n later (T (state w (Judge j)))) (sym from-record)
             (ran-regular w m s found eo et (widest (rulesOf rules) _ e))
 
     abbrev on : LfsMdir → Verdict
-    on m = appended (rulesOf rules) (g .«prog_size») (isSecond n0 m) (blockAt (isSecond n0 m) b0 b1)
+    on m = appended (rulesOf rules) byte (g .«prog_size») (isSecond n0 m) (blockAt (isSecond n0 m) b0 b1)
         (log (blockAt (isSecond n0 m) b0 b1)) entries dat
 
     ran-fetched : (f : Fetched) → fetchOf g b0 b1 n0 n1 count seed ≡ f
-        → Ran F b0 b1 n (fetchedThen f on) (T (fetchedBy (rulesOf rules) f n0 b0 b1))
-    ran-fetched (fetched.Refused r) e = ran-refused F b0 b1 n false r _ (all-refused false r b0 b1 g n entries dat)
+        → Ran byte F b0 b1 n (fetchedThen f on) (T (fetchedBy (rulesOf rules) f n0 b0 b1))
+    ran-fetched (fetched.Refused r) e = ran-refused byte F b0 b1 n false r _ (all-refused false r b0 b1 byte g n entries dat)
     ran-fetched (fetched.Found m s) e =
         let a = found-answers g b0 b1 n0 n1 count seed m s e in
-        subst (λ (v : Bool). Ran F b0 b1 n (appended (rulesOf rules) (g .«prog_size») v (blockAt v b0 b1)
+        subst (λ (v : Bool). Ran byte F b0 b1 n (appended (rulesOf rules) byte (g .«prog_size») v (blockAt v b0 b1)
         (log (blockAt v b0 b1)) entries dat) (T (startedOf (rulesOf rules) v (blockAt v b0 b1) m s))) (sym (a .place))
         (ran-started (a .w) m s e (a .end) (a .endTag) (a .count))
 
-  pub ran : Ran F b0 b1 n (verdictOf g b0 b1 n0 n1 count seed rules entries dat)
-      (ranOf g b0 b1 n0 n1 count seed rules entries dat n)
+  pub ran : Ran byte F b0 b1 n (verdictOf g b0 b1 n0 n1 count seed rules byte entries dat)
+      (ranOf g b0 b1 n0 n1 count seed rules byte entries dat n)
   unfolding verdictOf ranOf begunOf
-  ran = go (commitFits g (length b0) (length b1) n0 n1 rules (length entries) (length dat)) refl
+  ran = go (commitFits g (length b0) (length b1) n0 n1 rules byte (length entries) (length dat)) refl
     where
-      go : (x : Bool) → commitFits g (length b0) (length b1) n0 n1 rules (length entries) (length dat) ≡ x
-          → Ran F b0 b1 n (cond (not x) (refused Invalid)
-          (fetchedThen F (λ m. appended (rulesOf rules) (g .«prog_size») (isSecond n0 m) (blockAt (isSecond n0 m) b0 b1)
+      go : (x : Bool) → commitFits g (length b0) (length b1) n0 n1 rules byte (length entries) (length dat) ≡ x
+          → Ran byte F b0 b1 n (cond (not x) (refused Invalid)
+          (fetchedThen F (λ m. appended (rulesOf rules) byte (g .«prog_size») (isSecond n0 m) (blockAt (isSecond n0 m) b0 b1)
           (log (blockAt (isSecond n0 m) b0 b1)) entries dat)))
           (T (cond (not x) (refusedState Invalid) (fetchedBy (rulesOf rules) F n0 b0 b1)))
-      go false e = ran-refused F b0 b1 n false Invalid _ (all-refused false Invalid b0 b1 g n entries dat)
+      go false e = ran-refused byte F b0 b1 n false Invalid _ (all-refused false Invalid b0 b1 byte g n entries dat)
       go true e = ran-fetched e F refl

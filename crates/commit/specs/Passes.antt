@@ -24,14 +24,14 @@ eachOf (suc n) es dat b0 b1 s = stepE (eachOf n es dat b0 b1 s) dat (entryAt es 
 abbrev pub passOf : List Entry → List ℕ → Trio → Trio
 passOf es dat t = eachOf (length es) es dat (t .b0) (t .b1) (t .st)
 
-abbrev pub decideT : Geometry → ℕ → Trio → Trio
-decideT g stores t = trio (decidedOf (t .st) g (t .b0) (t .b1) stores) (t .b0) (t .b1)
+abbrev pub decideT : ℕ → Geometry → ℕ → Trio → Trio
+decideT byte g stores t = trio (decidedOf byte (t .st) g (t .b0) (t .b1) stores) (t .b0) (t .b1)
 
 abbrev pub sealT : Trio → Trio
 sealT t = sealedOf (t .st) (t .b0) (t .b1)
 
--- begin, judge every entry, decide, lay every entry, seal
-unfoldable pub ranOf : Geometry → List ℕ → List ℕ → ℕ → ℕ → ℕ → ℕ → ℕ → List Entry → List ℕ → ℕ → Trio
-ranOf g b0 b1 n0 n1 count seed rules es dat stores =
-    sealT (passOf es dat (decideT g stores
-    (passOf es dat (trio (begunOf g b0 b1 n0 n1 count seed rules (length es) dat) b0 b1))))
+-- begin, judge every entry, decide, lay every entry, seal; `byte` is the erased one
+unfoldable pub ranOf : Geometry → List ℕ → List ℕ → ℕ → ℕ → ℕ → ℕ → ℕ → ℕ → List Entry → List ℕ → ℕ → Trio
+ranOf g b0 b1 n0 n1 count seed rules byte es dat stores =
+    sealT (passOf es dat (decideT byte g stores
+    (passOf es dat (trio (begunOf g b0 b1 n0 n1 count seed rules byte (length es) dat) b0 b1))))

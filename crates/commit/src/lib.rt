@@ -39,12 +39,13 @@ fn run(
     block_count: u32,
     seed: u32,
     rules: u32,
+    erased: u8,
     entries: &[Entry],
     dat: &[u8],
     stores: u32,
 ) -> State
     ensures { λ r. ⌜ trio r (now (b0 .exit)) (now (b1 .exit)) ≡ ranOf g (now (b0 .entry)) (now (b1 .entry)) n0 n1
-        «block_count» seed rules (now (entries .entry)) (now (dat .entry)) stores ⌝ }
+        «block_count» seed rules erased (now (entries .entry)) (now (dat .entry)) stores ⌝ }
 {
     let s0 = commit_steps::begin(
         g,
@@ -55,11 +56,12 @@ fn run(
         block_count,
         seed,
         rules,
+        erased,
         entries.len(),
         dat,
     );
     let s1 = each(entries, dat, b0, b1, s0);
-    let s2 = commit_steps::decide(s1, g, b0, b1, stores);
+    let s2 = commit_steps::decide(erased, s1, g, b0, b1, stores);
     let s3 = each(entries, dat, b0, b1, s2);
     commit_steps::seal(s3, b0, b1)
 }
@@ -75,12 +77,13 @@ pub fn lfs_dir_commit(
     block_count: u32,
     seed: u32,
     rules: u32,
+    erased: u8,
     entries: &[Entry],
     dat: &[u8],
 ) -> Committed
-    ensures { λ r. ⌜ (r ≡ commitOf g (now (b0 .entry)) (now (b1 .entry)) n0 n1 «block_count» seed rules
+    ensures { λ r. ⌜ (r ≡ commitOf g (now (b0 .entry)) (now (b1 .entry)) n0 n1 «block_count» seed rules erased
         (now (entries .entry)) (now (dat .entry)))
-        × CommitLeaves g (now (b0 .entry)) (now (b1 .entry)) n0 n1 «block_count» seed rules
+        × CommitLeaves g (now (b0 .entry)) (now (b1 .entry)) n0 n1 «block_count» seed rules erased
         (now (entries .entry)) (now (dat .entry)) (now (b0 .exit)) (now (b1 .exit)) ⌝ }
 {
     let all = commit_steps::unlimited();
@@ -93,6 +96,7 @@ pub fn lfs_dir_commit(
         block_count,
         seed,
         rules,
+        erased,
         entries,
         dat,
         all,
@@ -111,13 +115,14 @@ pub fn lfs_dir_commit_stores(
     block_count: u32,
     seed: u32,
     rules: u32,
+    erased: u8,
     entries: &[Entry],
     dat: &[u8],
     stores: u32,
 ) -> Stored
-    ensures { λ r. ⌜ (r ≡ commitStoresOf g (now (b0 .entry)) (now (b1 .entry)) n0 n1 «block_count» seed rules
+    ensures { λ r. ⌜ (r ≡ commitStoresOf g (now (b0 .entry)) (now (b1 .entry)) n0 n1 «block_count» seed rules erased
         (now (entries .entry)) (now (dat .entry)) stores)
-        × CommitStoresLeaves g (now (b0 .entry)) (now (b1 .entry)) n0 n1 «block_count» seed rules
+        × CommitStoresLeaves g (now (b0 .entry)) (now (b1 .entry)) n0 n1 «block_count» seed rules erased
         (now (entries .entry)) (now (dat .entry)) stores (now (b0 .exit)) (now (b1 .exit)) ⌝ }
 {
     let s = run(
@@ -129,6 +134,7 @@ pub fn lfs_dir_commit_stores(
         block_count,
         seed,
         rules,
+        erased,
         entries,
         dat,
         stores,

@@ -11,6 +11,7 @@ use Rattle.format.specs.Log.{log}
 use Rattle.format.specs.Fetch.{imagesFit, fetchOf}
 use Rattle.format.specs.Regular.{Regular, rulesOf}
 use Rattle.format.specs.Commit.{checkTag}
+use Rattle.format.specs.Stores.{tagCoincides}
 use Rattle.format.specs.Room.{roomOf}
 use Rattle.format.specs.Writer.{roundedEnd, checkSize, forwardTag, forwardItem, carriedFor, commitFits, blockAt}
 use Rattle.format.specs.Writer.{isSecond, committedAs}
@@ -31,7 +32,6 @@ use Rattle.format.specs.declared.Stored.the-variants as stored
 use Rattle.commit_rules.specs.Rules.{countedBy}
 use Rattle.commit_rules.specs.declared.Ruled.{Ruled}
 use Rattle.commit_rules.specs.declared.Ruled.the-variants.{Bad, To}
-use Rattle.commit_room.specs.Tests.{meets}
 use Rattle.commit_lay.specs.Laid.{Laid, laid, putsOf, bodyOf, inBufferOf}
 use Rattle.commit_steps.specs.declared.Judging.{Judging}
 use Rattle.commit_steps.specs.declared.Laying.{Laying}
@@ -81,9 +81,9 @@ abbrev pub fetchedBy : Rules → Fetched → ℕ → List ℕ → List ℕ → S
 fetchedBy r (fetched.Refused q) n0 b0 b1 = refusedState q
 fetchedBy r (fetched.Found m s) n0 b0 b1 = startedOf r (isSecond n0 m) (blockAt (isSecond n0 m) b0 b1) m s
 
-unfoldable pub begunOf : Geometry → List ℕ → List ℕ → ℕ → ℕ → ℕ → ℕ → ℕ → ℕ → List ℕ → State
-begunOf g b0 b1 n0 n1 count seed rules entries dat =
-    cond (not (commitFits g (length b0) (length b1) n0 n1 rules entries (length dat))) (refusedState Invalid)
+unfoldable pub begunOf : Geometry → List ℕ → List ℕ → ℕ → ℕ → ℕ → ℕ → ℕ → ℕ → ℕ → List ℕ → State
+begunOf g b0 b1 n0 n1 count seed rules e entries dat =
+    cond (not (commitFits g (length b0) (length b1) n0 n1 rules e entries (length dat))) (refusedState Invalid)
     (fetchedBy (rulesOf rules) (fetchOf g b0 b1 n0 n1 count seed) n0 b0 b1)
 
 -- ---- an entry: judged
@@ -165,28 +165,28 @@ roomThenLaid (room.Refused r) p = Refused r
 roomThenLaid room.Clean p = p
 
 -- j is behind all entries, the forward check f included
-unfoldable pub testedOf : Judging → LfsFcrc → ℕ → List ℕ → ℕ → Phase
-testedOf j f prog b stores =
+unfoldable pub testedOf : ℕ → Judging → LfsFcrc → ℕ → List ℕ → ℕ → Phase
+testedOf e j f prog b stores =
     cond (ltb (length b) (roundedEnd prog (j .old .dir .off + j .size))) (Refused NoSpace)
-    (roomThenLaid (roomOf prog b (j .old .dir .off) (j .old .dir .etag))
-    (cond (meets (j .sum) (xor (checkTag (checkSize prog (j .old .dir .off + j .size))) (j .prev)))
+    (roomThenLaid (roomOf e prog b (j .old .dir .off) (j .old .dir .etag))
+    (cond (tagCoincides e (j .sum) (xor (checkTag e (checkSize prog (j .old .dir .off + j .size))) (j .prev)))
     (Refused Coincidence)
-    (Lay (layingFrom j f (xor (checkTag (checkSize prog (j .old .dir .off + j .size))) (j .prev)) stores))))
+    (Lay (layingFrom j f (xor (checkTag e (checkSize prog (j .old .dir .off + j .size))) (j .prev)) stores))))
 
-unfoldable pub placedOf : Judging → ℕ → List ℕ → ℕ → Phase
-placedOf j prog b stores =
-    let f : LfsFcrc = carriedFor prog (length b) (j .old .dir .off + j .size) in
-    testedOf (forwardSummed j f) f prog b stores
+unfoldable pub placedOf : ℕ → Judging → ℕ → List ℕ → ℕ → Phase
+placedOf e j prog b stores =
+    let f : LfsFcrc = carriedFor e prog (length b) (j .old .dir .off + j .size) in
+    testedOf e (forwardSummed j f) f prog b stores
 
-abbrev pub decidedBy : Phase → Bool → Geometry → List ℕ → List ℕ → ℕ → State
-decidedBy (Refused r) second g b0 b1 stores = state second (Refused r)
-decidedBy (Lay l) second g b0 b1 stores = state second (Lay l)
-decidedBy (Judge j) second g b0 b1 stores =
+abbrev pub decidedBy : ℕ → Phase → Bool → Geometry → List ℕ → List ℕ → ℕ → State
+decidedBy e (Refused r) second g b0 b1 stores = state second (Refused r)
+decidedBy e (Lay l) second g b0 b1 stores = state second (Lay l)
+decidedBy e (Judge j) second g b0 b1 stores =
     cond (not (imagesFit g (length b0) (length b1))) (refusedState Invalid)
-    (state second (placedOf j (g .«prog_size») (blockAt second b0 b1) stores))
+    (state second (placedOf e j (g .«prog_size») (blockAt second b0 b1) stores))
 
-unfoldable pub decidedOf : State → Geometry → List ℕ → List ℕ → ℕ → State
-decidedOf st g b0 b1 stores = decidedBy (st .phase) (st .second) g b0 b1 stores
+unfoldable pub decidedOf : ℕ → State → Geometry → List ℕ → List ℕ → ℕ → State
+decidedOf e st g b0 b1 stores = decidedBy e (st .phase) (st .second) g b0 b1 stores
 
 -- ---- behind the entries
 unfoldable pub checkedOf : Laying → List ℕ → Onto

@@ -74,7 +74,8 @@ pub struct State {
     pub phase: Phase,
 }
 
-// "Commit: -22, fetch's own refusals, -202". The rule by which the log must be regular is 0 or 1, "any other -22".
+// "Commit: -22, fetch's own refusals, -202". The rule by which the log must be regular is 0 or 1, "any other -22", and
+// the erased byte "0xff or 0x00".
 pub fn begin(
     g: Geometry,
     b0: &[u8],
@@ -84,16 +85,17 @@ pub fn begin(
     block_count: u32,
     seed: u32,
     rules: u32,
+    erased: u8,
     entries: usize,
     dat: &[u8],
 ) -> State
-    ensures { λ r. ⌜ r ≡ begunOf g (now (b0 .entry)) (now (b1 .entry)) n0 n1 «block_count» seed rules entries
+    ensures { λ r. ⌜ r ≡ begunOf g (now (b0 .entry)) (now (b1 .entry)) n0 n1 «block_count» seed rules erased entries
         (now (dat .entry)) ⌝ }
 {
     let fits = sizes::pair_fits(g, b0.len(), b1.len(), n0, n1)
         & (dat.len() <= MOST_DATA)
         & (entries <= MOST_ENTRIES)
-        & (rules <= 1);
+        & sizes::writes_fit(rules, erased);
     if !fits {
         return refused(Refusal::Invalid);
     }
@@ -246,8 +248,8 @@ fn lay(b: &mut [u8], l: Laying, tag: u32, dat: &[u8], off: u32, len: u32) -> Lay
 }
 
 // Between the passes: good entries are refused here, or laid.
-pub fn decide(st: State, g: Geometry, b0: &[u8], b1: &[u8], stores: u32) -> State
-    ensures { λ r. ⌜ r ≡ decidedOf st g (now (b0 .entry)) (now (b1 .entry)) stores ⌝ }
+pub fn decide(erased: u8, st: State, g: Geometry, b0: &[u8], b1: &[u8], stores: u32) -> State
+    ensures { λ r. ⌜ r ≡ decidedOf erased st g (now (b0 .entry)) (now (b1 .entry)) stores ⌝ }
 {
     let second = st.second;
     let phase = st.phase;
@@ -261,35 +263,35 @@ pub fn decide(st: State, g: Geometry, b0: &[u8], b1: &[u8], stores: u32) -> Stat
             if second {
                 return State {
                     second,
-                    phase: place(j, g.prog_size, b1, stores),
+                    phase: place(erased, j, g.prog_size, b1, stores),
                 };
             }
             State {
                 second,
-                phase: place(j, g.prog_size, b0, stores),
+                phase: place(erased, j, g.prog_size, b0, stores),
             }
         }
     }
 }
 
 // What is to be laid: the entries, and behind them the forward check if there is room for it. `stores` is the limit.
-fn place(j: Judging, prog: u32, b: &[u8], stores: u32) -> Phase
+fn place(erased: u8, j: Judging, prog: u32, b: &[u8], stores: u32) -> Phase
     requires { ⌜ 4 ≤ prog ⌝ }
     requires { ⌜ prog ≤ 512 ⌝ }
     requires { ⌜ length (now b) ≤ 32_768 ⌝ }
-    ensures { λ r. ⌜ r ≡ placedOf j prog (now (b .entry)) stores ⌝ }
+    ensures { λ r. ⌜ r ≡ placedOf erased j prog (now (b .entry)) stores ⌝ }
 {
     let at = (j.old.dir.off as usize) + (j.size as usize);
-    let fcrc = commit_room::forward(prog, b.len(), at);
-    test(sum_forward(j, fcrc), fcrc, prog, b, stores)
+    let fcrc = commit_room::forward(erased, prog, b.len(), at);
+    test(erased, sum_forward(j, fcrc), fcrc, prog, b, stores)
 }
 
 // "-28, -203, -204": the rounded end, the room with its reasons, the coincidence.
-fn test(j: Judging, fcrc: LfsFcrc, prog: u32, b: &[u8], stores: u32) -> Phase
+fn test(erased: u8, j: Judging, fcrc: LfsFcrc, prog: u32, b: &[u8], stores: u32) -> Phase
     requires { ⌜ 4 ≤ prog ⌝ }
     requires { ⌜ prog ≤ 512 ⌝ }
     requires { ⌜ length (now b) ≤ 32_768 ⌝ }
-    ensures { λ r. ⌜ r ≡ testedOf j fcrc prog (now (b .entry)) stores ⌝ }
+    ensures { λ r. ⌜ r ≡ testedOf erased j fcrc prog (now (b .entry)) stores ⌝ }
 {
     let old = j.old;
     let off = old.dir.off as usize;
@@ -297,11 +299,11 @@ fn test(j: Judging, fcrc: LfsFcrc, prog: u32, b: &[u8], stores: u32) -> Phase
     if b.len() < commit_room::rounded_end(prog, at) {
         return Phase::Refused(Refusal::NoSpace);
     }
-    match commit_room::room(prog, b, off, old.dir.etag) {
+    match commit_room::room(erased, prog, b, off, old.dir.etag) {
         Room::Refused(r) => Phase::Refused(r),
         Room::Clean => {
-            let word = commit_room::check_tag(prog, at) ^ j.prev;
-            if commit_room::coincides(j.sum, word) {
+            let word = commit_room::check_tag(erased, prog, at) ^ j.prev;
+            if commit_room::coincides(erased, j.sum, word) {
                 return Phase::Refused(Refusal::Coincidence);
             }
             let run = Run {
@@ -320,7 +322,7 @@ fn test(j: Judging, fcrc: LfsFcrc, prog: u32, b: &[u8], stores: u32) -> Phase
     }
 }
 
-// Behind the entries: the forward check, "then a check tag 0x500, id 1,023, and the checksum little-endian".
+// Behind the entries: the forward check, "then a check tag .., id 1,023, and the checksum little-endian".
 pub fn seal(st: State, b0: &mut [u8], b1: &mut [u8]) -> State
     ensures { λ r. ⌜ trio r (now (b0 .exit)) (now (b1 .exit)) ≡ sealedOf st (now (b0 .entry)) (now (b1 .entry)) ⌝ }
 {

@@ -1,7 +1,8 @@
 // Compaction of a metadata pair: document 01's `lfs_dir_compact`, and the same with a limit of stores. The block that
 // fetch did not answer from is erased and gets the next revision and one commit of all that the pair holds. Any
-// geometry, images, numbers, block count and seed, and any number for the rule by which the log must be regular: 0 or
-// 1, "any other -22". What is written is regular by document 01's, whichever was asked for.
+// geometry, images, numbers, block count and seed, and any number for the rule by which the log must be regular (0 or
+// 1, "any other -22") and for the erased byte ("0xff or 0x00", "Any other erased byte is -22"). What is written is
+// regular by document 01's rule, whichever was asked for.
 ghost use mathlib.Core.Path.{_≡_};
 ghost use Rattle.format.specs.Compaction.{compactOf, compactStoresOf};
 ghost use Rattle.format.specs.Stopped.{CompactLeaves, CompactStoresLeaves};
@@ -24,13 +25,15 @@ pub fn lfs_dir_compact_stores(
     block_count: u32,
     seed: u32,
     rules: u32,
+    erased: u8,
     stores: u32,
 ) -> Stored
-    ensures { λ r. ⌜ r ≡ compactStoresOf g (now (b0 .entry)) (now (b1 .entry)) n0 n1 «block_count» seed rules stores ⌝ }
-    ensures { λ _. ⌜ CompactStoresLeaves g (now (b0 .entry)) (now (b1 .entry)) n0 n1 «block_count» seed rules stores
-        (now (b0 .exit)) (now (b1 .exit)) ⌝ }
+    ensures { λ r. ⌜ r ≡ compactStoresOf g (now (b0 .entry)) (now (b1 .entry)) n0 n1 «block_count» seed rules erased
+        stores ⌝ }
+    ensures { λ _. ⌜ CompactStoresLeaves g (now (b0 .entry)) (now (b1 .entry)) n0 n1 «block_count» seed rules erased
+        stores (now (b0 .exit)) (now (b1 .exit)) ⌝ }
 {
-    if 1 < rules {
+    if !sizes::writes_fit(rules, erased) {
         return Stored::Refused(Refusal::Invalid);
     }
     match fetch::lfs_dir_fetch(g, b0, b1, n0, n1, block_count, seed) {
@@ -38,9 +41,9 @@ pub fn lfs_dir_compact_stores(
         Fetched::Found(dir, _) => {
             let pair = dir.pair;
             if pair.n0 == n0 {
-                compact_block::renew(g.prog_size, rules, b0, b1, dir, stores)
+                compact_block::renew(g.prog_size, rules, erased, b0, b1, dir, stores)
             } else {
-                compact_block::renew(g.prog_size, rules, b1, b0, dir, stores)
+                compact_block::renew(g.prog_size, rules, erased, b1, b0, dir, stores)
             }
         }
     }
@@ -57,12 +60,13 @@ pub fn lfs_dir_compact(
     block_count: u32,
     seed: u32,
     rules: u32,
+    erased: u8,
 ) -> Committed
-    ensures { λ r. ⌜ r ≡ compactOf g (now (b0 .entry)) (now (b1 .entry)) n0 n1 «block_count» seed rules ⌝ }
-    ensures { λ _. ⌜ CompactLeaves g (now (b0 .entry)) (now (b1 .entry)) n0 n1 «block_count» seed rules
+    ensures { λ r. ⌜ r ≡ compactOf g (now (b0 .entry)) (now (b1 .entry)) n0 n1 «block_count» seed rules erased ⌝ }
+    ensures { λ _. ⌜ CompactLeaves g (now (b0 .entry)) (now (b1 .entry)) n0 n1 «block_count» seed rules erased
         (now (b0 .exit)) (now (b1 .exit)) ⌝ }
 {
-    match lfs_dir_compact_stores(g, b0, b1, n0, n1, block_count, seed, rules, UNLIMITED) {
+    match lfs_dir_compact_stores(g, b0, b1, n0, n1, block_count, seed, rules, erased, UNLIMITED) {
         Stored::Refused(r) => Committed::Refused(r),
         Stored::Made(_) => match fetch::lfs_dir_fetch(g, b0, b1, n0, n1, block_count, seed) {
             Fetched::Found(dir, read) => Committed::Done(dir, read),

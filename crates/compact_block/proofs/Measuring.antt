@@ -15,7 +15,7 @@ use Rattle.format.specs.declared.Rules.{Rules}
 use Rattle.format.specs.declared.Rules.the-variants.{Littlefs}
 use Rattle.format.proofs.Growing.{widest}
 use Rattle.format.specs.Commit.{Item, checkTag}
-use Rattle.format.specs.Stores.{coincides}
+use Rattle.format.specs.Stores.{tagCoincides, coincides}
 use Rattle.format.specs.Writer.{checkLength, roundedEnd, checkSize}
 use Rattle.format.specs.Compaction.{compactCheckAt, compactStores, CompactVerdict, compactRefused}
 use Rattle.format.specs.Compaction.{compactAccepted, placedAnew, compactable, compactMade}
@@ -28,7 +28,7 @@ use Rattle.theory.specs.Commit.AcceptedVerdict.{rounded}
 use Rattle.theory.specs.Compact.AcceptedVerdict.{slots-few}
 use Rattle.commit_lay.specs.Laid.{Laid, putsOf}
 use Rattle.commit_lay.proofs.Puts.{put-none}
-use Rattle.commit_room.specs.Tests.{Prog, meets}
+use Rattle.commit_room.specs.Tests.{Prog}
 use Rattle.compact_entries.specs.Emitted.{Standing, standing, itemBytes, emitted, emits}
 use Rattle.compact_entries.specs.declared.Emit.{Emit}
 use Rattle.compact_entries.proofs.Joined.{emits-end, emits-coincides, laid-most}
@@ -48,7 +48,7 @@ emits-spent (i ∷ is) s h =
     emits-spent is (emitted s i) (ap (λ (l : Laid). l .run .left) e ∙ h) ∙ e
 
 -- ---- what the pass knows: e stands behind the entries, b is the block then
-module _ (rev : ℕ) (is : List Item) (s e : Emit) (es : s ≡ begins rev (record { at = 0; left = 0 })) (b new : List ℕ)
+module _ (byte rev : ℕ) (is : List Item) (s e : Emit) (es : s ≡ begins rev (record { at = 0; left = 0 })) (b new : List ℕ)
     (ee : standing e b ≡ emits (standing s new) is) where
   begun : standing e b ≡ emits (standing (begins rev (record { at = 0; left = 0 })) new) is
   begun = ee ∙ ap (λ (z : Emit). emits (standing z new) is) es
@@ -63,41 +63,41 @@ module _ (rev : ℕ) (is : List Item) (s e : Emit) (es : s ≡ begins rev (recor
   measured-end = ap (λ (z : Standing). z .end) begun
       ∙ emits-end is (standing (begins rev (record { at = 0; left = 0 })) new)
 
-  pub measured-meets : (ct : ℕ) → meets (e .sum) (bitXor ct (e .prev)) ≡ coincides (crc allOnes (toLe32 rev)) allOnes is
+  pub measured-meets : (ct : ℕ) → tagCoincides byte (e .sum) (bitXor ct (e .prev)) ≡ coincides byte (crc allOnes (toLe32 rev)) allOnes is
       ct
   unfolding begins xor
   measured-meets ct =
-      ap (λ (z : Standing). meets (z .sum) (xor ct (z .prev))) begun
-      ∙ emits-coincides is (standing (begins rev (record { at = 0; left = 0 })) new) ct
+      ap (λ (z : Standing). tagCoincides byte (z .sum) (xor ct (z .prev))) begun
+      ∙ emits-coincides byte is (standing (begins rev (record { at = 0; left = 0 })) new) ct
 
 -- ---- the verdict, by the rule r
-module _ (r : Rules) (prog : ℕ) (w : Bool) (x : List ℕ) where
+module _ (r : Rules) (byte prog : ℕ) (w : Bool) (x : List ℕ) where
   abbrev I : List Item
-  I = renewedItems prog x
+  I = renewedItems byte prog x
 
   abbrev at : ℕ
-  at = compactCheckAt (renewedItems prog x)
+  at = compactCheckAt (renewedItems byte prog x)
 
   abbrev next : ℕ
   next = plus32 (le32 x) 1
 
-  pub verdict-irregular : Regular r (log x) ≡ false → compactable r prog w x (log x) ≡ compactRefused Irregular
+  pub verdict-irregular : Regular r (log x) ≡ false → compactable r byte prog w x (log x) ≡ compactRefused Irregular
   unfolding compactable
   verdict-irregular h = rw h
 
   module _ (regular : Regular r (log x) ≡ true) where
-    pub verdict-full : length x < roundedEnd prog at → compactable r prog w x (log x) ≡ compactRefused NoSpace
+    pub verdict-full : length x < roundedEnd prog at → compactable r byte prog w x (log x) ≡ compactRefused NoSpace
     unfolding compactable placedAnew
     verdict-full h = rw (regular, lt-ltb (length x) (roundedEnd prog at) h)
 
     module _ (fits : roundedEnd prog at ≤ length x) where
-      pub verdict-coincides : coincides (crc allOnes (toLe32 next)) allOnes I (checkTag (checkSize prog at)) ≡ true
-          → compactable r prog w x (log x) ≡ compactRefused Coincidence
+      pub verdict-coincides : coincides byte (crc allOnes (toLe32 next)) allOnes I (checkTag byte (checkSize prog at)) ≡ true
+          → compactable r byte prog w x (log x) ≡ compactRefused Coincidence
       unfolding compactable placedAnew
       verdict-coincides h = rw (regular, le-ltb (length x) (roundedEnd prog at) fits, h)
 
-      pub verdict-accepted : coincides (crc allOnes (toLe32 next)) allOnes I (checkTag (checkSize prog at)) ≡ false
-          → compactable r prog w x (log x) ≡ compactAccepted w next I (checkSize prog at)
+      pub verdict-accepted : coincides byte (crc allOnes (toLe32 next)) allOnes I (checkTag byte (checkSize prog at)) ≡ false
+          → compactable r byte prog w x (log x) ≡ compactAccepted w next I (checkSize prog at)
       unfolding compactable placedAnew
       verdict-accepted h = rw (regular, le-ltb (length x) (roundedEnd prog at) fits, h)
 
@@ -107,85 +107,85 @@ module _ (r : Rules) (prog : ℕ) (w : Bool) (x : List ℕ) where
 -- ---- what the function answers and leaves, by its tests: r is the rule that was asked for, x whether the log is
 -- regular by it, e stands behind the entries with the block b, z is the rounded end, ct the check tag, y whether it
 -- coincides
-abbrev pub Answered : ℕ → List ℕ → CompactVerdict → Stored → List ℕ → Type 0
-Answered n new v r b = (r ≡ compactMade n v) × (b ≡ renewedTo n new v)
+abbrev pub Answered : ℕ → ℕ → List ℕ → CompactVerdict → Stored → List ℕ → Type 0
+Answered byte n new v r b = (r ≡ compactMade n v) × (b ≡ renewedTo byte n new v)
 
-refuses : (n : ℕ) (new b : List ℕ) (v : CompactVerdict) (r : Refusal) → v ≡ compactRefused r → b ≡ new
-    → Answered n new v (stored.Refused r) b
-refuses n new b v r h e = rw h (refl, e)
+refuses : (byte n : ℕ) (new b : List ℕ) (v : CompactVerdict) (r : Refusal) → v ≡ compactRefused r → b ≡ new
+    → Answered byte n new v (stored.Refused r) b
+refuses byte n new b v r h e = rw h (refl, e)
 
-module _ (prog : ℕ) (old new : List ℕ) (dir : LfsMdir) (n : ℕ) (w : Renewable prog old new dir) (rules : ℕ)
+module _ (byte prog : ℕ) (old new : List ℕ) (dir : LfsMdir) (n : ℕ) (w : Renewable prog old new dir) (rules : ℕ)
     (r : Rules) (asked : r ≡ rulesOf rules) (x : Bool) (ex : x ≡ Regular r (log old)) where
   abbrev v : CompactVerdict
-  v = compactable (rulesOf rules) prog false old (log old)
+  v = compactable (rulesOf rules) byte prog false old (log old)
 
-  pub renew-irregular : not x ≡ true → Answered n new v (stored.Refused Irregular) new
-  renew-irregular h = refuses n new new v Irregular (verdict-irregular (rulesOf rules) prog false old
+  pub renew-irregular : not x ≡ true → Answered byte n new v (stored.Refused Irregular) new
+  renew-irregular h = refuses byte n new new v Irregular (verdict-irregular (rulesOf rules) byte prog false old
       (rw (← asked) (sym ex ∙ not-true x h))) refl
 
   module _ (hx : not x ≡ false) (rev : ℕ) (er : rev ≡ plus32 (dir .rev) 1) (s e : Emit)
       (es : s ≡ begins rev (record { at = 0; left = 0 })) (b : List ℕ)
-      (ee : standing e b ≡ emits (standing s new) (renewedItems prog old)) where
+      (ee : standing e b ≡ emits (standing s new) (renewedItems byte prog old)) where
     ruled : Regular (rulesOf rules) (log old) ≡ true
     ruled = rw (← asked) (sym ex ∙ not-false x hx)
 
     regular : Regular Littlefs (log old) ≡ true
     regular = widest (rulesOf rules) (log old) ruled
 
-    next-is : rev ≡ next (rulesOf rules) prog false old
+    next-is : rev ≡ next (rulesOf rules) byte prog false old
     next-is = er ∙ ap (λ (k : ℕ). plus32 k 1) (w .recorded .rev′)
 
     same : b ≡ new
-    same = measured-block rev (renewedItems prog old) s e es b new ee
+    same = measured-block byte rev (renewedItems byte prog old) s e es b new ee
 
-    end-is : e .end ≡ at (rulesOf rules) prog false old
-    end-is = measured-end rev (renewedItems prog old) s e es b new ee
+    end-is : e .end ≡ at (rulesOf rules) byte prog false old
+    end-is = measured-end byte rev (renewedItems byte prog old) s e es b new ee
 
     pub renew-prog : Prog prog (e .end)
     renew-prog = record {
       low = w .low;
       high = w .high;
-      near = omega (arith, end-is, laid-most prog (length old) 4 (log old) (slots-few old regular));
+      near = omega (arith, end-is, laid-most byte prog (length old) 4 (log old) (slots-few old regular));
     }
 
     module _ (z : ℕ) (ez : z ≡ roundedEnd prog (e .end)) where
-      rounded-is : z ≡ roundedEnd prog (at (rulesOf rules) prog false old)
+      rounded-is : z ≡ roundedEnd prog (at (rulesOf rules) byte prog false old)
       rounded-is = ez ∙ ap (roundedEnd prog) end-is
 
-      pub renew-full : length old < z → Answered n new v (stored.Refused NoSpace) b
-      renew-full h = refuses n new b v NoSpace (verdict-full (rulesOf rules) prog false old ruled (rw (← rounded-is) h))
+      pub renew-full : length old < z → Answered byte n new v (stored.Refused NoSpace) b
+      renew-full h = refuses byte n new b v NoSpace (verdict-full (rulesOf rules) byte prog false old ruled (rw (← rounded-is) h))
           same
 
-      module _ (hz : z ≤ length old) (ct : ℕ) (ect : ct ≡ checkTag (checkSize prog (e .end))) (y : Bool)
-          (ey : y ≡ meets (e .sum) (bitXor ct (e .prev))) where
-        fits : roundedEnd prog (at (rulesOf rules) prog false old) ≤ length old
+      module _ (hz : z ≤ length old) (ct : ℕ) (ect : ct ≡ checkTag byte (checkSize prog (e .end))) (y : Bool)
+          (ey : y ≡ tagCoincides byte (e .sum) (bitXor ct (e .prev))) where
+        fits : roundedEnd prog (at (rulesOf rules) byte prog false old) ≤ length old
         fits = rw (← rounded-is) hz
 
-        tag-is : ct ≡ checkTag (checkSize prog (at (rulesOf rules) prog false old))
-        tag-is = ect ∙ ap (λ (k : ℕ). checkTag (checkSize prog k)) end-is
+        tag-is : ct ≡ checkTag byte (checkSize prog (at (rulesOf rules) byte prog false old))
+        tag-is = ect ∙ ap (λ (k : ℕ). checkTag byte (checkSize prog k)) end-is
 
-        coincides-is : coincides (crc allOnes (toLe32 (next (rulesOf rules) prog false old))) allOnes
-            (renewedItems prog old)
-            (checkTag (checkSize prog (at (rulesOf rules) prog false old))) ≡ y
+        coincides-is : coincides byte (crc allOnes (toLe32 (next (rulesOf rules) byte prog false old))) allOnes
+            (renewedItems byte prog old)
+            (checkTag byte (checkSize prog (at (rulesOf rules) byte prog false old))) ≡ y
         coincides-is =
-            sym (ey ∙ measured-meets rev (renewedItems prog old) s e es b new ee ct ∙ rw (next-is, tag-is))
+            sym (ey ∙ measured-meets byte rev (renewedItems byte prog old) s e es b new ee ct ∙ rw (next-is, tag-is))
 
-        pub renew-coincides : y ≡ true → Answered n new v (stored.Refused Coincidence) b
-        renew-coincides h = refuses n new b v Coincidence
-            (verdict-coincides (rulesOf rules) prog false old ruled fits (coincides-is ∙ h)) same
+        pub renew-coincides : y ≡ true → Answered byte n new v (stored.Refused Coincidence) b
+        renew-coincides h = refuses byte n new b v Coincidence
+            (verdict-coincides (rulesOf rules) byte prog false old ruled fits (coincides-is ∙ h)) same
 
-        pub renew-writes : Writable prog old b dir
+        pub renew-writes : Writable byte prog old b dir
         renew-writes =
             record {
               low = w .low;
               high = w .high;
               recorded = w .recorded;
               regular = regular;
-              room = rw (same, w .long) (verdict-room (rulesOf rules) prog false old ruled fits (w .low));
+              room = rw (same, w .long) (verdict-room (rulesOf rules) byte prog false old ruled fits (w .low));
             }
 
-        pub renew-made : y ≡ false → (k : ℕ) → k ≡ min n (compactStores (renewedItems prog old)) → (c : List ℕ)
-            → c ≡ writtenTo prog old b rev ct n → Answered n new v (stored.Made k) c
+        pub renew-made : y ≡ false → (k : ℕ) → k ≡ min n (compactStores (renewedItems byte prog old)) → (c : List ℕ)
+            → c ≡ writtenTo byte prog old b rev ct n → Answered byte n new v (stored.Made k) c
         renew-made h k ek c ec =
-            rw (verdict-accepted (rulesOf rules) prog false old ruled fits (coincides-is ∙ h))
+            rw (verdict-accepted (rulesOf rules) byte prog false old ruled fits (coincides-is ∙ h))
             (ap stored.Made ek, ec ∙ rw (same, next-is, tag-is))

@@ -12,7 +12,8 @@ use Rattle.format.specs.Log.{log}
 use Rattle.format.specs.Regular.{Regular}
 use Rattle.format.specs.declared.Rules.the-variants.{Littlefs}
 use Rattle.format.specs.Commit.{Item, commitBytes}
-use Rattle.format.specs.Stores.{erased, entriesLength, compactBytes, compacting}
+use Rattle.format.specs.Erased.{erased}
+use Rattle.format.specs.Stores.{entriesLength, compactBytes, compacting}
 use Rattle.format.specs.Writer.{checkLength}
 use Rattle.format.specs.Compaction.{compactCheckAt, compactStores}
 use Rattle.format.specs.declared.LfsMdir.{LfsMdir}
@@ -58,39 +59,39 @@ checkLaid ct s = putsOf (s .stores) (toBe32 (xor ct (s .prev)) ++ toLe32 (crc (s
 
 -- p is what the revision's bytes leave, e and b where the entries end, q what the check leaves: all of it is one run of
 -- the bytes
-module _ (B left rev ct : ℕ) (is : List Item) (p : Laid) (e : Emit) (b : List ℕ) (q : Laid)
-    (ep : p ≡ putsOf (laid (runAt 0 left) (erased B)) (toLe32 rev))
+module _ (byte B left rev ct : ℕ) (is : List Item) (p : Laid) (e : Emit) (b : List ℕ) (q : Laid)
+    (ep : p ≡ putsOf (laid (runAt 0 left) (erased byte B)) (toLe32 rev))
     (es : standing e b ≡ emits (standing (begins rev (p .run)) (p .block)) is)
     (eq : q ≡ checkLaid ct (standing e b)) where
-  one-run : q ≡ putsOf (laid (runAt 0 left) (erased B)) (compactBytes rev is ct)
+  one-run : q ≡ putsOf (laid (runAt 0 left) (erased byte B)) (compactBytes rev is ct)
   unfolding begins compactBytes
   one-run =
       eq ∙ ap (checkLaid ct) es ∙ emits-commit is (standing (begins rev (p .run)) (p .block)) ct
       ∙ ap (λ (z : Laid). putsOf z (commitBytes (crc allOnes (toLe32 rev)) allOnes is ct)) ep
-      ∙ puts-app (toLe32 rev) (commitBytes (crc allOnes (toLe32 rev)) allOnes is ct) (laid (runAt 0 left) (erased B))
+      ∙ puts-app (toLe32 rev) (commitBytes (crc allOnes (toLe32 rev)) allOnes is ct) (laid (runAt 0 left) (erased byte B))
 
   module _ (good : AllGood is) (room : 4 + (entriesLength is + 8) ≤ B) where
     abbrev made : ℕ
     made = min left (length (compactBytes rev is ct))
 
-    stored : q ≡ pasted (compactBytes rev is ct) 0 left (erased B)
-    stored = one-run ∙ puts-paste (compactBytes rev is ct) 0 left (erased B)
-        (omega (arith, bytes-length rev is ct good, length-erased B))
+    stored : q ≡ pasted (compactBytes rev is ct) 0 left (erased byte B)
+    stored = one-run ∙ puts-paste (compactBytes rev is ct) 0 left (erased byte B)
+        (omega (arith, bytes-length rev is ct good, length-erased byte B))
 
     -- o is the block as it was before the erase
     pub stored-made : (n : ℕ) → left ≡ n - 1 → (n ≡ 0 → ⊥) → 1 + q .run .at ≡ min n (compactStores is)
     stored-made n el h = omega (arith, ap (λ (z : Laid). z .run .at) stored, bytes-length rev is ct good)
 
     pub stored-block : (o : List ℕ) (n : ℕ) → length o ≡ B → left ≡ n - 1 → (n ≡ 0 → ⊥)
-        → q .block ≡ compacting o rev is ct (length o - (compactCheckAt is + checkLength)) (min n (compactStores is))
+        → q .block ≡ compacting byte o rev is ct (length o - (compactCheckAt is + checkLength)) (min n (compactStores is))
     stored-block o n eo el h =
         let k : ℕ = min left (4 + (entriesLength is + 8)) in
         let more : suc k ≡ min n (compactStores is) = one-more n left (entriesLength is) el h in
         let rest : B - (4 + (entriesLength is + 8)) ≡ length o - (compactCheckAt is + checkLength) =
         rest-is (length o) B (entriesLength is) eo in
         let same : min left (length (compactBytes rev is ct)) ≡ k = ap (min left) (bytes-length rev is ct good) in
-        ap (λ (z : Laid). z .block) stored ∙ ap (λ (j : ℕ). paste (erased B) 0 (compactBytes rev is ct) j) same
-        ∙ sym (compact-stores B rev o is ct k good room (least-most left (4 + (entriesLength is + 8))))
+        ap (λ (z : Laid). z .block) stored ∙ ap (λ (j : ℕ). paste (erased byte B) 0 (compactBytes rev is ct) j) same
+        ∙ sym (compact-stores byte B rev o is ct k good room (least-most left (4 + (entriesLength is + 8))))
         ∙ rw (more, rest)
 
 -- ---- what the pass asks of its calls
@@ -121,33 +122,33 @@ reads-all prog low high b dir rev run r regular =
     }
 
 -- the whole pass, with the arguments as the code has them
-module _ (prog : ℕ) (old new : List ℕ) (dir : LfsMdir) (w : Writable prog old new dir) (rev ct n : ℕ)
-    (some : n ≡ 0 → ⊥) (erasedNew : List ℕ) (en : erasedNew ≡ erased (length new))
+module _ (byte prog : ℕ) (old new : List ℕ) (dir : LfsMdir) (w : Writable byte prog old new dir) (rev ct n : ℕ)
+    (some : n ≡ 0 → ⊥) (erasedNew : List ℕ) (en : erasedNew ≡ erased byte (length new))
     (p : Laid) (ep : p ≡ putsOf (laid (runAt 0 (n - 1)) erasedNew) (toLe32 rev)) (s e : Emit)
     (es : s ≡ begins rev (p .run)) (b : List ℕ)
-    (ee : standing e b ≡ emits (standing s (p .block)) (renewedItems prog old)) (q : Laid)
+    (ee : standing e b ≡ emits (standing s (p .block)) (renewedItems byte prog old)) (q : Laid)
     (eq : q ≡ checkLaid ct (standing e b)) where
   abbrev I : List Item
-  I = renewedItems prog old
+  I = renewedItems byte prog old
 
-  from : p ≡ putsOf (laid (runAt 0 (n - 1)) (erased (length new))) (toLe32 rev)
+  from : p ≡ putsOf (laid (runAt 0 (n - 1)) (erased byte (length new))) (toLe32 rev)
   from = ep ∙ ap (λ (z : List ℕ). putsOf (laid (runAt 0 (n - 1)) z) (toLe32 rev)) en
 
   entries : standing e b ≡ emits (standing (begins rev (p .run)) (p .block)) I
   entries = ee ∙ ap (λ (z : Emit). emits (standing z (p .block)) I) es
 
   pub pass-made : 1 + q .run .at ≡ min n (compactStores I)
-  pass-made = stored-made (length new) (n - 1) rev ct I p e b q from entries eq (compaction-good old (w .regular) prog)
+  pass-made = stored-made byte (length new) (n - 1) rev ct I p e b q from entries eq (compaction-good old (w .regular) byte prog)
       (omega (arith, w .room)) n refl some
 
-  pub pass-block : q .block ≡ writtenTo prog old new rev ct n
-  pass-block = stored-block (length new) (n - 1) rev ct I p e b q from entries eq
-      (compaction-good old (w .regular) prog) (omega (arith, w .room)) new n refl refl some
+  pub pass-block : q .block ≡ writtenTo byte prog old new rev ct n
+  pass-block = stored-block byte (length new) (n - 1) rev ct I p e b q from entries eq
+      (compaction-good old (w .regular) byte prog) (omega (arith, w .room)) new n refl refl some
 
 -- no store: the block as it was
-pub pass-none : (prog : ℕ) (old new : List ℕ) (rev ct n : ℕ) → n ≡ 0
-    → (0 ≡ min n (compactStores (renewedItems prog old))) × (new ≡ writtenTo prog old new rev ct n)
+pub pass-none : (byte prog : ℕ) (old new : List ℕ) (rev ct n : ℕ) → n ≡ 0
+    → (0 ≡ min n (compactStores (renewedItems byte prog old))) × (new ≡ writtenTo byte prog old new rev ct n)
 unfolding compacting
-pass-none prog old new rev ct n h =
-    let z : min n (compactStores (renewedItems prog old)) ≡ 0 = omega arith in
+pass-none byte prog old new rev ct n h =
+    let z : min n (compactStores (renewedItems byte prog old)) ≡ 0 = omega arith in
     rw z (refl, refl)

@@ -35,9 +35,9 @@ pub record Recorded (b : List ℕ) (dir : LfsMdir) : Type 0 where
   pub split′ : dir .split ≡ splitOf false (log b)
   pub tail′ : dir .tail ≡ tailOf noTail (log b)
 
--- what is laid: the entries of the log's compaction, and the forward check, or none
-abbrev pub renewedItems : ℕ → List ℕ → List Item
-renewedItems prog old = withForward prog (length old) 4 (compactionItems (log old))
+-- what is laid over the erased byte: the entries of the log's compaction, and the forward check, or none
+abbrev pub renewedItems : ℕ → ℕ → List ℕ → List Item
+renewedItems byte prog old = withForward byte prog (length old) 4 (compactionItems (log old))
 
 pub record Renewable (prog : ℕ) (old new : List ℕ) (dir : LfsMdir) : Type 0 where
   pub low : 4 ≤ prog
@@ -47,20 +47,20 @@ pub record Renewable (prog : ℕ) (old new : List ℕ) (dir : LfsMdir) : Type 0 
 
 -- and what the second pass asks: a log that is regular, by littlefs's rule, the wider one, and whose entries fit the
 -- other block
-pub record Writable (prog : ℕ) (old new : List ℕ) (dir : LfsMdir) : Type 0 where
+pub record Writable (byte prog : ℕ) (old new : List ℕ) (dir : LfsMdir) : Type 0 where
   pub low : 4 ≤ prog
   pub high : prog ≤ 512
   pub recorded : Recorded old dir
   pub regular : Regular Littlefs (log old) ≡ true
-  pub room : compactCheckAt (renewedItems prog old) + checkLength ≤ length new
+  pub room : compactCheckAt (renewedItems byte prog old) + checkLength ≤ length new
 
 -- the other block after the first n stores of the check tag ct
-abbrev pub writtenTo : ℕ → List ℕ → List ℕ → ℕ → ℕ → ℕ → List ℕ
-writtenTo prog old new rev ct n =
-    compacting new rev (renewedItems prog old) ct (length new - (compactCheckAt (renewedItems prog old) + checkLength))
-    (min n (compactStores (renewedItems prog old)))
+abbrev pub writtenTo : ℕ → ℕ → List ℕ → List ℕ → ℕ → ℕ → ℕ → List ℕ
+writtenTo byte prog old new rev ct n =
+    compacting byte new rev (renewedItems byte prog old) ct (length new - (compactCheckAt (renewedItems byte prog old) + checkLength))
+    (min n (compactStores (renewedItems byte prog old)))
 
 -- the other block after the first n stores, by the verdict
-abbrev pub renewedTo : ℕ → List ℕ → CompactVerdict → List ℕ
-renewedTo n o (compactRefused r) = o
-renewedTo n o (compactAccepted second rev is size) = compactedTo o rev is size n
+abbrev pub renewedTo : ℕ → ℕ → List ℕ → CompactVerdict → List ℕ
+renewedTo byte n o (compactRefused r) = o
+renewedTo byte n o (compactAccepted second rev is size) = compactedTo byte o rev is size n

@@ -9,7 +9,7 @@ ghost use Rattle.format.specs.Word.{toLe32, allOnes};
 ghost use Rattle.format.specs.Crc.{crc};
 ghost use Rattle.format.specs.Log.{log};
 ghost use Rattle.format.specs.Regular.{rulesOf};
-ghost use Rattle.format.specs.Stores.{erased};
+ghost use Rattle.format.specs.Erased.{erased};
 ghost use Rattle.format.specs.Compaction.{compactStores, compactable, compactMade};
 ghost use Rattle.compact_block.specs.Renewed.{begins, renewedItems, Writable, writtenTo, Renewable, renewedTo};
 use commit_lay::Run;
@@ -20,13 +20,13 @@ use format::Stored;
 use format::types::CRC_START;
 use format::types::FIRST_PREV;
 
-// "erases the block .. to 0xff": one store.
-fn erase(b: &mut [u8])
-    ensures { λ _. ⌜ now (b .exit) ≡ erased (length (now (b .entry))) ⌝ }
+// "compaction erases to that byte": one store.
+fn erase(b: &mut [u8], byte: u8)
+    ensures { λ _. ⌜ now (b .exit) ≡ erased byte (length (now (b .entry))) ⌝ }
 {
     let mut i = 0;
     while i < b.len() {
-        b[i] = 0xff;
+        b[i] = byte;
         i += 1;
     }
 }
@@ -54,6 +54,7 @@ fn begin(rev: u32, run: Run) -> Emit
 
 // The second pass: the erase counts as one store, and then single bytes rise, as many as are left.
 fn write(
+    erased: u8,
     prog: u32,
     old: &[u8],
     new: &mut [u8],
@@ -62,20 +63,20 @@ fn write(
     tag: u32,
     stores: u32,
 ) -> u32
-    requires { ⌜ Writable prog (now old) (now new) dir ⌝ }
-    ensures { λ r. ⌜ r ≡ min stores (compactStores (renewedItems prog (now (old .entry)))) ⌝ }
-    ensures { λ _. ⌜ now (new .exit) ≡ writtenTo prog (now (old .entry)) (now (new .entry)) rev tag stores ⌝ }
+    requires { ⌜ Writable erased prog (now old) (now new) dir ⌝ }
+    ensures { λ r. ⌜ r ≡ min stores (compactStores (renewedItems erased prog (now (old .entry)))) ⌝ }
+    ensures { λ _. ⌜ now (new .exit) ≡ writtenTo erased prog (now (old .entry)) (now (new .entry)) rev tag stores ⌝ }
 {
     if stores == 0 {
         return 0;
     }
-    erase(new);
+    erase(new, erased);
     let first = Run {
         at: 0,
         left: stores - 1,
     };
     let run = commit_lay::put_le32(new, first, rev);
-    let e = compact_entries::entries(prog, old, new, begin(rev, run), dir);
+    let e = compact_entries::entries(erased, prog, old, new, begin(rev, run), dir);
     let last = compact_entries::check(new, e, tag);
     1 + last.at as u32
 }
@@ -83,25 +84,33 @@ fn write(
 // The compaction of the block `old`, whose record is `dir` and whose log must be regular by the rule, into the block
 // `new`: refused, or the number of stores made. By littlefs's rule the log may have no creates, and then the ones that
 // are written may pass the block.
-pub fn renew(prog: u32, rules: u32, old: &[u8], new: &mut [u8], dir: LfsMdir, stores: u32) -> Stored
+pub fn renew(
+    prog: u32,
+    rules: u32,
+    erased: u8,
+    old: &[u8],
+    new: &mut [u8],
+    dir: LfsMdir,
+    stores: u32,
+) -> Stored
     requires { ⌜ Renewable prog (now old) (now new) dir ⌝ }
     ensures { λ r. ⌜ r ≡ compactMade stores
-        (compactable (rulesOf rules) prog false (now (old .entry)) (log (now (old .entry)))) ⌝ }
-    ensures { λ _. ⌜ now (new .exit) ≡ renewedTo stores (now (new .entry))
-        (compactable (rulesOf rules) prog false (now (old .entry)) (log (now (old .entry)))) ⌝ }
+        (compactable (rulesOf rules) erased prog false (now (old .entry)) (log (now (old .entry)))) ⌝ }
+    ensures { λ _. ⌜ now (new .exit) ≡ renewedTo erased stores (now (new .entry))
+        (compactable (rulesOf rules) erased prog false (now (old .entry)) (log (now (old .entry)))) ⌝ }
 {
     if !commit_regular::log_regular(old, dir.off as usize, commit_regular::rules_of(rules)) {
         return Stored::Refused(Refusal::Irregular);
     }
     let rev = std::num::wrapping_add_u32(dir.rev, 1);
     let none = Run { at: 0, left: 0 };
-    let e = compact_entries::entries(prog, old, new, begin(rev, none), dir);
+    let e = compact_entries::entries(erased, prog, old, new, begin(rev, none), dir);
     if old.len() < commit_room::rounded_end(prog, e.end) {
         return Stored::Refused(Refusal::NoSpace);
     }
-    let tag = commit_room::check_tag(prog, e.end);
-    if commit_room::coincides(e.sum, tag ^ e.prev) {
+    let tag = commit_room::check_tag(erased, prog, e.end);
+    if commit_room::coincides(erased, e.sum, tag ^ e.prev) {
         return Stored::Refused(Refusal::Coincidence);
     }
-    Stored::Made(write(prog, old, new, dir, rev, tag, stores))
+    Stored::Made(write(erased, prog, old, new, dir, rev, tag, stores))
 }

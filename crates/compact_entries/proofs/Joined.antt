@@ -16,7 +16,7 @@ use Rattle.format.specs.Walk.{Event}
 use Rattle.format.specs.Record.{noTail, tailOf, splitOf}
 use Rattle.format.specs.Directory.{classes, Load, Slot, dirOf, moveOf}
 use Rattle.format.specs.Commit.{Item, commitBytes}
-use Rattle.format.specs.Stores.{entriesLength, coincides}
+use Rattle.format.specs.Stores.{entriesLength, tagCoincides, coincides}
 use Rattle.format.specs.Writer.{forwardItem, forwardLength, carriedFor, forwardItems, withForward}
 use Rattle.format.specs.Compaction.{classItems, slotItems, dirItems, isNoTail, tailItems, moveItems, compactionItems}
 use Rattle.format.specs.declared.LfsFcrc.{LfsFcrc}
@@ -24,7 +24,6 @@ use Rattle.format.specs.declared.LfsPair.{LfsPair}
 use Rattle.theory.specs.Commit.ForwardCheck.{length-app, forward-long}
 use Rattle.commit_lay.specs.Laid.{putsOf}
 use Rattle.commit_lay.proofs.Puts.{puts-app, puts-length}
-use Rattle.commit_room.specs.Tests.{meets}
 use Rattle.compact_entries.specs.Emitted.{Standing, itemBytes, emitted, emits, createItem}
 
 pub emits-app : (is js : List Item) (s : Standing) → emits s (is ++ js) ≡ emits (emits s is) js
@@ -130,11 +129,11 @@ forward-most f = go (f .seen)
     go true = omega (arith, forward-long)
     go false = omega arith
 
-pub laid-most : (prog block from : ℕ) (es : List Event) → length (dirOf es) ≤ 1_023
-    → entriesLength (withForward prog block from (compactionItems es)) ≤ 271_847_946
+pub laid-most : (byte prog block from : ℕ) (es : List Event) → length (dirOf es) ≤ 1_023
+    → entriesLength (withForward byte prog block from (compactionItems es)) ≤ 271_847_946
 unfolding withForward
-laid-most prog block from es few =
-    let f : LfsFcrc = carriedFor prog block (from + entriesLength (compactionItems es)) in
+laid-most byte prog block from es few =
+    let f : LfsFcrc = carriedFor byte prog block (from + entriesLength (compactionItems es)) in
     rw (length-app (compactionItems es) (forwardItems f)) (omega (arith, items-most es few, forward-most f))
 
 -- ---- the block keeps its length
@@ -157,8 +156,8 @@ emits-commit (i ∷ is) s ct =
     (commitBytes (crc (s .sum) (itemBytes (s .prev) i)) (i .tag) is ct))
 
 -- and the coincidence is a test of where they end
-pub emits-coincides : (is : List Item) (s : Standing) (ct : ℕ)
-    → meets (emits s is .sum) (xor ct (emits s is .prev)) ≡ coincides (s .sum) (s .prev) is ct
-unfolding emits emitted coincides meets
-emits-coincides [] s ct = refl
-emits-coincides (i ∷ is) s ct = emits-coincides is (emitted s i) ct
+pub emits-coincides : (byte : ℕ) (is : List Item) (s : Standing) (ct : ℕ)
+    → tagCoincides byte (emits s is .sum) (xor ct (emits s is .prev)) ≡ coincides byte (s .sum) (s .prev) is ct
+unfolding emits emitted coincides
+emits-coincides byte [] s ct = refl
+emits-coincides byte (i ∷ is) s ct = emits-coincides byte is (emitted s i) ct

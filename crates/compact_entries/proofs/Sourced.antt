@@ -78,7 +78,7 @@ module _ (b : List ℕ) (e : Emit) (dir : LfsMdir) (d : Read b e dir) (s a : Sta
         ∙ sym (emits-app (dirItems 0 (dirOf (log b))) (I ++ M) s ∙ emits-app I M (emits s (dirItems 0 (dirOf (log b)))))
 
 -- ---- with the forward check behind them: a stands behind the entries, f is what `forward` answers, r stands behind it
-module _ (prog : ℕ) (b : List ℕ) (e : Emit) (dir : LfsMdir) (d : Renewing prog b e dir) (s a : Standing)
+module _ (byte prog : ℕ) (b : List ℕ) (e : Emit) (dir : LfsMdir) (d : Renewing prog b e dir) (s a : Standing)
     (es : s .end ≡ e .end) (ea : a ≡ emits s (compactionItems (log b))) where
   pub held-within : a .end ≤ 271_847_950
   held-within =
@@ -97,13 +97,13 @@ module _ (prog : ℕ) (b : List ℕ) (e : Emit) (dir : LfsMdir) (d : Renewing pr
   pub forward-prog : Prog prog (a .end + forwardLength)
   forward-prog = record { low = d .low; high = d .high; near = omega (arith, held-within) }
 
-  pub all-done : (f : LfsFcrc) → f ≡ carriedFor prog (length b) (a .end) → (r : Standing) → r ≡ emits a (forwardItems f)
-      → r ≡ emits s (withForward prog (length b) 4 (compactionItems (log b)))
+  pub all-done : (f : LfsFcrc) → f ≡ carriedFor byte prog (length b) (a .end) → (r : Standing) → r ≡ emits a (forwardItems f)
+      → r ≡ emits s (withForward byte prog (length b) 4 (compactionItems (log b)))
   unfolding withForward
   all-done f ef r er =
       let I : List Item = compactionItems (log b) in
       let end : a .end ≡ 4 + entriesLength I = ap (λ (z : Standing). z .end) ea ∙ emits-end I s
       ∙ ap (λ (k : ℕ). k + entriesLength I) (es ∙ d .start) in
-      er ∙ ap (λ (g : LfsFcrc). emits a (forwardItems g)) (ef ∙ ap (carriedFor prog (length b)) end)
-      ∙ ap (λ (z : Standing). emits z (forwardItems (carriedFor prog (length b) (4 + entriesLength I)))) ea
-      ∙ sym (emits-app I (forwardItems (carriedFor prog (length b) (4 + entriesLength I))) s)
+      er ∙ ap (λ (g : LfsFcrc). emits a (forwardItems g)) (ef ∙ ap (carriedFor byte prog (length b)) end)
+      ∙ ap (λ (z : Standing). emits z (forwardItems (carriedFor byte prog (length b) (4 + entriesLength I)))) ea
+      ∙ sym (emits-app I (forwardItems (carriedFor byte prog (length b) (4 + entriesLength I))) s)

@@ -163,13 +163,13 @@ fn forward(new: &mut [u8], e: Emit, fcrc: LfsFcrc) -> Emit
 }
 
 // All entries of the compaction of the block `old`, and the forward check behind them.
-pub fn entries(prog: u32, old: &[u8], new: &mut [u8], e: Emit, dir: LfsMdir) -> Emit
+pub fn entries(erased: u8, prog: u32, old: &[u8], new: &mut [u8], e: Emit, dir: LfsMdir) -> Emit
     requires { ⌜ Renewing prog (now old) e dir ⌝ }
     ensures { λ r. ⌜ standing r (now (new .exit)) ≡ emits (standing e (now (new .entry)))
-        (withForward prog (length (now (old .entry))) 4 (compactionItems (log (now (old .entry))))) ⌝ }
+        (withForward erased prog (length (now (old .entry))) 4 (compactionItems (log (now (old .entry))))) ⌝ }
 {
     let w = held(old, new, e, dir);
-    let fcrc = commit_room::forward(prog, old.len(), w.end);
+    let fcrc = commit_room::forward(erased, prog, old.len(), w.end);
     forward(new, w, fcrc)
 }
 

@@ -13,18 +13,18 @@ use Rattle.lanolin_answers.specs.Values.{committedOut, storedOut}
 use Rattle.lanolin_answers.specs.declared.CommittedOut.{CommittedOut}
 use Rattle.lanolin_answers.specs.declared.StoredOut.{StoredOut}
 
-module _ (b0 b1 : List ℕ) (es : List Entry) (dat : List ℕ) (g : Geometry) (n0 n1 count seed rules : ℕ) where
+module _ (b0 b1 : List ℕ) (es : List Entry) (dat : List ℕ) (g : Geometry) (n0 n1 count seed rules byte : ℕ) where
   pub commit-glue : (r0 : Committed) (x0 y0 : List ℕ) (r1 : CommittedOut)
-      → (r0 ≡ commitOf g b0 b1 n0 n1 count seed rules es dat) × CommitLeaves g b0 b1 n0 n1 count seed rules es dat x0 y0
+      → (r0 ≡ commitOf g b0 b1 n0 n1 count seed rules byte es dat) × CommitLeaves g b0 b1 n0 n1 count seed rules byte es dat x0 y0
       → r1 ≡ committedOut seed r0
-      → (r1 ≡ committedOut seed (commitOf g b0 b1 n0 n1 count seed rules es dat))
-      × CommitLeaves g b0 b1 n0 n1 count seed rules es dat x0 y0
+      → (r1 ≡ committedOut seed (commitOf g b0 b1 n0 n1 count seed rules byte es dat))
+      × CommitLeaves g b0 b1 n0 n1 count seed rules byte es dat x0 y0
   commit-glue r0 x0 y0 r1 said out = (out ∙ ap (committedOut seed) (said .0), said .1)
 
   pub stores-glue : (stores : ℕ) (r0 : Stored) (x0 y0 : List ℕ) (r1 : StoredOut)
-      → (r0 ≡ commitStoresOf g b0 b1 n0 n1 count seed rules es dat stores)
-      × CommitStoresLeaves g b0 b1 n0 n1 count seed rules es dat stores x0 y0
+      → (r0 ≡ commitStoresOf g b0 b1 n0 n1 count seed rules byte es dat stores)
+      × CommitStoresLeaves g b0 b1 n0 n1 count seed rules byte es dat stores x0 y0
       → r1 ≡ storedOut r0
-      → (r1 ≡ storedOut (commitStoresOf g b0 b1 n0 n1 count seed rules es dat stores))
-      × CommitStoresLeaves g b0 b1 n0 n1 count seed rules es dat stores x0 y0
+      → (r1 ≡ storedOut (commitStoresOf g b0 b1 n0 n1 count seed rules byte es dat stores))
+      × CommitStoresLeaves g b0 b1 n0 n1 count seed rules byte es dat stores x0 y0
   stores-glue stores r0 x0 y0 r1 said out = (out ∙ ap storedOut (said .0), said .1)

@@ -34,15 +34,28 @@ pub extern "C" fn lanolin_commit(
     block_count: u32,
     seed: u32,
     rules: u32,
+    erased: u8,
     entries: &[Entry],
     dat: &[u8],
 ) -> CommittedOut
     ensures { λ r. ⌜ (r ≡ committedOut seed (commitOf g (now (b0 .entry)) (now (b1 .entry)) n0 n1 «block_count» seed
-        rules (now (entries .entry)) (now (dat .entry))))
-        × CommitLeaves g (now (b0 .entry)) (now (b1 .entry)) n0 n1 «block_count» seed rules
+        rules erased (now (entries .entry)) (now (dat .entry))))
+        × CommitLeaves g (now (b0 .entry)) (now (b1 .entry)) n0 n1 «block_count» seed rules erased
         (now (entries .entry)) (now (dat .entry)) (now (b0 .exit)) (now (b1 .exit)) ⌝ }
 {
-    let c = commit::lfs_dir_commit(g, b0, b1, n0, n1, block_count, seed, rules, entries, dat);
+    let c = commit::lfs_dir_commit(
+        g,
+        b0,
+        b1,
+        n0,
+        n1,
+        block_count,
+        seed,
+        rules,
+        erased,
+        entries,
+        dat,
+    );
     lanolin_answers::committed_out(seed, c)
 }
 
@@ -56,13 +69,14 @@ pub extern "C" fn lanolin_commit_stores(
     block_count: u32,
     seed: u32,
     rules: u32,
+    erased: u8,
     entries: &[Entry],
     dat: &[u8],
     stores: u32,
 ) -> StoredOut
-    ensures { λ r. ⌜ (r ≡ storedOut (commitStoresOf g (now (b0 .entry)) (now (b1 .entry)) n0 n1 «block_count» seed rules
-        (now (entries .entry)) (now (dat .entry)) stores))
-        × CommitStoresLeaves g (now (b0 .entry)) (now (b1 .entry)) n0 n1 «block_count» seed rules
+    ensures { λ r. ⌜ (r ≡ storedOut (commitStoresOf g (now (b0 .entry)) (now (b1 .entry)) n0 n1 «block_count» seed
+        rules erased (now (entries .entry)) (now (dat .entry)) stores))
+        × CommitStoresLeaves g (now (b0 .entry)) (now (b1 .entry)) n0 n1 «block_count» seed rules erased
         (now (entries .entry)) (now (dat .entry)) stores (now (b0 .exit)) (now (b1 .exit)) ⌝ }
 {
     let s = commit::lfs_dir_commit_stores(
@@ -74,6 +88,7 @@ pub extern "C" fn lanolin_commit_stores(
         block_count,
         seed,
         rules,
+        erased,
         entries,
         dat,
         stores,

@@ -20,15 +20,16 @@ pub extern "C" fn lanolin_compact(
     block_count: u32,
     seed: u32,
     rules: u32,
+    erased: u8,
 ) -> CommittedOut
     ensures { λ r. ⌜ r ≡ committedOut seed (compactOf g (now (b0 .entry)) (now (b1 .entry)) n0 n1 «block_count»
-        seed rules) ⌝ }
-    ensures { λ _. ⌜ CompactLeaves g (now (b0 .entry)) (now (b1 .entry)) n0 n1 «block_count» seed rules
+        seed rules erased) ⌝ }
+    ensures { λ _. ⌜ CompactLeaves g (now (b0 .entry)) (now (b1 .entry)) n0 n1 «block_count» seed rules erased
         (now (b0 .exit)) (now (b1 .exit)) ⌝ }
 {
     committed_out(
         seed,
-        compact::lfs_dir_compact(g, b0, b1, n0, n1, block_count, seed, rules),
+        compact::lfs_dir_compact(g, b0, b1, n0, n1, block_count, seed, rules, erased),
     )
 }
 
@@ -42,12 +43,13 @@ pub extern "C" fn lanolin_compact_stores(
     block_count: u32,
     seed: u32,
     rules: u32,
+    erased: u8,
     stores: u32,
 ) -> StoredOut
-    ensures { λ r. ⌜ r ≡ storedOut (compactStoresOf g (now (b0 .entry)) (now (b1 .entry)) n0 n1 «block_count» seed rules
-        stores) ⌝ }
-    ensures { λ _. ⌜ CompactStoresLeaves g (now (b0 .entry)) (now (b1 .entry)) n0 n1 «block_count» seed rules stores
-        (now (b0 .exit)) (now (b1 .exit)) ⌝ }
+    ensures { λ r. ⌜ r ≡ storedOut (compactStoresOf g (now (b0 .entry)) (now (b1 .entry)) n0 n1 «block_count» seed
+        rules erased stores) ⌝ }
+    ensures { λ _. ⌜ CompactStoresLeaves g (now (b0 .entry)) (now (b1 .entry)) n0 n1 «block_count» seed rules erased
+        stores (now (b0 .exit)) (now (b1 .exit)) ⌝ }
 {
-    stored_out(compact::lfs_dir_compact_stores(g, b0, b1, n0, n1, block_count, seed, rules, stores))
+    stored_out(compact::lfs_dir_compact_stores(g, b0, b1, n0, n1, block_count, seed, rules, erased, stores))
 }

@@ -1,8 +1,9 @@
-// Document 01's domain: which sizes, block numbers and records a call accepts. Fetch, lookups and the writer make these
-// tests before they read a block. Every function takes any numbers.
+// The calls' domain: which sizes, block numbers and records a call accepts, and which rule and erased byte. Fetch,
+// lookups and the writer make these tests before they read a block. Every function takes any numbers.
 ghost use mathlib.Core.Path.{_≡_};
 ghost use Rattle.format.specs.Fetch.{geometryFits, imagesFit, pairFits, tooHigh};
 ghost use Rattle.format.specs.Lookup.{recordFits};
+ghost use Rattle.format.specs.Writer.{writesFit};
 use format::Geometry;
 use format::LfsMdir;
 use format::LfsPair;
@@ -50,4 +51,11 @@ pub fn record_fits(g: Geometry, len0: usize, len1: usize, n0: u32, n1: u32, dir:
     pair_fits(g, len0, len1, n0, n1)
         & util::lfs_pair_issync(dir.pair, LfsPair { n0: n0, n1: n1 })
         & (dir.off <= g.block_size)
+}
+
+// How a call writes: the rule by which the log must be regular is 0 or 1, and the erased byte "0xff or 0x00".
+pub fn writes_fit(rules: u32, erased: u8) -> bool
+    ensures { λ r. ⌜ r ≡ writesFit rules erased ⌝ }
+{
+    (rules <= 1) & ((erased == 0xff) | (erased == 0x00))
 }

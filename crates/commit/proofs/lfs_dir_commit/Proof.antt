@@ -80,11 +80,11 @@ use Rattle.commit.proofs.lfs_dir_commit.Code as code
 use Rattle.commit.proofs.lfs_dir_commit.Code.Mir.{t-1, t-2, t-7, t-12}
 
 -- the law that it cites (proofs/Rules.antt):
---   pub commit-glue : (xs-b0 : List ℕ) (xs-b1 : List ℕ) (xs-entries : List Entry) (xs-dat : List ℕ) (x-g : Geometry) (x-n0 : ℕ) (x-n1 : ℕ) (x-blockcount : ℕ) (x-seed : ℕ) (x-rules : ℕ) (r0 : ℕ) (r1 : State) (y1b0 : List ℕ) (y1b1 : List ℕ) (r2 : Committed)
+--   pub commit-glue : (xs-b0 : List ℕ) (xs-b1 : List ℕ) (xs-entries : List Entry) (xs-dat : List ℕ) (x-g : Geometry) (x-n0 : ℕ) (x-n1 : ℕ) (x-blockcount : ℕ) (x-seed : ℕ) (x-rules : ℕ) (x-erased : ℕ) (r0 : ℕ) (r1 : State) (y1b0 : List ℕ) (y1b1 : List ℕ) (r2 : Committed)
 --       → r0 ≡ unlimited
---       → trio r1 y1b0 y1b1 ≡ ranOf x-g xs-b0 xs-b1 x-n0 x-n1 x-blockcount x-seed x-rules xs-entries xs-dat r0
+--       → trio r1 y1b0 y1b1 ≡ ranOf x-g xs-b0 xs-b1 x-n0 x-n1 x-blockcount x-seed x-rules x-erased xs-entries xs-dat r0
 --       → r2 ≡ answeredOf r1 (refetchOf x-g y1b0 y1b1 x-n0 x-n1 x-blockcount)
---       → (r2 ≡ commitOf x-g xs-b0 xs-b1 x-n0 x-n1 x-blockcount x-seed x-rules xs-entries xs-dat) × CommitLeaves x-g xs-b0 xs-b1 x-n0 x-n1 x-blockcount x-seed x-rules xs-entries xs-dat y1b0 y1b1
+--       → (r2 ≡ commitOf x-g xs-b0 xs-b1 x-n0 x-n1 x-blockcount x-seed x-rules x-erased xs-entries xs-dat) × CommitLeaves x-g xs-b0 xs-b1 x-n0 x-n1 x-blockcount x-seed x-rules x-erased xs-entries xs-dat y1b0 y1b1
 
 abbrev mach-Committed : Committed → Val
 mach-Committed h = EL.val Committed-ty.the-type Committed-laws.the-laws h
@@ -112,10 +112,10 @@ vals-State = LL.vals State-ty.the-type State-laws.the-laws
 
 -- the function with its locals' types spelled out: it is `code.function` by computation, which is compared once
 abbrev plainly : Fn
-plainly = record { lifetimes = 4; outlives = []; params = 10; locals = local Committed-laws.mir valueLocal ∷ local Geometry-laws.mir valueLocal ∷ local (sliceTy (tyRef (named 0) mut (tyInt w8))) valueLocal ∷ local (sliceTy (tyRef (named 1) mut (tyInt w8))) valueLocal ∷ local (tyInt w32) valueLocal ∷ local (tyInt w32) valueLocal ∷ local (tyInt w32) valueLocal ∷ local (tyInt w32) valueLocal ∷ local (tyInt w32) valueLocal ∷ local (sliceTy (tyRef (named 2) imm (pointee (Entry-ty.the-row .written)))) valueLocal ∷ local (sliceTy (tyRef (named 3) imm (tyInt w8))) valueLocal ∷ local (tyInt w32) valueLocal ∷ local State-laws.mir valueLocal ∷ local (tyRef erased mut (tyInt w8)) valueLocal ∷ local (sliceTy (tyRef erased mut (tyInt w8))) valueLocal ∷ local (tyRef erased mut (tyInt w8)) valueLocal ∷ local (sliceTy (tyRef erased mut (tyInt w8))) valueLocal ∷ local (tyRef erased imm (tyInt w8)) valueLocal ∷ local (sliceTy (tyRef erased imm (tyInt w8))) valueLocal ∷ local (tyRef erased imm (tyInt w8)) valueLocal ∷ local (sliceTy (tyRef erased imm (tyInt w8))) valueLocal ∷ []; body = t-1 }
+plainly = record { lifetimes = 4; outlives = []; params = 11; locals = local Committed-laws.mir valueLocal ∷ local Geometry-laws.mir valueLocal ∷ local (sliceTy (tyRef (named 0) mut (tyInt w8))) valueLocal ∷ local (sliceTy (tyRef (named 1) mut (tyInt w8))) valueLocal ∷ local (tyInt w32) valueLocal ∷ local (tyInt w32) valueLocal ∷ local (tyInt w32) valueLocal ∷ local (tyInt w32) valueLocal ∷ local (tyInt w32) valueLocal ∷ local (tyInt w8) valueLocal ∷ local (sliceTy (tyRef (named 2) imm (pointee (Entry-ty.the-row .written)))) valueLocal ∷ local (sliceTy (tyRef (named 3) imm (tyInt w8))) valueLocal ∷ local (tyInt w32) valueLocal ∷ local State-laws.mir valueLocal ∷ local (tyRef erased mut (tyInt w8)) valueLocal ∷ local (sliceTy (tyRef erased mut (tyInt w8))) valueLocal ∷ local (tyRef erased mut (tyInt w8)) valueLocal ∷ local (sliceTy (tyRef erased mut (tyInt w8))) valueLocal ∷ local (tyRef erased imm (tyInt w8)) valueLocal ∷ local (sliceTy (tyRef erased imm (tyInt w8))) valueLocal ∷ local (tyRef erased imm (tyInt w8)) valueLocal ∷ local (sliceTy (tyRef erased imm (tyInt w8))) valueLocal ∷ []; body = t-1 }
 
 abbrev stayed : Stays (f.ended .signature .params) (f.ended .kept)
-stayed = (stay-none (λ _. Geometry-ty.the-row) yes, (stay-slice (0 ∷ []) tt (plain (λ _. u8)), (stay-slice (1 ∷ []) tt (plain (λ _. u8)), (stay-none (λ _. u32) yes, (stay-none (λ _. u32) yes, (stay-none (λ _. u32) yes, (stay-none (λ _. u32) yes, (stay-none (λ _. u32) yes, (stay-none-slice (2 ∷ []) tt (plain (λ _. Entry-ty.the-row)) yes, (stay-none-slice (3 ∷ []) tt (plain (λ _. u8)) yes, tt))))))))))
+stayed = (stay-none (λ _. Geometry-ty.the-row) yes, (stay-slice (0 ∷ []) tt (plain (λ _. u8)), (stay-slice (1 ∷ []) tt (plain (λ _. u8)), (stay-none (λ _. u32) yes, (stay-none (λ _. u32) yes, (stay-none (λ _. u32) yes, (stay-none (λ _. u32) yes, (stay-none (λ _. u32) yes, (stay-none (λ _. u8) yes, (stay-none-slice (2 ∷ []) tt (plain (λ _. Entry-ty.the-row)) yes, (stay-none-slice (3 ∷ []) tt (plain (λ _. u8)) yes, tt)))))))))))
 
 module _ {M : Type 1} (𝓤 : URA M) (H : Heap 𝓤) (A : Atoms 𝓤) (W : Given 𝓤 H A) (at-mem : Memory → SProp 𝓤) (run : Routine → Fun 𝓤) where
   abbrev K-unlimited : Contract 𝓤
@@ -139,7 +139,7 @@ module _ {M : Type 1} (𝓤 : URA M) (H : Heap 𝓤) (A : Atoms 𝓤) (W : Given
   typed-State : (h : State) (v : Val) → Is State-ty.the-row h (v ∷ []) → Holds (hasTy State-laws.mir v) × WT v
   typed-State h v g = LL.lawful State-ty.the-type State-laws.the-laws 𝓤 H A W .typed h _ g .0
 
-  module _ (κ-b0 κ-b1 κ-entries κ-dat : Lft) (q-b0 q-b1 q-entries q-dat : Share) (x-g : Geometry) (v-g : Val) (b-b0 o-b0 : ℕ) (γ-b0 : GName) (xs-b0 : List ℕ) (b-b1 o-b1 : ℕ) (γ-b1 : GName) (xs-b1 : List ℕ) (x-n0 : ℕ) (v-n0 : Val) (x-n1 : ℕ) (v-n1 : Val) (x-blockcount : ℕ) (v-blockcount : Val) (x-seed : ℕ) (v-seed : Val) (x-rules : ℕ) (v-rules : Val) (b-entries o-entries : ℕ) (γ-entries : GName) (xs-entries : List Entry) (b-dat o-dat : ℕ) (γ-dat : GName) (xs-dat : List ℕ) where
+  module _ (κ-b0 κ-b1 κ-entries κ-dat : Lft) (q-b0 q-b1 q-entries q-dat : Share) (x-g : Geometry) (v-g : Val) (b-b0 o-b0 : ℕ) (γ-b0 : GName) (xs-b0 : List ℕ) (b-b1 o-b1 : ℕ) (γ-b1 : GName) (xs-b1 : List ℕ) (x-n0 : ℕ) (v-n0 : Val) (x-n1 : ℕ) (v-n1 : Val) (x-blockcount : ℕ) (v-blockcount : Val) (x-seed : ℕ) (v-seed : Val) (x-rules : ℕ) (v-rules : Val) (x-erased : ℕ) (v-erased : Val) (b-entries o-entries : ℕ) (γ-entries : GName) (xs-entries : List Entry) (b-dat o-dat : ℕ) (γ-dat : GName) (xs-dat : List ℕ) where
     abbrev ref-b0 : GName → List ℕ → RefT (List ℕ)
     ref-b0 δ zs = record { ptr = (b-b0, o-b0); name = δ; now = zs }
 
@@ -176,11 +176,11 @@ module _ {M : Type 1} (𝓤 : URA M) (H : Heap 𝓤) (A : Atoms 𝓤) (W : Given
     abbrev Own-dat : Fml
     Own-dat = ShrSlice (named 3) κ-dat u8 .own (ref-dat γ-dat xs-dat) (s-dat ∷ [])
 
-    abbrev x : Geometry × (RefT (List ℕ) × (RefT (List ℕ) × (ℕ × (ℕ × (ℕ × (ℕ × (ℕ × (RefT (List Entry) × (RefT (List ℕ) × Unit {0})))))))))
-    x = (x-g, ((ref-b0 γ-b0 xs-b0), ((ref-b1 γ-b1 xs-b1), (x-n0, (x-n1, (x-blockcount, (x-seed, (x-rules, ((ref-entries γ-entries xs-entries), ((ref-dat γ-dat xs-dat), tt))))))))))
+    abbrev x : Geometry × (RefT (List ℕ) × (RefT (List ℕ) × (ℕ × (ℕ × (ℕ × (ℕ × (ℕ × (ℕ × (RefT (List Entry) × (RefT (List ℕ) × Unit {0}))))))))))
+    x = (x-g, ((ref-b0 γ-b0 xs-b0), ((ref-b1 γ-b1 xs-b1), (x-n0, (x-n1, (x-blockcount, (x-seed, (x-rules, (x-erased, ((ref-entries γ-entries xs-entries), ((ref-dat γ-dat xs-dat), tt)))))))))))
 
-    abbrev at : List Val × (List Val × (List Val × (List Val × (List Val × (List Val × (List Val × (List Val × (List Val × (List Val × Unit {0})))))))))
-    at = (v-g ∷ [], (s-b0 ∷ [], (s-b1 ∷ [], (v-n0 ∷ [], (v-n1 ∷ [], (v-blockcount ∷ [], (v-seed ∷ [], (v-rules ∷ [], (s-entries ∷ [], (s-dat ∷ [], tt))))))))))
+    abbrev at : List Val × (List Val × (List Val × (List Val × (List Val × (List Val × (List Val × (List Val × (List Val × (List Val × (List Val × Unit {0}))))))))))
+    at = (v-g ∷ [], (s-b0 ∷ [], (s-b1 ∷ [], (v-n0 ∷ [], (v-n1 ∷ [], (v-blockcount ∷ [], (v-seed ∷ [], (v-rules ∷ [], (v-erased ∷ [], (s-entries ∷ [], (s-dat ∷ [], tt)))))))))))
 
     abbrev bound : walkOf 𝓤 H A f.ended stayed (f.clauses 𝓤 H A at-mem run) .Ghost
     bound = (((κ-b0, (κ-b1, (κ-entries, (κ-dat, tt)))), (q-b0, (q-b1, (q-entries, (q-dat, tt)))), tt, x, at), tt)
@@ -203,15 +203,15 @@ module _ {M : Type 1} (𝓤 : URA M) (H : Heap 𝓤) (A : Atoms 𝓤) (W : Given
 
     apart : (Q : SProp 𝓤) → ent 𝓤 (⋆ 𝓤 H A Had) Q → ent 𝓤 (onEntry 𝓤 H A f.signature (κ-b0, (κ-b1, (κ-entries, (κ-dat, tt)))) (q-b0, (q-b1, (q-entries, (q-dat, tt)))) x at) Q
     apart Q next =
-        qed W ((‵ (flft κ-b0 q-b0) ⊛ ‵ (flft κ-b1 q-b1) ⊛ ‵ (flft κ-entries q-entries) ⊛ ‵ (flft κ-dat q-dat) ⊛ ‵ ftrue) ∷ ‵ (owns (Geometry-ty.the-row ∷ MutSlice (named 0) κ-b0 u8 ∷ MutSlice (named 1) κ-b1 u8 ∷ u32 ∷ u32 ∷ u32 ∷ u32 ∷ u32 ∷ ShrSlice (named 2) κ-entries Entry-ty.the-row ∷ ShrSlice (named 3) κ-dat u8 ∷ []) x at) ∷ []) ∵ move ! (1 ∷ []) $ fsplit ! $ move ! (1 ∷ []) $ fsplit ! $ move ! (1 ∷ []) $ fsplit ! $ move ! (1 ∷ []) $ fsplit ! $ move ! (1 ∷ []) $ fsplit ! $ move ! (1 ∷ []) $ fsplit ! $ move ! (1 ∷ []) $ fsplit ! $ move ! (1 ∷ []) $ fsplit ! $ move ! (1 ∷ []) $ fsplit ! $ move ! (1 ∷ []) $ fsplit ! $ move ! (11 ∷ []) $ split ! $ move ! (1 ∷ []) $ split ! $ move ! (1 ∷ []) $ split ! $ move ! (1 ∷ []) $ split ! $ keep ! (14 ∷ 13 ∷ 7 ∷ 5 ∷ 4 ∷ 3 ∷ 2 ∷ 0 ∷ []) $ by ! next
+        qed W ((‵ (flft κ-b0 q-b0) ⊛ ‵ (flft κ-b1 q-b1) ⊛ ‵ (flft κ-entries q-entries) ⊛ ‵ (flft κ-dat q-dat) ⊛ ‵ ftrue) ∷ ‵ (owns (Geometry-ty.the-row ∷ MutSlice (named 0) κ-b0 u8 ∷ MutSlice (named 1) κ-b1 u8 ∷ u32 ∷ u32 ∷ u32 ∷ u32 ∷ u32 ∷ u8 ∷ ShrSlice (named 2) κ-entries Entry-ty.the-row ∷ ShrSlice (named 3) κ-dat u8 ∷ []) x at) ∷ []) ∵ move ! (1 ∷ []) $ fsplit ! $ move ! (1 ∷ []) $ fsplit ! $ move ! (1 ∷ []) $ fsplit ! $ move ! (1 ∷ []) $ fsplit ! $ move ! (1 ∷ []) $ fsplit ! $ move ! (1 ∷ []) $ fsplit ! $ move ! (1 ∷ []) $ fsplit ! $ move ! (1 ∷ []) $ fsplit ! $ move ! (1 ∷ []) $ fsplit ! $ move ! (1 ∷ []) $ fsplit ! $ move ! (1 ∷ []) $ fsplit ! $ move ! (12 ∷ []) $ split ! $ move ! (1 ∷ []) $ split ! $ move ! (1 ∷ []) $ split ! $ move ! (1 ∷ []) $ split ! $ keep ! (15 ∷ 14 ∷ 7 ∷ 5 ∷ 4 ∷ 3 ∷ 2 ∷ 0 ∷ []) $ by ! next
 
-    module _ (g-g : Is Geometry-ty.the-row x-g (v-g ∷ [])) (g-b0 : Room u8 (length xs-b0)) (g-b1 : Room u8 (length xs-b1)) (g-n0 : Is u32 x-n0 (v-n0 ∷ [])) (g-n1 : Is u32 x-n1 (v-n1 ∷ [])) (g-blockcount : Is u32 x-blockcount (v-blockcount ∷ [])) (g-seed : Is u32 x-seed (v-seed ∷ [])) (g-rules : Is u32 x-rules (v-rules ∷ [])) (g-entries : Room Entry-ty.the-row (length xs-entries)) (g-dat : Room u8 (length xs-dat)) where
-      exits : (r : Committed) (v : Val) (z-b0 z-b1 : List ℕ) → length z-b0 ≡ length xs-b0 → length z-b1 ≡ length xs-b1 → Is Committed-ty.the-row r (v ∷ []) → (r ≡ commitOf x-g xs-b0 xs-b1 x-n0 x-n1 x-blockcount x-seed x-rules xs-entries xs-dat) × CommitLeaves x-g xs-b0 xs-b1 x-n0 x-n1 x-blockcount x-seed x-rules xs-entries xs-dat z-b0 z-b1
+    module _ (g-g : Is Geometry-ty.the-row x-g (v-g ∷ [])) (g-b0 : Room u8 (length xs-b0)) (g-b1 : Room u8 (length xs-b1)) (g-n0 : Is u32 x-n0 (v-n0 ∷ [])) (g-n1 : Is u32 x-n1 (v-n1 ∷ [])) (g-blockcount : Is u32 x-blockcount (v-blockcount ∷ [])) (g-seed : Is u32 x-seed (v-seed ∷ [])) (g-rules : Is u32 x-rules (v-rules ∷ [])) (g-erased : Is u8 x-erased (v-erased ∷ [])) (g-entries : Room Entry-ty.the-row (length xs-entries)) (g-dat : Room u8 (length xs-dat)) where
+      exits : (r : Committed) (v : Val) (z-b0 z-b1 : List ℕ) → length z-b0 ≡ length xs-b0 → length z-b1 ≡ length xs-b1 → Is Committed-ty.the-row r (v ∷ []) → (r ≡ commitOf x-g xs-b0 xs-b1 x-n0 x-n1 x-blockcount x-seed x-rules x-erased xs-entries xs-dat) × CommitLeaves x-g xs-b0 xs-b1 x-n0 x-n1 x-blockcount x-seed x-rules x-erased xs-entries xs-dat z-b0 z-b1
           → ent 𝓤 (⋆ 𝓤 H A (‵ (Own-b0 z-b0) ∷ ‵ (Own-b1 z-b1) ∷ ‵ Own-entries ∷ ‵ Own-dat ∷ ‵ (flft κ-b0 q-b0) ∷ ‵ (flft κ-b1 q-b1) ∷ ‵ (flft κ-entries q-entries) ∷ ‵ (flft κ-dat q-dat) ∷ [])) (Post v)
       exits r v z-b0 z-b1 l-b0 l-b1 is said =
-          qed W (‵ (Own-b0 z-b0) ∷ ‵ (Own-b1 z-b1) ∷ ‵ Own-entries ∷ ‵ Own-dat ∷ ‵ (flft κ-b0 q-b0) ∷ ‵ (flft κ-b1 q-b1) ∷ ‵ (flft κ-entries q-entries) ∷ ‵ (flft κ-dat q-dat) ∷ []) ∵ suffices ! _ (ends-at 𝓤 H A f.ended stayed (f.clauses 𝓤 H A at-mem run) W bound v r (tt, (z-b0, (z-b1, (tt, (tt, (tt, (tt, (tt, (tt, (tt, tt)))))))))) (tt, (l-b0, (l-b1, (tt, (tt, (tt, (tt, (tt, (tt, (tt, tt))))))))))) $ says ! said $
+          qed W (‵ (Own-b0 z-b0) ∷ ‵ (Own-b1 z-b1) ∷ ‵ Own-entries ∷ ‵ Own-dat ∷ ‵ (flft κ-b0 q-b0) ∷ ‵ (flft κ-b1 q-b1) ∷ ‵ (flft κ-entries q-entries) ∷ ‵ (flft κ-dat q-dat) ∷ []) ∵ suffices ! _ (ends-at 𝓤 H A f.ended stayed (f.clauses 𝓤 H A at-mem run) W bound v r (tt, (z-b0, (z-b1, (tt, (tt, (tt, (tt, (tt, (tt, (tt, (tt, tt))))))))))) (tt, (l-b0, (l-b1, (tt, (tt, (tt, (tt, (tt, (tt, (tt, (tt, tt)))))))))))) $ says ! said $
           nothing ! $ move ! (8 ∷ 0 ∷ []) $ join ! $ move ! (7 ∷ 0 ∷ []) $ join ! $ move ! (6 ∷ 0 ∷ []) $ join ! $ move ! (5 ∷ 0 ∷ []) $ join ! $ frame ! $
-          nothing ! $ move ! (4 ∷ 0 ∷ []) $ fjoin ! $ move ! (3 ∷ 0 ∷ []) $ fjoin ! $ owned ! u32 (Is u32) (uint-makes 𝓤 H A W w32) x-rules _ g-rules $ fjoin ! $ owned ! u32 (Is u32) (uint-makes 𝓤 H A W w32) x-seed _ g-seed $ fjoin ! $ owned ! u32 (Is u32) (uint-makes 𝓤 H A W w32) x-blockcount _ g-blockcount $ fjoin ! $ owned ! u32 (Is u32) (uint-makes 𝓤 H A W w32) x-n1 _ g-n1 $ fjoin ! $ owned ! u32 (Is u32) (uint-makes 𝓤 H A W w32) x-n0 _ g-n0 $ fjoin ! $ move ! (2 ∷ 0 ∷ []) $ fjoin ! $ move ! (1 ∷ 0 ∷ []) $ fjoin ! $ owned ! Geometry-ty.the-row (Is Geometry-ty.the-row) (LL.makes Geometry-ty.the-type Geometry-laws.the-plain 𝓤 H A) x-g _ g-g $ fjoin ! $ frame ! $ owned ! Committed-ty.the-row (Is Committed-ty.the-row) (EL.makes Committed-ty.the-type Committed-laws.the-plain 𝓤 H A) r (v ∷ []) is $ done !
+          nothing ! $ move ! (4 ∷ 0 ∷ []) $ fjoin ! $ move ! (3 ∷ 0 ∷ []) $ fjoin ! $ owned ! u8 (Is u8) (uint-makes 𝓤 H A W w8) x-erased _ g-erased $ fjoin ! $ owned ! u32 (Is u32) (uint-makes 𝓤 H A W w32) x-rules _ g-rules $ fjoin ! $ owned ! u32 (Is u32) (uint-makes 𝓤 H A W w32) x-seed _ g-seed $ fjoin ! $ owned ! u32 (Is u32) (uint-makes 𝓤 H A W w32) x-blockcount _ g-blockcount $ fjoin ! $ owned ! u32 (Is u32) (uint-makes 𝓤 H A W w32) x-n1 _ g-n1 $ fjoin ! $ owned ! u32 (Is u32) (uint-makes 𝓤 H A W w32) x-n0 _ g-n0 $ fjoin ! $ move ! (2 ∷ 0 ∷ []) $ fjoin ! $ move ! (1 ∷ 0 ∷ []) $ fjoin ! $ owned ! Geometry-ty.the-row (Is Geometry-ty.the-row) (LL.makes Geometry-ty.the-type Geometry-laws.the-plain 𝓤 H A) x-g _ g-g $ fjoin ! $ frame ! $ owned ! Committed-ty.the-row (Is Committed-ty.the-row) (EL.makes Committed-ty.the-type Committed-laws.the-plain 𝓤 H A) r (v ∷ []) is $ done !
 
       -- what call 0, of `unlimited`, is passed
       goes-0 : ent 𝓤 (⋆ 𝓤 H A ([])) (K-unlimited .pre (((tt), (tt), tt, tt, tt), tt))
@@ -219,9 +219,9 @@ module _ {M : Type 1} (𝓤 : URA M) (H : Heap 𝓤) (A : Atoms 𝓤) (W : Given
           qed W ([]) ∵ nothing ! $ nothing ! $ move ! (1 ∷ 0 ∷ []) $ join ! $ frame ! $ done !
 
       -- what call 1, of `run`, is passed
-      goes-1 : (x-g : Geometry) (v-g : Val) (i-g : Is Geometry-ty.the-row x-g (v-g ∷ [])) (ν-b0 : ℕ) (δ-b0 : GName) (z-b0 : List ℕ) (ν-b1 : ℕ) (δ-b1 : GName) (z-b1 : List ℕ) (x-n0 : ℕ) (v-n0 : Val) (i-n0 : Is u32 x-n0 (v-n0 ∷ [])) (x-n1 : ℕ) (v-n1 : Val) (i-n1 : Is u32 x-n1 (v-n1 ∷ [])) (x-blockcount : ℕ) (v-blockcount : Val) (i-blockcount : Is u32 x-blockcount (v-blockcount ∷ [])) (x-seed : ℕ) (v-seed : Val) (i-seed : Is u32 x-seed (v-seed ∷ [])) (x-rules : ℕ) (v-rules : Val) (i-rules : Is u32 x-rules (v-rules ∷ [])) (x-stores : ℕ) (v-stores : Val) (i-stores : Is u32 x-stores (v-stores ∷ [])) → ent 𝓤 (⋆ 𝓤 H A ((‵ (flft (ν-b0 ∷ []) fullShare) ⊛ ‵ (flft (ν-b1 ∷ []) fullShare) ⊛ ‵ (flft κ-entries q-entries) ⊛ ‵ (flft κ-dat q-dat) ⊛ ‵ (MutSlice (named 0) (ν-b0 ∷ []) u8 .own (ref-b0 δ-b0 z-b0) (s-b0 ∷ [])) ⊛ ‵ (MutSlice (named 1) (ν-b1 ∷ []) u8 .own (ref-b1 δ-b1 z-b1) (s-b1 ∷ [])) ⊛ ‵ Own-entries ⊛ ‵ Own-dat) ∷ [])) (K-run .pre ((((ν-b0 ∷ [], (ν-b1 ∷ [], (κ-entries, (κ-dat, tt))))), ((fullShare, (fullShare, (q-entries, (q-dat, tt))))), tt, (x-g, ((ref-b0 δ-b0 z-b0), ((ref-b1 δ-b1 z-b1), (x-n0, (x-n1, (x-blockcount, (x-seed, (x-rules, ((ref-entries γ-entries xs-entries), ((ref-dat γ-dat xs-dat), (x-stores, tt))))))))))), (v-g ∷ [], (s-b0 ∷ [], (s-b1 ∷ [], (v-n0 ∷ [], (v-n1 ∷ [], (v-blockcount ∷ [], (v-seed ∷ [], (v-rules ∷ [], (s-entries ∷ [], (s-dat ∷ [], (v-stores ∷ [], tt)))))))))))), tt))
-      goes-1 x-g v-g i-g ν-b0 δ-b0 z-b0 ν-b1 δ-b1 z-b1 x-n0 v-n0 i-n0 x-n1 v-n1 i-n1 x-blockcount v-blockcount i-blockcount x-seed v-seed i-seed x-rules v-rules i-rules x-stores v-stores i-stores =
-          qed W ((‵ (flft (ν-b0 ∷ []) fullShare) ⊛ ‵ (flft (ν-b1 ∷ []) fullShare) ⊛ ‵ (flft κ-entries q-entries) ⊛ ‵ (flft κ-dat q-dat) ⊛ ‵ (MutSlice (named 0) (ν-b0 ∷ []) u8 .own (ref-b0 δ-b0 z-b0) (s-b0 ∷ [])) ⊛ ‵ (MutSlice (named 1) (ν-b1 ∷ []) u8 .own (ref-b1 δ-b1 z-b1) (s-b1 ∷ [])) ⊛ ‵ Own-entries ⊛ ‵ Own-dat) ∷ []) ∵ split ! $ move ! (1 ∷ []) $ split ! $ move ! (1 ∷ []) $ split ! $ move ! (1 ∷ []) $ split ! $ move ! (1 ∷ []) $ split ! $ move ! (1 ∷ []) $ split ! $ move ! (1 ∷ []) $ split ! $ move ! (1 ∷ []) $ nothing ! $ move ! (5 ∷ 0 ∷ []) $ join ! $ move ! (5 ∷ 0 ∷ []) $ join ! $ move ! (5 ∷ 0 ∷ []) $ join ! $ move ! (5 ∷ 0 ∷ []) $ join ! $ nothing ! $ owned ! u32 (Is u32) (uint-makes 𝓤 H A W w32) x-stores _ i-stores $ fjoin ! $ move ! (2 ∷ 0 ∷ []) $ fjoin ! $ move ! (2 ∷ 0 ∷ []) $ fjoin ! $ owned ! u32 (Is u32) (uint-makes 𝓤 H A W w32) x-rules _ i-rules $ fjoin ! $ owned ! u32 (Is u32) (uint-makes 𝓤 H A W w32) x-seed _ i-seed $ fjoin ! $ owned ! u32 (Is u32) (uint-makes 𝓤 H A W w32) x-blockcount _ i-blockcount $ fjoin ! $ owned ! u32 (Is u32) (uint-makes 𝓤 H A W w32) x-n1 _ i-n1 $ fjoin ! $ owned ! u32 (Is u32) (uint-makes 𝓤 H A W w32) x-n0 _ i-n0 $ fjoin ! $ move ! (2 ∷ 0 ∷ []) $ fjoin ! $ move ! (2 ∷ 0 ∷ []) $ fjoin ! $ owned ! Geometry-ty.the-row (Is Geometry-ty.the-row) (LL.makes Geometry-ty.the-type Geometry-laws.the-plain 𝓤 H A) x-g _ i-g $ fjoin ! $ move ! (1 ∷ 0 ∷ []) $ join ! $ frame ! $ done !
+      goes-1 : (x-g : Geometry) (v-g : Val) (i-g : Is Geometry-ty.the-row x-g (v-g ∷ [])) (ν-b0 : ℕ) (δ-b0 : GName) (z-b0 : List ℕ) (ν-b1 : ℕ) (δ-b1 : GName) (z-b1 : List ℕ) (x-n0 : ℕ) (v-n0 : Val) (i-n0 : Is u32 x-n0 (v-n0 ∷ [])) (x-n1 : ℕ) (v-n1 : Val) (i-n1 : Is u32 x-n1 (v-n1 ∷ [])) (x-blockcount : ℕ) (v-blockcount : Val) (i-blockcount : Is u32 x-blockcount (v-blockcount ∷ [])) (x-seed : ℕ) (v-seed : Val) (i-seed : Is u32 x-seed (v-seed ∷ [])) (x-rules : ℕ) (v-rules : Val) (i-rules : Is u32 x-rules (v-rules ∷ [])) (x-erased : ℕ) (v-erased : Val) (i-erased : Is u8 x-erased (v-erased ∷ [])) (x-stores : ℕ) (v-stores : Val) (i-stores : Is u32 x-stores (v-stores ∷ [])) → ent 𝓤 (⋆ 𝓤 H A ((‵ (flft (ν-b0 ∷ []) fullShare) ⊛ ‵ (flft (ν-b1 ∷ []) fullShare) ⊛ ‵ (flft κ-entries q-entries) ⊛ ‵ (flft κ-dat q-dat) ⊛ ‵ (MutSlice (named 0) (ν-b0 ∷ []) u8 .own (ref-b0 δ-b0 z-b0) (s-b0 ∷ [])) ⊛ ‵ (MutSlice (named 1) (ν-b1 ∷ []) u8 .own (ref-b1 δ-b1 z-b1) (s-b1 ∷ [])) ⊛ ‵ Own-entries ⊛ ‵ Own-dat) ∷ [])) (K-run .pre ((((ν-b0 ∷ [], (ν-b1 ∷ [], (κ-entries, (κ-dat, tt))))), ((fullShare, (fullShare, (q-entries, (q-dat, tt))))), tt, (x-g, ((ref-b0 δ-b0 z-b0), ((ref-b1 δ-b1 z-b1), (x-n0, (x-n1, (x-blockcount, (x-seed, (x-rules, (x-erased, ((ref-entries γ-entries xs-entries), ((ref-dat γ-dat xs-dat), (x-stores, tt)))))))))))), (v-g ∷ [], (s-b0 ∷ [], (s-b1 ∷ [], (v-n0 ∷ [], (v-n1 ∷ [], (v-blockcount ∷ [], (v-seed ∷ [], (v-rules ∷ [], (v-erased ∷ [], (s-entries ∷ [], (s-dat ∷ [], (v-stores ∷ [], tt))))))))))))), tt))
+      goes-1 x-g v-g i-g ν-b0 δ-b0 z-b0 ν-b1 δ-b1 z-b1 x-n0 v-n0 i-n0 x-n1 v-n1 i-n1 x-blockcount v-blockcount i-blockcount x-seed v-seed i-seed x-rules v-rules i-rules x-erased v-erased i-erased x-stores v-stores i-stores =
+          qed W ((‵ (flft (ν-b0 ∷ []) fullShare) ⊛ ‵ (flft (ν-b1 ∷ []) fullShare) ⊛ ‵ (flft κ-entries q-entries) ⊛ ‵ (flft κ-dat q-dat) ⊛ ‵ (MutSlice (named 0) (ν-b0 ∷ []) u8 .own (ref-b0 δ-b0 z-b0) (s-b0 ∷ [])) ⊛ ‵ (MutSlice (named 1) (ν-b1 ∷ []) u8 .own (ref-b1 δ-b1 z-b1) (s-b1 ∷ [])) ⊛ ‵ Own-entries ⊛ ‵ Own-dat) ∷ []) ∵ split ! $ move ! (1 ∷ []) $ split ! $ move ! (1 ∷ []) $ split ! $ move ! (1 ∷ []) $ split ! $ move ! (1 ∷ []) $ split ! $ move ! (1 ∷ []) $ split ! $ move ! (1 ∷ []) $ split ! $ move ! (1 ∷ []) $ nothing ! $ move ! (5 ∷ 0 ∷ []) $ join ! $ move ! (5 ∷ 0 ∷ []) $ join ! $ move ! (5 ∷ 0 ∷ []) $ join ! $ move ! (5 ∷ 0 ∷ []) $ join ! $ nothing ! $ owned ! u32 (Is u32) (uint-makes 𝓤 H A W w32) x-stores _ i-stores $ fjoin ! $ move ! (2 ∷ 0 ∷ []) $ fjoin ! $ move ! (2 ∷ 0 ∷ []) $ fjoin ! $ owned ! u8 (Is u8) (uint-makes 𝓤 H A W w8) x-erased _ i-erased $ fjoin ! $ owned ! u32 (Is u32) (uint-makes 𝓤 H A W w32) x-rules _ i-rules $ fjoin ! $ owned ! u32 (Is u32) (uint-makes 𝓤 H A W w32) x-seed _ i-seed $ fjoin ! $ owned ! u32 (Is u32) (uint-makes 𝓤 H A W w32) x-blockcount _ i-blockcount $ fjoin ! $ owned ! u32 (Is u32) (uint-makes 𝓤 H A W w32) x-n1 _ i-n1 $ fjoin ! $ owned ! u32 (Is u32) (uint-makes 𝓤 H A W w32) x-n0 _ i-n0 $ fjoin ! $ move ! (2 ∷ 0 ∷ []) $ fjoin ! $ move ! (2 ∷ 0 ∷ []) $ fjoin ! $ owned ! Geometry-ty.the-row (Is Geometry-ty.the-row) (LL.makes Geometry-ty.the-type Geometry-laws.the-plain 𝓤 H A) x-g _ i-g $ fjoin ! $ move ! (1 ∷ 0 ∷ []) $ join ! $ frame ! $ done !
 
       -- what call 2, of `answer`, is passed
       goes-2 : (x-st : State) (v-st : Val) (i-st : Is State-ty.the-row x-st (v-st ∷ [])) (x-g : Geometry) (v-g : Val) (i-g : Is Geometry-ty.the-row x-g (v-g ∷ [])) (ν-b0 : ℕ) (δ-b0 : GName) (z-b0 : List ℕ) (ν-b1 : ℕ) (δ-b1 : GName) (z-b1 : List ℕ) (x-n0 : ℕ) (v-n0 : Val) (i-n0 : Is u32 x-n0 (v-n0 ∷ [])) (x-n1 : ℕ) (v-n1 : Val) (i-n1 : Is u32 x-n1 (v-n1 ∷ [])) (x-blockcount : ℕ) (v-blockcount : Val) (i-blockcount : Is u32 x-blockcount (v-blockcount ∷ [])) → ent 𝓤 (⋆ 𝓤 H A ((‵ (flft (ν-b0 ∷ []) fullShare) ⊛ ‵ (flft (ν-b1 ∷ []) fullShare) ⊛ ‵ (ShrSlice (named 0) (ν-b0 ∷ []) u8 .own (ref-b0 δ-b0 z-b0) (s-b0 ∷ [])) ⊛ ‵ (ShrSlice (named 1) (ν-b1 ∷ []) u8 .own (ref-b1 δ-b1 z-b1) (s-b1 ∷ []))) ∷ [])) (K-answer .pre ((((ν-b0 ∷ [], (ν-b1 ∷ [], tt))), ((fullShare, (fullShare, tt))), tt, (x-st, (x-g, ((ref-b0 δ-b0 z-b0), ((ref-b1 δ-b1 z-b1), (x-n0, (x-n1, (x-blockcount, tt))))))), (v-st ∷ [], (v-g ∷ [], (s-b0 ∷ [], (s-b1 ∷ [], (v-n0 ∷ [], (v-n1 ∷ [], (v-blockcount ∷ [], tt)))))))), tt))
@@ -235,75 +235,75 @@ module _ {M : Type 1} (𝓤 : URA M) (H : Heap 𝓤) (A : Atoms 𝓤) (W : Given
         abbrev Λ : Loops 𝓤 H
         Λ = 𝓣 .Λ
 
-        module _ (l0 l1 l2 l3 l4 l5 l6 l7 l8 l9 l10 l11 l12 l13 l14 l15 l16 l17 l18 l19 l20 : ℕ) where
+        module _ (l0 l1 l2 l3 l4 l5 l6 l7 l8 l9 l10 l11 l12 l13 l14 l15 l16 l17 l18 l19 l20 l21 : ℕ) where
           abbrev En : Env 𝓤 H
-          En = (Committed-laws.mir, l0) ∷ (Geometry-laws.mir, l1) ∷ ((sliceTy (tyRef (named 0) mut (tyInt w8))), l2) ∷ ((sliceTy (tyRef (named 1) mut (tyInt w8))), l3) ∷ ((tyInt w32), l4) ∷ ((tyInt w32), l5) ∷ ((tyInt w32), l6) ∷ ((tyInt w32), l7) ∷ ((tyInt w32), l8) ∷ ((sliceTy (tyRef (named 2) imm (pointee (Entry-ty.the-row .written)))), l9) ∷ ((sliceTy (tyRef (named 3) imm (tyInt w8))), l10) ∷ ((tyInt w32), l11) ∷ (State-laws.mir, l12) ∷ ((tyRef erased mut (tyInt w8)), l13) ∷ ((sliceTy (tyRef erased mut (tyInt w8))), l14) ∷ ((tyRef erased mut (tyInt w8)), l15) ∷ ((sliceTy (tyRef erased mut (tyInt w8))), l16) ∷ ((tyRef erased imm (tyInt w8)), l17) ∷ ((sliceTy (tyRef erased imm (tyInt w8))), l18) ∷ ((tyRef erased imm (tyInt w8)), l19) ∷ ((sliceTy (tyRef erased imm (tyInt w8))), l20) ∷ []
+          En = (Committed-laws.mir, l0) ∷ (Geometry-laws.mir, l1) ∷ ((sliceTy (tyRef (named 0) mut (tyInt w8))), l2) ∷ ((sliceTy (tyRef (named 1) mut (tyInt w8))), l3) ∷ ((tyInt w32), l4) ∷ ((tyInt w32), l5) ∷ ((tyInt w32), l6) ∷ ((tyInt w32), l7) ∷ ((tyInt w32), l8) ∷ ((tyInt w8), l9) ∷ ((sliceTy (tyRef (named 2) imm (pointee (Entry-ty.the-row .written)))), l10) ∷ ((sliceTy (tyRef (named 3) imm (tyInt w8))), l11) ∷ ((tyInt w32), l12) ∷ (State-laws.mir, l13) ∷ ((tyRef erased mut (tyInt w8)), l14) ∷ ((sliceTy (tyRef erased mut (tyInt w8))), l15) ∷ ((tyRef erased mut (tyInt w8)), l16) ∷ ((sliceTy (tyRef erased mut (tyInt w8))), l17) ∷ ((tyRef erased imm (tyInt w8)), l18) ∷ ((sliceTy (tyRef erased imm (tyInt w8))), l19) ∷ ((tyRef erased imm (tyInt w8)), l20) ∷ ((sliceTy (tyRef erased imm (tyInt w8))), l21) ∷ []
 
           abbrev Dies : Item 𝓤
-          Dies = ‵ (fdies Committed-laws.mir l0) ⊛ ‵ (fdies Geometry-laws.mir l1) ⊛ ‵ (fdies (sliceTy (tyRef (named 0) mut (tyInt w8))) l2) ⊛ ‵ (fdies (sliceTy (tyRef (named 1) mut (tyInt w8))) l3) ⊛ ‵ (fdies (tyInt w32) l4) ⊛ ‵ (fdies (tyInt w32) l5) ⊛ ‵ (fdies (tyInt w32) l6) ⊛ ‵ (fdies (tyInt w32) l7) ⊛ ‵ (fdies (tyInt w32) l8) ⊛ ‵ (fdies (sliceTy (tyRef (named 2) imm (pointee (Entry-ty.the-row .written)))) l9) ⊛ ‵ (fdies (sliceTy (tyRef (named 3) imm (tyInt w8))) l10) ⊛ ‵ (fdies (tyInt w32) l11) ⊛ ‵ (fdies State-laws.mir l12) ⊛ ‵ (fdies (tyRef erased mut (tyInt w8)) l13) ⊛ ‵ (fdies (sliceTy (tyRef erased mut (tyInt w8))) l14) ⊛ ‵ (fdies (tyRef erased mut (tyInt w8)) l15) ⊛ ‵ (fdies (sliceTy (tyRef erased mut (tyInt w8))) l16) ⊛ ‵ (fdies (tyRef erased imm (tyInt w8)) l17) ⊛ ‵ (fdies (sliceTy (tyRef erased imm (tyInt w8))) l18) ⊛ ‵ (fdies (tyRef erased imm (tyInt w8)) l19) ⊛ ‵ (fdies (sliceTy (tyRef erased imm (tyInt w8))) l20)
+          Dies = ‵ (fdies Committed-laws.mir l0) ⊛ ‵ (fdies Geometry-laws.mir l1) ⊛ ‵ (fdies (sliceTy (tyRef (named 0) mut (tyInt w8))) l2) ⊛ ‵ (fdies (sliceTy (tyRef (named 1) mut (tyInt w8))) l3) ⊛ ‵ (fdies (tyInt w32) l4) ⊛ ‵ (fdies (tyInt w32) l5) ⊛ ‵ (fdies (tyInt w32) l6) ⊛ ‵ (fdies (tyInt w32) l7) ⊛ ‵ (fdies (tyInt w32) l8) ⊛ ‵ (fdies (tyInt w8) l9) ⊛ ‵ (fdies (sliceTy (tyRef (named 2) imm (pointee (Entry-ty.the-row .written)))) l10) ⊛ ‵ (fdies (sliceTy (tyRef (named 3) imm (tyInt w8))) l11) ⊛ ‵ (fdies (tyInt w32) l12) ⊛ ‵ (fdies State-laws.mir l13) ⊛ ‵ (fdies (tyRef erased mut (tyInt w8)) l14) ⊛ ‵ (fdies (sliceTy (tyRef erased mut (tyInt w8))) l15) ⊛ ‵ (fdies (tyRef erased mut (tyInt w8)) l16) ⊛ ‵ (fdies (sliceTy (tyRef erased mut (tyInt w8))) l17) ⊛ ‵ (fdies (tyRef erased imm (tyInt w8)) l18) ⊛ ‵ (fdies (sliceTy (tyRef erased imm (tyInt w8))) l19) ⊛ ‵ (fdies (tyRef erased imm (tyInt w8)) l20) ⊛ ‵ (fdies (sliceTy (tyRef erased imm (tyInt w8))) l21)
 
           -- what is had: the slices at their lists, the locals that calls set
           abbrev At : List ℕ → List ℕ → Item 𝓤 → Item 𝓤 → Item 𝓤 → List (Item 𝓤)
-          At z-b0 z-b1 c0 c11 c12 =
+          At z-b0 z-b1 c0 c12 c13 =
               ‵ (Own-b0 z-b0) ∷ ‵ (Own-b1 z-b1) ∷ ‵ Own-entries ∷ ‵ Own-dat
               ∷ ‵ (flft κ-b0 q-b0) ∷ ‵ (flft κ-b1 q-b1) ∷ ‵ (flft κ-entries q-entries) ∷ ‵ (flft κ-dat q-dat)
               ∷ c0 ∷ ‵ (fat fullShare Geometry-laws.mir l1 0 v-g) ∷ ‵ (fat fullShare (sliceTy (tyRef (named 0) mut (tyInt w8))) l2 0 s-b0) ∷ ‵ (fat fullShare (sliceTy (tyRef (named 1) mut (tyInt w8))) l3 0 s-b1)
               ∷ ‵ (fat fullShare (tyInt w32) l4 0 v-n0) ∷ ‵ (fat fullShare (tyInt w32) l5 0 v-n1) ∷ ‵ (fat fullShare (tyInt w32) l6 0 v-blockcount) ∷ ‵ (fat fullShare (tyInt w32) l7 0 v-seed)
-              ∷ ‵ (fat fullShare (tyInt w32) l8 0 v-rules) ∷ ‵ (fat fullShare (sliceTy (tyRef (named 2) imm (pointee (Entry-ty.the-row .written)))) l9 0 s-entries) ∷ ‵ (fat fullShare (sliceTy (tyRef (named 3) imm (tyInt w8))) l10 0 s-dat) ∷ c11
-              ∷ c12 ∷ ‵ (froom (tyRef erased mut (tyInt w8)) l13 0) ∷ ‵ (froom (sliceTy (tyRef erased mut (tyInt w8))) l14 0) ∷ ‵ (froom (tyRef erased mut (tyInt w8)) l15 0)
-              ∷ ‵ (froom (sliceTy (tyRef erased mut (tyInt w8))) l16 0) ∷ ‵ (froom (tyRef erased imm (tyInt w8)) l17 0) ∷ ‵ (froom (sliceTy (tyRef erased imm (tyInt w8))) l18 0) ∷ ‵ (froom (tyRef erased imm (tyInt w8)) l19 0)
-              ∷ ‵ (froom (sliceTy (tyRef erased imm (tyInt w8))) l20 0) ∷ Dies ∷ []
+              ∷ ‵ (fat fullShare (tyInt w32) l8 0 v-rules) ∷ ‵ (fat fullShare (tyInt w8) l9 0 v-erased) ∷ ‵ (fat fullShare (sliceTy (tyRef (named 2) imm (pointee (Entry-ty.the-row .written)))) l10 0 s-entries) ∷ ‵ (fat fullShare (sliceTy (tyRef (named 3) imm (tyInt w8))) l11 0 s-dat)
+              ∷ c12 ∷ c13 ∷ ‵ (froom (tyRef erased mut (tyInt w8)) l14 0) ∷ ‵ (froom (sliceTy (tyRef erased mut (tyInt w8))) l15 0)
+              ∷ ‵ (froom (tyRef erased mut (tyInt w8)) l16 0) ∷ ‵ (froom (sliceTy (tyRef erased mut (tyInt w8))) l17 0) ∷ ‵ (froom (tyRef erased imm (tyInt w8)) l18 0) ∷ ‵ (froom (sliceTy (tyRef erased imm (tyInt w8))) l19 0)
+              ∷ ‵ (froom (tyRef erased imm (tyInt w8)) l20 0) ∷ ‵ (froom (sliceTy (tyRef erased imm (tyInt w8))) l21 0) ∷ Dies ∷ []
 
           abbrev Start : List (Item 𝓤)
-          Start = At xs-b0 xs-b1 (‵ (froom Committed-laws.mir l0 0)) (‵ (froom (tyInt w32) l11 0)) (‵ (froom State-laws.mir l12 0))
+          Start = At xs-b0 xs-b1 (‵ (froom Committed-laws.mir l0 0)) (‵ (froom (tyInt w32) l12 0)) (‵ (froom State-laws.mir l13 0))
 
-          part-3 : (r0 : ℕ) (v0 : Val) (is0 : Is u32 r0 (v0 ∷ [])) (said0 : r0 ≡ unlimited) (r1 : State) (v1 : Val) (is1 : Is State-ty.the-row r1 (v1 ∷ [])) (y1b0 : List ℕ) (m1b0 : length y1b0 ≡ length xs-b0) (y1b1 : List ℕ) (m1b1 : length y1b1 ≡ length xs-b1) (said1 : trio r1 y1b0 y1b1 ≡ ranOf x-g xs-b0 xs-b1 x-n0 x-n1 x-blockcount x-seed x-rules xs-entries xs-dat r0) (r2 : Committed) (v2 : Val) (is2 : Is Committed-ty.the-row r2 (v2 ∷ [])) (said2 : r2 ≡ answeredOf r1 (refetchOf x-g y1b0 y1b1 x-n0 x-n1 x-blockcount)) → ent 𝓤 (⋆ 𝓤 H A (At y1b0 y1b1 (‵ (fat fullShare Committed-laws.mir l0 0 v2)) (‵ (fat fullShare (tyInt w32) l11 0 v0)) (‵ (fat fullShare State-laws.mir l12 0 v1)))) (Wp 𝓤 H C Λ En t-12 (atReturn 𝓤 H En Post))
+          part-3 : (r0 : ℕ) (v0 : Val) (is0 : Is u32 r0 (v0 ∷ [])) (said0 : r0 ≡ unlimited) (r1 : State) (v1 : Val) (is1 : Is State-ty.the-row r1 (v1 ∷ [])) (y1b0 : List ℕ) (m1b0 : length y1b0 ≡ length xs-b0) (y1b1 : List ℕ) (m1b1 : length y1b1 ≡ length xs-b1) (said1 : trio r1 y1b0 y1b1 ≡ ranOf x-g xs-b0 xs-b1 x-n0 x-n1 x-blockcount x-seed x-rules x-erased xs-entries xs-dat r0) (r2 : Committed) (v2 : Val) (is2 : Is Committed-ty.the-row r2 (v2 ∷ [])) (said2 : r2 ≡ answeredOf r1 (refetchOf x-g y1b0 y1b1 x-n0 x-n1 x-blockcount)) → ent 𝓤 (⋆ 𝓤 H A (At y1b0 y1b1 (‵ (fat fullShare Committed-laws.mir l0 0 v2)) (‵ (fat fullShare (tyInt w32) l12 0 v0)) (‵ (fat fullShare State-laws.mir l13 0 v1)))) (Wp 𝓤 H C Λ En t-12 (atReturn 𝓤 H En Post))
           part-3 r0 v0 is0 said0 r1 v1 is1 y1b0 m1b0 y1b1 m1b1 said1 r2 v2 is2 said2 =
-              qed W (At y1b0 y1b1 (‵ (fat fullShare Committed-laws.mir l0 0 v2)) (‵ (fat fullShare (tyInt w32) l11 0 v0)) (‵ (fat fullShare State-laws.mir l12 0 v1))) ∵ exec ! C Λ En t-12 (atRet En Post) $
+              qed W (At y1b0 y1b1 (‵ (fat fullShare Committed-laws.mir l0 0 v2)) (‵ (fat fullShare (tyInt w32) l12 0 v0)) (‵ (fat fullShare State-laws.mir l13 0 v1))) ∵ exec ! C Λ En t-12 (atRet En Post) $
               returns ! (look ! 8 refl) $
-              forget ! 8 refl $ forget ! 9 refl $ forget ! 10 refl $ forget ! 11 refl $ forget ! 12 refl $ forget ! 13 refl $ forget ! 14 refl $ forget ! 15 refl $ forget ! 16 refl $ forget ! 17 refl $ forget ! 18 refl $ forget ! 19 refl $ forget ! 20 refl $
-              move ! (29 ∷ []) $ split ! $ move ! (10 ∷ 0 ∷ []) $ free1 ! $ split ! $ move ! (10 ∷ 0 ∷ []) $ free1 ! $ split ! $ move ! (10 ∷ 0 ∷ []) $ free1 ! $ split ! $ move ! (10 ∷ 0 ∷ []) $ free1 ! $ split ! $ move ! (10 ∷ 0 ∷ []) $ free1 ! $ split ! $ move ! (10 ∷ 0 ∷ []) $ free1 ! $ split ! $ move ! (10 ∷ 0 ∷ []) $ free1 ! $ split ! $ move ! (10 ∷ 0 ∷ []) $ free1 ! $ split ! $ move ! (10 ∷ 0 ∷ []) $ free1 ! $ split ! $ move ! (10 ∷ 0 ∷ []) $ free1 ! $ split ! $ move ! (10 ∷ 0 ∷ []) $ free1 ! $ split ! $ move ! (10 ∷ 0 ∷ []) $ free1 ! $ split ! $ move ! (10 ∷ 0 ∷ []) $ free1 ! $ split ! $ move ! (10 ∷ 0 ∷ []) $ free1 ! $ split ! $ move ! (10 ∷ 0 ∷ []) $ free1 ! $ split ! $ move ! (10 ∷ 0 ∷ []) $ free1 ! $ split ! $ move ! (10 ∷ 0 ∷ []) $ free1 ! $ split ! $ move ! (10 ∷ 0 ∷ []) $ free1 ! $ split ! $ move ! (10 ∷ 0 ∷ []) $ free1 ! $ split ! $ move ! (10 ∷ 0 ∷ []) $ free1 ! $ move ! (9 ∷ 0 ∷ []) $ free1 ! $ free0 ! $
-              by ! (exits r2 v2 y1b0 y1b1 m1b0 m1b1 is2 (commit-glue xs-b0 xs-b1 xs-entries xs-dat x-g x-n0 x-n1 x-blockcount x-seed x-rules r0 r1 y1b0 y1b1 r2 said0 said1 said2))
+              forget ! 8 refl $ forget ! 9 refl $ forget ! 10 refl $ forget ! 11 refl $ forget ! 12 refl $ forget ! 13 refl $ forget ! 14 refl $ forget ! 15 refl $ forget ! 16 refl $ forget ! 17 refl $ forget ! 18 refl $ forget ! 19 refl $ forget ! 20 refl $ forget ! 21 refl $
+              move ! (30 ∷ []) $ split ! $ move ! (10 ∷ 0 ∷ []) $ free1 ! $ split ! $ move ! (10 ∷ 0 ∷ []) $ free1 ! $ split ! $ move ! (10 ∷ 0 ∷ []) $ free1 ! $ split ! $ move ! (10 ∷ 0 ∷ []) $ free1 ! $ split ! $ move ! (10 ∷ 0 ∷ []) $ free1 ! $ split ! $ move ! (10 ∷ 0 ∷ []) $ free1 ! $ split ! $ move ! (10 ∷ 0 ∷ []) $ free1 ! $ split ! $ move ! (10 ∷ 0 ∷ []) $ free1 ! $ split ! $ move ! (10 ∷ 0 ∷ []) $ free1 ! $ split ! $ move ! (10 ∷ 0 ∷ []) $ free1 ! $ split ! $ move ! (10 ∷ 0 ∷ []) $ free1 ! $ split ! $ move ! (10 ∷ 0 ∷ []) $ free1 ! $ split ! $ move ! (10 ∷ 0 ∷ []) $ free1 ! $ split ! $ move ! (10 ∷ 0 ∷ []) $ free1 ! $ split ! $ move ! (10 ∷ 0 ∷ []) $ free1 ! $ split ! $ move ! (10 ∷ 0 ∷ []) $ free1 ! $ split ! $ move ! (10 ∷ 0 ∷ []) $ free1 ! $ split ! $ move ! (10 ∷ 0 ∷ []) $ free1 ! $ split ! $ move ! (10 ∷ 0 ∷ []) $ free1 ! $ split ! $ move ! (10 ∷ 0 ∷ []) $ free1 ! $ split ! $ move ! (10 ∷ 0 ∷ []) $ free1 ! $ move ! (9 ∷ 0 ∷ []) $ free1 ! $ free0 ! $
+              by ! (exits r2 v2 y1b0 y1b1 m1b0 m1b1 is2 (commit-glue xs-b0 xs-b1 xs-entries xs-dat x-g x-n0 x-n1 x-blockcount x-seed x-rules x-erased r0 r1 y1b0 y1b1 r2 said0 said1 said2))
 
-          part-2 : (r0 : ℕ) (v0 : Val) (is0 : Is u32 r0 (v0 ∷ [])) (said0 : r0 ≡ unlimited) (r1 : State) (v1 : Val) (is1 : Is State-ty.the-row r1 (v1 ∷ [])) (y1b0 : List ℕ) (m1b0 : length y1b0 ≡ length xs-b0) (y1b1 : List ℕ) (m1b1 : length y1b1 ≡ length xs-b1) (said1 : trio r1 y1b0 y1b1 ≡ ranOf x-g xs-b0 xs-b1 x-n0 x-n1 x-blockcount x-seed x-rules xs-entries xs-dat r0) → ent 𝓤 (⋆ 𝓤 H A (At y1b0 y1b1 (‵ (froom Committed-laws.mir l0 0)) (‵ (fat fullShare (tyInt w32) l11 0 v0)) (‵ (fat fullShare State-laws.mir l12 0 v1)))) (Wp 𝓤 H C Λ En t-7 (atReturn 𝓤 H En Post))
+          part-2 : (r0 : ℕ) (v0 : Val) (is0 : Is u32 r0 (v0 ∷ [])) (said0 : r0 ≡ unlimited) (r1 : State) (v1 : Val) (is1 : Is State-ty.the-row r1 (v1 ∷ [])) (y1b0 : List ℕ) (m1b0 : length y1b0 ≡ length xs-b0) (y1b1 : List ℕ) (m1b1 : length y1b1 ≡ length xs-b1) (said1 : trio r1 y1b0 y1b1 ≡ ranOf x-g xs-b0 xs-b1 x-n0 x-n1 x-blockcount x-seed x-rules x-erased xs-entries xs-dat r0) → ent 𝓤 (⋆ 𝓤 H A (At y1b0 y1b1 (‵ (froom Committed-laws.mir l0 0)) (‵ (fat fullShare (tyInt w32) l12 0 v0)) (‵ (fat fullShare State-laws.mir l13 0 v1)))) (Wp 𝓤 H C Λ En t-7 (atReturn 𝓤 H En Post))
           part-2 r0 v0 is0 said0 r1 v1 is1 y1b0 m1b0 y1b1 m1b1 said1 =
-              qed W (At y1b0 y1b1 (‵ (froom Committed-laws.mir l0 0)) (‵ (fat fullShare (tyInt w32) l11 0 v0)) (‵ (fat fullShare State-laws.mir l12 0 v1))) ∵ exec ! C Λ En t-7 (atRet En Post) $
-              assigns ! (addr ! (from ! (fld ! refl (hop ! (look-in ! 10 (sub ! 0 refl (whole !))) (stop !))))) (from ! (stop !)) (init ! 25 refl (tt, tt)) $
-              assigns ! (agg ! (and-then ! (load ! (from ! (stop !)) (look ! 25 refl)) (and-then ! (load ! (from ! (fld ! refl (stop !))) (look-in ! 10 (sub ! 1 refl (whole !)))) (no-more !)))) (from ! (stop !)) (init ! 26 refl (tt, (tt, (record { fits = g-b0 .0 }, tt)))) $
-              assigns ! (addr ! (from ! (fld ! refl (hop ! (look-in ! 11 (sub ! 0 refl (whole !))) (stop !))))) (from ! (stop !)) (init ! 27 refl (tt, tt)) $
-              assigns ! (agg ! (and-then ! (load ! (from ! (stop !)) (look ! 27 refl)) (and-then ! (load ! (from ! (fld ! refl (stop !))) (look-in ! 11 (sub ! 1 refl (whole !)))) (no-more !)))) (from ! (stop !)) (init ! 28 refl (tt, (tt, (record { fits = g-b1 .0 }, tt)))) $
+              qed W (At y1b0 y1b1 (‵ (froom Committed-laws.mir l0 0)) (‵ (fat fullShare (tyInt w32) l12 0 v0)) (‵ (fat fullShare State-laws.mir l13 0 v1))) ∵ exec ! C Λ En t-7 (atRet En Post) $
+              assigns ! (addr ! (from ! (fld ! refl (hop ! (look-in ! 10 (sub ! 0 refl (whole !))) (stop !))))) (from ! (stop !)) (init ! 26 refl (tt, tt)) $
+              assigns ! (agg ! (and-then ! (load ! (from ! (stop !)) (look ! 26 refl)) (and-then ! (load ! (from ! (fld ! refl (stop !))) (look-in ! 10 (sub ! 1 refl (whole !)))) (no-more !)))) (from ! (stop !)) (init ! 27 refl (tt, (tt, (record { fits = g-b0 .0 }, tt)))) $
+              assigns ! (addr ! (from ! (fld ! refl (hop ! (look-in ! 11 (sub ! 0 refl (whole !))) (stop !))))) (from ! (stop !)) (init ! 28 refl (tt, tt)) $
+              assigns ! (agg ! (and-then ! (load ! (from ! (stop !)) (look ! 28 refl)) (and-then ! (load ! (from ! (fld ! refl (stop !))) (look-in ! 11 (sub ! 1 refl (whole !)))) (no-more !)))) (from ! (stop !)) (init ! 29 refl (tt, (tt, (record { fits = g-b1 .0 }, tt)))) $
               lft-new ! tt (λ ν2b0. move ! (1 ∷ 5 ∷ []) $ use2 W (later (some (λ (δ : GName). ‵ (ShrSlice (named 0) (ν2b0 ∷ []) u8 .own (ref-b0 δ y1b0) (s-b0 ∷ [])) ⊛ ‵ (LentShared u8 κ-b0 (ν2b0 ∷ []) q-b0 γ-b0 b-b0 o-b0 y1b0)))) (shares-at u8 κ-b0 (ν2b0 ∷ []) q-b0 γ-b0 b-b0 o-b0 𝓤 H A W (named 0) (named 0) y1b0 (length xs-b0) m1b0) $ await ! tt $ pick ! (λ δ2b0. split ! $
               lft-new ! tt (λ ν2b1. move ! (4 ∷ 7 ∷ []) $ use2 W (later (some (λ (δ : GName). ‵ (ShrSlice (named 1) (ν2b1 ∷ []) u8 .own (ref-b1 δ y1b1) (s-b1 ∷ [])) ⊛ ‵ (LentShared u8 κ-b1 (ν2b1 ∷ []) q-b1 γ-b1 b-b1 o-b1 y1b1)))) (shares-at u8 κ-b1 (ν2b1 ∷ []) q-b1 γ-b1 b-b1 o-b1 𝓤 H A W (named 1) (named 1) y1b1 (length xs-b1) m1b1) $ await ! tt $ pick ! (λ δ2b1. split ! $
               move ! (5 ∷ 2 ∷ 3 ∷ 0 ∷ []) $ group ! 4 $ use1 W (raw (K-answer .pre (((((ν2b0 ∷ []), ((ν2b1 ∷ []), tt))), ((fullShare, (fullShare, tt))), tt, (r1, (x-g, ((ref-b0 δ2b0 y1b0), ((ref-b1 δ2b1 y1b1), (x-n0, (x-n1, (x-blockcount, tt))))))), (v1 ∷ [], (v-g ∷ [], (s-b0 ∷ [], (s-b1 ∷ [], (v-n0 ∷ [], (v-n1 ∷ [], (v-blockcount ∷ [], tt)))))))), tt))) (goes-2 r1 v1 is1 x-g v-g g-g ν2b0 δ2b0 y1b0 ν2b1 δ2b1 y1b1 x-n0 v-n0 g-n0 x-n1 v-n1 g-n1 x-blockcount v-blockcount g-blockcount) $
-              calls-at ! fm K-answer known-answer (((((ν2b0 ∷ []), ((ν2b1 ∷ []), tt))), ((fullShare, (fullShare, tt))), tt, (r1, (x-g, ((ref-b0 δ2b0 y1b0), ((ref-b1 δ2b1 y1b1), (x-n0, (x-n1, (x-blockcount, tt))))))), (v1 ∷ [], (v-g ∷ [], (s-b0 ∷ [], (s-b1 ∷ [], (v-n0 ∷ [], (v-n1 ∷ [], (v-blockcount ∷ [], tt)))))))), tt) (and-then ! (load ! (from ! (stop !)) (look ! 19 refl)) (and-then ! (load ! (from ! (stop !)) (look ! 8 refl)) (and-then ! (load ! (from ! (stop !)) (look ! 25 refl)) (and-then ! (load ! (from ! (stop !)) (look ! 27 refl)) (and-then ! (load ! (from ! (stop !)) (look ! 11 refl)) (and-then ! (load ! (from ! (stop !)) (look ! 12 refl)) (and-then ! (load ! (from ! (stop !)) (look ! 13 refl)) (no-more !)))))))) (λ v2.
+              calls-at ! fm K-answer known-answer (((((ν2b0 ∷ []), ((ν2b1 ∷ []), tt))), ((fullShare, (fullShare, tt))), tt, (r1, (x-g, ((ref-b0 δ2b0 y1b0), ((ref-b1 δ2b1 y1b1), (x-n0, (x-n1, (x-blockcount, tt))))))), (v1 ∷ [], (v-g ∷ [], (s-b0 ∷ [], (s-b1 ∷ [], (v-n0 ∷ [], (v-n1 ∷ [], (v-blockcount ∷ [], tt)))))))), tt) (and-then ! (load ! (from ! (stop !)) (look ! 20 refl)) (and-then ! (load ! (from ! (stop !)) (look ! 8 refl)) (and-then ! (load ! (from ! (stop !)) (look ! 26 refl)) (and-then ! (load ! (from ! (stop !)) (look ! 28 refl)) (and-then ! (load ! (from ! (stop !)) (look ! 11 refl)) (and-then ! (load ! (from ! (stop !)) (look ! 12 refl)) (and-then ! (load ! (from ! (stop !)) (look ! 13 refl)) (no-more !)))))))) (λ v2.
               use1 W (later (some (λ (r2 : Committed). ((‵ (flft (ν2b0 ∷ []) fullShare) ⊛ ‵ (flft (ν2b1 ∷ []) fullShare) ⊛ ‵ ftrue) ⊛ ‵ (Committed-ty.the-row .own r2 (v2 ∷ []))) ⊛ raw (ensured 𝓤 H A answer-fn.ended (answer-fn.clauses 𝓤 H A at-mem run) ((ν2b0 ∷ []), ((ν2b1 ∷ []), tt)) (r1, (x-g, ((ref-b0 δ2b0 y1b0), ((ref-b1 δ2b1 y1b1), (x-n0, (x-n1, (x-blockcount, tt))))))) tt r2)))) (id⊢ 𝓤 _) $ await ! tt $ pick ! (λ r2. split ! $ move ! (1 ∷ []) $
               use1 W (some (λ (ws2 : Unit {0} × (Unit {0} × (Unit {0} × (Unit {0} × (Unit {0} × (Unit {0} × (Unit {0} × Unit {0}))))))). ‵ (lasts answer-fn.ended ((ν2b0 ∷ []), ((ν2b1 ∷ []), tt)) (r1, (x-g, ((ref-b0 δ2b0 y1b0), ((ref-b1 δ2b1 y1b1), (x-n0, (x-n1, (x-blockcount, tt))))))) ws2) ⊛ raw (fact 𝓤 (r2 ≡ answeredOf r1 (refetchOf x-g y1b0 y1b1 x-n0 x-n1 x-blockcount))))) (id⊢ 𝓤 _) $ pick ! (λ ws2. split ! $ move ! (1 ∷ []) $ heard ! (r2 ≡ answeredOf r1 (refetchOf x-g y1b0 y1b1 x-n0 x-n1 x-blockcount)) (λ said2.
               fsplit ! $ move ! (1 ∷ []) $ fsplit ! $ move ! (1 ∷ []) $ fsplit ! $ move ! (1 ∷ []) $ fsplit ! $ move ! (1 ∷ []) $ fsplit ! $ move ! (1 ∷ []) $ fsplit ! $ move ! (1 ∷ []) $ fsplit ! $ move ! (8 ∷ []) $ split ! $ move ! (1 ∷ []) $ facts ! Committed-ty.the-row (Is Committed-ty.the-row) (shows 𝓤 H A Committed-ty.the-row) r2 (v2 ∷ []) (λ is2. land ! (from ! (stop !)) (init ! 15 refl (typed-Committed r2 v2 is2)) $
               split ! $ move ! (1 ∷ []) $ split ! $ move ! (2 ∷ []) $ lft-end ! tt $ move ! (0 ∷ 12 ∷ []) $ use2 W (later (‵ (Own-b0 y1b0) ⊛ ‵ (flft κ-b0 q-b0))) (unshared-at u8 κ-b0 (ν2b0 ∷ []) q-b0 γ-b0 b-b0 o-b0 𝓤 H A W (named 0) (named 0) y1b0 (length xs-b0) m1b0 g-b0) $ await ! tt $ split ! $
               move ! (2 ∷ []) $ lft-end ! tt $ move ! (0 ∷ 12 ∷ []) $ use2 W (later (‵ (Own-b1 y1b1) ⊛ ‵ (flft κ-b1 q-b1))) (unshared-at u8 κ-b1 (ν2b1 ∷ []) q-b1 γ-b1 b-b1 o-b1 𝓤 H A W (named 1) (named 1) y1b1 (length xs-b1) m1b1 g-b1) $ await ! tt $ split ! $
-              keep ! (2 ∷ 0 ∷ 13 ∷ 14 ∷ 3 ∷ 1 ∷ 15 ∷ 16 ∷ 17 ∷ 18 ∷ 19 ∷ 20 ∷ 21 ∷ 22 ∷ 23 ∷ 24 ∷ 25 ∷ 26 ∷ 27 ∷ 28 ∷ 29 ∷ 30 ∷ 31 ∷ 32 ∷ 33 ∷ 34 ∷ 35 ∷ 36 ∷ 37 ∷ 38 ∷ []) $
-              forget ! 25 refl $ forget ! 26 refl $ forget ! 27 refl $ forget ! 28 refl $ by ! (part-3 r0 v0 is0 said0 r1 v1 is1 y1b0 m1b0 y1b1 m1b1 said1 r2 v2 is2 said2))))))))))
+              keep ! (2 ∷ 0 ∷ 13 ∷ 14 ∷ 3 ∷ 1 ∷ 15 ∷ 16 ∷ 17 ∷ 18 ∷ 19 ∷ 20 ∷ 21 ∷ 22 ∷ 23 ∷ 24 ∷ 25 ∷ 26 ∷ 27 ∷ 28 ∷ 29 ∷ 30 ∷ 31 ∷ 32 ∷ 33 ∷ 34 ∷ 35 ∷ 36 ∷ 37 ∷ 38 ∷ 39 ∷ []) $
+              forget ! 26 refl $ forget ! 27 refl $ forget ! 28 refl $ forget ! 29 refl $ by ! (part-3 r0 v0 is0 said0 r1 v1 is1 y1b0 m1b0 y1b1 m1b1 said1 r2 v2 is2 said2))))))))))
 
-          part-1 : (r0 : ℕ) (v0 : Val) (is0 : Is u32 r0 (v0 ∷ [])) (said0 : r0 ≡ unlimited) → ent 𝓤 (⋆ 𝓤 H A (At xs-b0 xs-b1 (‵ (froom Committed-laws.mir l0 0)) (‵ (fat fullShare (tyInt w32) l11 0 v0)) (‵ (froom State-laws.mir l12 0)))) (Wp 𝓤 H C Λ En t-2 (atReturn 𝓤 H En Post))
+          part-1 : (r0 : ℕ) (v0 : Val) (is0 : Is u32 r0 (v0 ∷ [])) (said0 : r0 ≡ unlimited) → ent 𝓤 (⋆ 𝓤 H A (At xs-b0 xs-b1 (‵ (froom Committed-laws.mir l0 0)) (‵ (fat fullShare (tyInt w32) l12 0 v0)) (‵ (froom State-laws.mir l13 0)))) (Wp 𝓤 H C Λ En t-2 (atReturn 𝓤 H En Post))
           part-1 r0 v0 is0 said0 =
-              qed W (At xs-b0 xs-b1 (‵ (froom Committed-laws.mir l0 0)) (‵ (fat fullShare (tyInt w32) l11 0 v0)) (‵ (froom State-laws.mir l12 0))) ∵ exec ! C Λ En t-2 (atRet En Post) $
-              assigns ! (addr ! (from ! (fld ! refl (hop ! (look-in ! 10 (sub ! 0 refl (whole !))) (stop !))))) (from ! (stop !)) (init ! 21 refl (tt, tt)) $
-              assigns ! (agg ! (and-then ! (load ! (from ! (stop !)) (look ! 21 refl)) (and-then ! (load ! (from ! (fld ! refl (stop !))) (look-in ! 10 (sub ! 1 refl (whole !)))) (no-more !)))) (from ! (stop !)) (init ! 22 refl (tt, (tt, (record { fits = g-b0 .0 }, tt)))) $
-              assigns ! (addr ! (from ! (fld ! refl (hop ! (look-in ! 11 (sub ! 0 refl (whole !))) (stop !))))) (from ! (stop !)) (init ! 23 refl (tt, tt)) $
-              assigns ! (agg ! (and-then ! (load ! (from ! (stop !)) (look ! 23 refl)) (and-then ! (load ! (from ! (fld ! refl (stop !))) (look-in ! 11 (sub ! 1 refl (whole !)))) (no-more !)))) (from ! (stop !)) (init ! 24 refl (tt, (tt, (record { fits = g-b1 .0 }, tt)))) $
+              qed W (At xs-b0 xs-b1 (‵ (froom Committed-laws.mir l0 0)) (‵ (fat fullShare (tyInt w32) l12 0 v0)) (‵ (froom State-laws.mir l13 0))) ∵ exec ! C Λ En t-2 (atRet En Post) $
+              assigns ! (addr ! (from ! (fld ! refl (hop ! (look-in ! 10 (sub ! 0 refl (whole !))) (stop !))))) (from ! (stop !)) (init ! 22 refl (tt, tt)) $
+              assigns ! (agg ! (and-then ! (load ! (from ! (stop !)) (look ! 22 refl)) (and-then ! (load ! (from ! (fld ! refl (stop !))) (look-in ! 10 (sub ! 1 refl (whole !)))) (no-more !)))) (from ! (stop !)) (init ! 23 refl (tt, (tt, (record { fits = g-b0 .0 }, tt)))) $
+              assigns ! (addr ! (from ! (fld ! refl (hop ! (look-in ! 11 (sub ! 0 refl (whole !))) (stop !))))) (from ! (stop !)) (init ! 24 refl (tt, tt)) $
+              assigns ! (agg ! (and-then ! (load ! (from ! (stop !)) (look ! 24 refl)) (and-then ! (load ! (from ! (fld ! refl (stop !))) (look-in ! 11 (sub ! 1 refl (whole !)))) (no-more !)))) (from ! (stop !)) (init ! 25 refl (tt, (tt, (record { fits = g-b1 .0 }, tt)))) $
               lft-new ! tt (λ ν1b0. move ! (1 ∷ 5 ∷ []) $ use2 W (later (some (λ (δ : GName). ‵ (MutSlice (named 0) (ν1b0 ∷ []) u8 .own (ref-b0 δ xs-b0) (s-b0 ∷ [])) ⊛ ‵ (LentAgain u8 κ-b0 (ν1b0 ∷ []) q-b0 γ-b0 b-b0 o-b0 δ xs-b0)))) (lends-at u8 κ-b0 (ν1b0 ∷ []) q-b0 γ-b0 b-b0 o-b0 𝓤 H A W (named 0) (named 0) xs-b0 (length xs-b0) refl) $ await ! tt $ pick ! (λ δ1b0. split ! $
               lft-new ! tt (λ ν1b1. move ! (4 ∷ 7 ∷ []) $ use2 W (later (some (λ (δ : GName). ‵ (MutSlice (named 1) (ν1b1 ∷ []) u8 .own (ref-b1 δ xs-b1) (s-b1 ∷ [])) ⊛ ‵ (LentAgain u8 κ-b1 (ν1b1 ∷ []) q-b1 γ-b1 b-b1 o-b1 δ xs-b1)))) (lends-at u8 κ-b1 (ν1b1 ∷ []) q-b1 γ-b1 b-b1 o-b1 𝓤 H A W (named 1) (named 1) xs-b1 (length xs-b1) refl) $ await ! tt $ pick ! (λ δ1b1. split ! $
               move ! (6 ∷ []) $ use1 W (‵ Own-entries ⊛ ‵ Own-entries) (shr-slice-copy 𝓤 H A W (named 2) κ-entries Entry-ty.the-row .twice (ref-entries γ-entries xs-entries) (s-entries ∷ [])) $ split ! $
               move ! (8 ∷ []) $ use1 W (‵ Own-dat ⊛ ‵ Own-dat) (shr-slice-copy 𝓤 H A W (named 3) κ-dat u8 .twice (ref-dat γ-dat xs-dat) (s-dat ∷ [])) $ split ! $
-              move ! (9 ∷ 6 ∷ 10 ∷ 11 ∷ 7 ∷ 4 ∷ 2 ∷ 0 ∷ []) $ group ! 8 $ use1 W (raw (K-run .pre (((((ν1b0 ∷ []), ((ν1b1 ∷ []), (κ-entries, (κ-dat, tt))))), ((fullShare, (fullShare, (q-entries, (q-dat, tt))))), tt, (x-g, ((ref-b0 δ1b0 xs-b0), ((ref-b1 δ1b1 xs-b1), (x-n0, (x-n1, (x-blockcount, (x-seed, (x-rules, ((ref-entries γ-entries xs-entries), ((ref-dat γ-dat xs-dat), (r0, tt))))))))))), (v-g ∷ [], (s-b0 ∷ [], (s-b1 ∷ [], (v-n0 ∷ [], (v-n1 ∷ [], (v-blockcount ∷ [], (v-seed ∷ [], (v-rules ∷ [], (s-entries ∷ [], (s-dat ∷ [], (v0 ∷ [], tt)))))))))))), tt))) (goes-1 x-g v-g g-g ν1b0 δ1b0 xs-b0 ν1b1 δ1b1 xs-b1 x-n0 v-n0 g-n0 x-n1 v-n1 g-n1 x-blockcount v-blockcount g-blockcount x-seed v-seed g-seed x-rules v-rules g-rules r0 v0 is0) $
-              calls-at ! fm K-run known-run (((((ν1b0 ∷ []), ((ν1b1 ∷ []), (κ-entries, (κ-dat, tt))))), ((fullShare, (fullShare, (q-entries, (q-dat, tt))))), tt, (x-g, ((ref-b0 δ1b0 xs-b0), ((ref-b1 δ1b1 xs-b1), (x-n0, (x-n1, (x-blockcount, (x-seed, (x-rules, ((ref-entries γ-entries xs-entries), ((ref-dat γ-dat xs-dat), (r0, tt))))))))))), (v-g ∷ [], (s-b0 ∷ [], (s-b1 ∷ [], (v-n0 ∷ [], (v-n1 ∷ [], (v-blockcount ∷ [], (v-seed ∷ [], (v-rules ∷ [], (s-entries ∷ [], (s-dat ∷ [], (v0 ∷ [], tt)))))))))))), tt) (and-then ! (load ! (from ! (stop !)) (look ! 6 refl)) (and-then ! (load ! (from ! (stop !)) (look ! 19 refl)) (and-then ! (load ! (from ! (stop !)) (look ! 21 refl)) (and-then ! (load ! (from ! (stop !)) (look ! 9 refl)) (and-then ! (load ! (from ! (stop !)) (look ! 10 refl)) (and-then ! (load ! (from ! (stop !)) (look ! 11 refl)) (and-then ! (load ! (from ! (stop !)) (look ! 12 refl)) (and-then ! (load ! (from ! (stop !)) (look ! 13 refl)) (and-then ! (load ! (from ! (stop !)) (look ! 14 refl)) (and-then ! (load ! (from ! (stop !)) (look ! 15 refl)) (and-then ! (load ! (from ! (stop !)) (look ! 16 refl)) (no-more !)))))))))))) (λ v1.
-              use1 W (later (some (λ (r1 : State). ((‵ (flft (ν1b0 ∷ []) fullShare) ⊛ ‵ (flft (ν1b1 ∷ []) fullShare) ⊛ ‵ (flft κ-entries q-entries) ⊛ ‵ (flft κ-dat q-dat) ⊛ ‵ ftrue) ⊛ ‵ (State-ty.the-row .own r1 (v1 ∷ []))) ⊛ raw (ensured 𝓤 H A run-fn.ended (run-fn.clauses 𝓤 H A at-mem run) ((ν1b0 ∷ []), ((ν1b1 ∷ []), (κ-entries, (κ-dat, tt)))) (x-g, ((ref-b0 δ1b0 xs-b0), ((ref-b1 δ1b1 xs-b1), (x-n0, (x-n1, (x-blockcount, (x-seed, (x-rules, ((ref-entries γ-entries xs-entries), ((ref-dat γ-dat xs-dat), (r0, tt))))))))))) tt r1)))) (id⊢ 𝓤 _) $ await ! tt $ pick ! (λ r1. split ! $ move ! (1 ∷ []) $
-              use1 W (some (λ (ws1 : Unit {0} × (List ℕ × (List ℕ × (Unit {0} × (Unit {0} × (Unit {0} × (Unit {0} × (Unit {0} × (Unit {0} × (Unit {0} × (Unit {0} × Unit {0}))))))))))). ‵ (lasts run-fn.ended ((ν1b0 ∷ []), ((ν1b1 ∷ []), (κ-entries, (κ-dat, tt)))) (x-g, ((ref-b0 δ1b0 xs-b0), ((ref-b1 δ1b1 xs-b1), (x-n0, (x-n1, (x-blockcount, (x-seed, (x-rules, ((ref-entries γ-entries xs-entries), ((ref-dat γ-dat xs-dat), (r0, tt))))))))))) ws1) ⊛ raw (fact 𝓤 (trio r1 (ws1 .1 .0) (ws1 .1 .1 .0) ≡ ranOf x-g xs-b0 xs-b1 x-n0 x-n1 x-blockcount x-seed x-rules xs-entries xs-dat r0)))) (id⊢ 𝓤 _) $ pick ! (λ ws1. split ! $ move ! (1 ∷ []) $ heard ! (trio r1 (ws1 .1 .0) (ws1 .1 .1 .0) ≡ ranOf x-g xs-b0 xs-b1 x-n0 x-n1 x-blockcount x-seed x-rules xs-entries xs-dat r0) (λ said1.
-              fsplit ! $ move ! (1 ∷ []) $ fsplit ! $ fsplit ! $ move ! (1 ∷ []) $ feqL ! (λ l1b0. move ! (1 ∷ []) $ fsplit ! $ fsplit ! $ move ! (1 ∷ []) $ feqL ! (λ l1b1. move ! (1 ∷ []) $ fsplit ! $ move ! (1 ∷ []) $ fsplit ! $ move ! (1 ∷ []) $ fsplit ! $ move ! (1 ∷ []) $ fsplit ! $ move ! (1 ∷ []) $ fsplit ! $ move ! (1 ∷ []) $ fsplit ! $ move ! (1 ∷ []) $ fsplit ! $ move ! (1 ∷ []) $ fsplit ! $ move ! (12 ∷ []) $ split ! $ move ! (1 ∷ []) $ facts ! State-ty.the-row (Is State-ty.the-row) (shows 𝓤 H A State-ty.the-row) r1 (v1 ∷ []) (λ is1. land ! (from ! (stop !)) (init ! 29 refl (typed-State r1 v1 is1)) $
-              split ! $ move ! (1 ∷ []) $ split ! $ move ! (1 ∷ []) $ split ! $ move ! (1 ∷ []) $ split ! $ move ! (4 ∷ []) $ lft-end ! tt $ move ! (0 ∷ 20 ∷ 15 ∷ []) $ use3 W (later (‵ (Own-b0 (ws1 .1 .0)) ⊛ ‵ (flft κ-b0 q-b0))) (comes-at u8 κ-b0 (ν1b0 ∷ []) q-b0 γ-b0 b-b0 o-b0 𝓤 H A W (named 0) (named 0) xs-b0 (length xs-b0) refl δ1b0 (ws1 .1 .0) g-b0 l1b0) $ await ! tt $ split ! $
-              move ! (5 ∷ []) $ lft-end ! tt $ move ! (0 ∷ 19 ∷ 15 ∷ []) $ use3 W (later (‵ (Own-b1 (ws1 .1 .1 .0)) ⊛ ‵ (flft κ-b1 q-b1))) (comes-at u8 κ-b1 (ν1b1 ∷ []) q-b1 γ-b1 b-b1 o-b1 𝓤 H A W (named 1) (named 1) xs-b1 (length xs-b1) refl δ1b1 (ws1 .1 .1 .0) g-b1 l1b1) $ await ! tt $ split ! $
-              keep ! (2 ∷ 0 ∷ 18 ∷ 17 ∷ 3 ∷ 1 ∷ 6 ∷ 4 ∷ 19 ∷ 20 ∷ 21 ∷ 22 ∷ 23 ∷ 24 ∷ 25 ∷ 26 ∷ 27 ∷ 28 ∷ 29 ∷ 30 ∷ 31 ∷ 32 ∷ 33 ∷ 34 ∷ 35 ∷ 36 ∷ 37 ∷ 38 ∷ 39 ∷ 40 ∷ []) $
-              forget ! 21 refl $ forget ! 22 refl $ forget ! 23 refl $ forget ! 24 refl $ by ! (part-2 r0 v0 is0 said0 r1 v1 is1 (ws1 .1 .0) l1b0 (ws1 .1 .1 .0) l1b1 said1))))))))))))
+              move ! (9 ∷ 6 ∷ 10 ∷ 11 ∷ 7 ∷ 4 ∷ 2 ∷ 0 ∷ []) $ group ! 8 $ use1 W (raw (K-run .pre (((((ν1b0 ∷ []), ((ν1b1 ∷ []), (κ-entries, (κ-dat, tt))))), ((fullShare, (fullShare, (q-entries, (q-dat, tt))))), tt, (x-g, ((ref-b0 δ1b0 xs-b0), ((ref-b1 δ1b1 xs-b1), (x-n0, (x-n1, (x-blockcount, (x-seed, (x-rules, (x-erased, ((ref-entries γ-entries xs-entries), ((ref-dat γ-dat xs-dat), (r0, tt)))))))))))), (v-g ∷ [], (s-b0 ∷ [], (s-b1 ∷ [], (v-n0 ∷ [], (v-n1 ∷ [], (v-blockcount ∷ [], (v-seed ∷ [], (v-rules ∷ [], (v-erased ∷ [], (s-entries ∷ [], (s-dat ∷ [], (v0 ∷ [], tt))))))))))))), tt))) (goes-1 x-g v-g g-g ν1b0 δ1b0 xs-b0 ν1b1 δ1b1 xs-b1 x-n0 v-n0 g-n0 x-n1 v-n1 g-n1 x-blockcount v-blockcount g-blockcount x-seed v-seed g-seed x-rules v-rules g-rules x-erased v-erased g-erased r0 v0 is0) $
+              calls-at ! fm K-run known-run (((((ν1b0 ∷ []), ((ν1b1 ∷ []), (κ-entries, (κ-dat, tt))))), ((fullShare, (fullShare, (q-entries, (q-dat, tt))))), tt, (x-g, ((ref-b0 δ1b0 xs-b0), ((ref-b1 δ1b1 xs-b1), (x-n0, (x-n1, (x-blockcount, (x-seed, (x-rules, (x-erased, ((ref-entries γ-entries xs-entries), ((ref-dat γ-dat xs-dat), (r0, tt)))))))))))), (v-g ∷ [], (s-b0 ∷ [], (s-b1 ∷ [], (v-n0 ∷ [], (v-n1 ∷ [], (v-blockcount ∷ [], (v-seed ∷ [], (v-rules ∷ [], (v-erased ∷ [], (s-entries ∷ [], (s-dat ∷ [], (v0 ∷ [], tt))))))))))))), tt) (and-then ! (load ! (from ! (stop !)) (look ! 6 refl)) (and-then ! (load ! (from ! (stop !)) (look ! 20 refl)) (and-then ! (load ! (from ! (stop !)) (look ! 22 refl)) (and-then ! (load ! (from ! (stop !)) (look ! 9 refl)) (and-then ! (load ! (from ! (stop !)) (look ! 10 refl)) (and-then ! (load ! (from ! (stop !)) (look ! 11 refl)) (and-then ! (load ! (from ! (stop !)) (look ! 12 refl)) (and-then ! (load ! (from ! (stop !)) (look ! 13 refl)) (and-then ! (load ! (from ! (stop !)) (look ! 14 refl)) (and-then ! (load ! (from ! (stop !)) (look ! 15 refl)) (and-then ! (load ! (from ! (stop !)) (look ! 16 refl)) (and-then ! (load ! (from ! (stop !)) (look ! 17 refl)) (no-more !))))))))))))) (λ v1.
+              use1 W (later (some (λ (r1 : State). ((‵ (flft (ν1b0 ∷ []) fullShare) ⊛ ‵ (flft (ν1b1 ∷ []) fullShare) ⊛ ‵ (flft κ-entries q-entries) ⊛ ‵ (flft κ-dat q-dat) ⊛ ‵ ftrue) ⊛ ‵ (State-ty.the-row .own r1 (v1 ∷ []))) ⊛ raw (ensured 𝓤 H A run-fn.ended (run-fn.clauses 𝓤 H A at-mem run) ((ν1b0 ∷ []), ((ν1b1 ∷ []), (κ-entries, (κ-dat, tt)))) (x-g, ((ref-b0 δ1b0 xs-b0), ((ref-b1 δ1b1 xs-b1), (x-n0, (x-n1, (x-blockcount, (x-seed, (x-rules, (x-erased, ((ref-entries γ-entries xs-entries), ((ref-dat γ-dat xs-dat), (r0, tt)))))))))))) tt r1)))) (id⊢ 𝓤 _) $ await ! tt $ pick ! (λ r1. split ! $ move ! (1 ∷ []) $
+              use1 W (some (λ (ws1 : Unit {0} × (List ℕ × (List ℕ × (Unit {0} × (Unit {0} × (Unit {0} × (Unit {0} × (Unit {0} × (Unit {0} × (Unit {0} × (Unit {0} × (Unit {0} × Unit {0})))))))))))). ‵ (lasts run-fn.ended ((ν1b0 ∷ []), ((ν1b1 ∷ []), (κ-entries, (κ-dat, tt)))) (x-g, ((ref-b0 δ1b0 xs-b0), ((ref-b1 δ1b1 xs-b1), (x-n0, (x-n1, (x-blockcount, (x-seed, (x-rules, (x-erased, ((ref-entries γ-entries xs-entries), ((ref-dat γ-dat xs-dat), (r0, tt)))))))))))) ws1) ⊛ raw (fact 𝓤 (trio r1 (ws1 .1 .0) (ws1 .1 .1 .0) ≡ ranOf x-g xs-b0 xs-b1 x-n0 x-n1 x-blockcount x-seed x-rules x-erased xs-entries xs-dat r0)))) (id⊢ 𝓤 _) $ pick ! (λ ws1. split ! $ move ! (1 ∷ []) $ heard ! (trio r1 (ws1 .1 .0) (ws1 .1 .1 .0) ≡ ranOf x-g xs-b0 xs-b1 x-n0 x-n1 x-blockcount x-seed x-rules x-erased xs-entries xs-dat r0) (λ said1.
+              fsplit ! $ move ! (1 ∷ []) $ fsplit ! $ fsplit ! $ move ! (1 ∷ []) $ feqL ! (λ l1b0. move ! (1 ∷ []) $ fsplit ! $ fsplit ! $ move ! (1 ∷ []) $ feqL ! (λ l1b1. move ! (1 ∷ []) $ fsplit ! $ move ! (1 ∷ []) $ fsplit ! $ move ! (1 ∷ []) $ fsplit ! $ move ! (1 ∷ []) $ fsplit ! $ move ! (1 ∷ []) $ fsplit ! $ move ! (1 ∷ []) $ fsplit ! $ move ! (1 ∷ []) $ fsplit ! $ move ! (1 ∷ []) $ fsplit ! $ move ! (1 ∷ []) $ fsplit ! $ move ! (13 ∷ []) $ split ! $ move ! (1 ∷ []) $ facts ! State-ty.the-row (Is State-ty.the-row) (shows 𝓤 H A State-ty.the-row) r1 (v1 ∷ []) (λ is1. land ! (from ! (stop !)) (init ! 31 refl (typed-State r1 v1 is1)) $
+              split ! $ move ! (1 ∷ []) $ split ! $ move ! (1 ∷ []) $ split ! $ move ! (1 ∷ []) $ split ! $ move ! (4 ∷ []) $ lft-end ! tt $ move ! (0 ∷ 21 ∷ 16 ∷ []) $ use3 W (later (‵ (Own-b0 (ws1 .1 .0)) ⊛ ‵ (flft κ-b0 q-b0))) (comes-at u8 κ-b0 (ν1b0 ∷ []) q-b0 γ-b0 b-b0 o-b0 𝓤 H A W (named 0) (named 0) xs-b0 (length xs-b0) refl δ1b0 (ws1 .1 .0) g-b0 l1b0) $ await ! tt $ split ! $
+              move ! (5 ∷ []) $ lft-end ! tt $ move ! (0 ∷ 20 ∷ 16 ∷ []) $ use3 W (later (‵ (Own-b1 (ws1 .1 .1 .0)) ⊛ ‵ (flft κ-b1 q-b1))) (comes-at u8 κ-b1 (ν1b1 ∷ []) q-b1 γ-b1 b-b1 o-b1 𝓤 H A W (named 1) (named 1) xs-b1 (length xs-b1) refl δ1b1 (ws1 .1 .1 .0) g-b1 l1b1) $ await ! tt $ split ! $
+              keep ! (2 ∷ 0 ∷ 19 ∷ 18 ∷ 3 ∷ 1 ∷ 6 ∷ 4 ∷ 20 ∷ 21 ∷ 22 ∷ 23 ∷ 24 ∷ 25 ∷ 26 ∷ 27 ∷ 28 ∷ 29 ∷ 30 ∷ 31 ∷ 32 ∷ 33 ∷ 34 ∷ 35 ∷ 36 ∷ 37 ∷ 38 ∷ 39 ∷ 40 ∷ 41 ∷ 42 ∷ []) $
+              forget ! 22 refl $ forget ! 23 refl $ forget ! 24 refl $ forget ! 25 refl $ by ! (part-2 r0 v0 is0 said0 r1 v1 is1 (ws1 .1 .0) l1b0 (ws1 .1 .1 .0) l1b1 said1))))))))))))
 
           body : ent 𝓤 (⋆ 𝓤 H A Start) (Wp 𝓤 H C Λ En t-1 (atReturn 𝓤 H En Post))
           body =
@@ -312,30 +312,30 @@ module _ {M : Type 1} (𝓤 : URA M) (H : Heap 𝓤) (A : Atoms 𝓤) (W : Given
               calls-at ! fm K-unlimited known-unlimited (((tt), (tt), tt, tt, tt), tt) (no-more !) (λ v0.
               use1 W (later (some (λ (r0 : ℕ). ((‵ ftrue) ⊛ ‵ (u32 .own r0 (v0 ∷ []))) ⊛ raw (ensured 𝓤 H A unlimited-fn.ended (unlimited-fn.clauses 𝓤 H A at-mem run) tt tt tt r0)))) (id⊢ 𝓤 _) $ await ! tt $ pick ! (λ r0. split ! $ move ! (1 ∷ []) $
               use1 W (some (λ (ws0 : Unit {0}). ‵ (lasts unlimited-fn.ended tt tt ws0) ⊛ raw (fact 𝓤 (r0 ≡ unlimited)))) (id⊢ 𝓤 _) $ pick ! (λ ws0. split ! $ move ! (1 ∷ []) $ heard ! (r0 ≡ unlimited) (λ said0.
-              move ! (1 ∷ []) $ split ! $ move ! (1 ∷ []) $ facts ! u32 (Is u32) (shows 𝓤 H A u32) r0 (v0 ∷ []) (λ is0. land ! (from ! (stop !)) (init ! 21 refl (uint-lawful 𝓤 H A W w32 .typed r0 _ is0 .0)) $
-              keep ! (2 ∷ 3 ∷ 4 ∷ 5 ∷ 6 ∷ 7 ∷ 8 ∷ 9 ∷ 10 ∷ 11 ∷ 12 ∷ 13 ∷ 14 ∷ 15 ∷ 16 ∷ 17 ∷ 18 ∷ 19 ∷ 20 ∷ 21 ∷ 22 ∷ 23 ∷ 24 ∷ 25 ∷ 26 ∷ 27 ∷ 28 ∷ 29 ∷ 30 ∷ 31 ∷ []) $
+              move ! (1 ∷ []) $ split ! $ move ! (1 ∷ []) $ facts ! u32 (Is u32) (shows 𝓤 H A u32) r0 (v0 ∷ []) (λ is0. land ! (from ! (stop !)) (init ! 22 refl (uint-lawful 𝓤 H A W w32 .typed r0 _ is0 .0)) $
+              keep ! (2 ∷ 3 ∷ 4 ∷ 5 ∷ 6 ∷ 7 ∷ 8 ∷ 9 ∷ 10 ∷ 11 ∷ 12 ∷ 13 ∷ 14 ∷ 15 ∷ 16 ∷ 17 ∷ 18 ∷ 19 ∷ 20 ∷ 21 ∷ 22 ∷ 23 ∷ 24 ∷ 25 ∷ 26 ∷ 27 ∷ 28 ∷ 29 ∷ 30 ∷ 31 ∷ 32 ∷ []) $
               by ! (part-1 r0 v0 is0 said0))))))
 
-        begins : ent 𝓤 (⋆ 𝓤 H A Had) (WpFn 𝓤 H C Λ plainly (v-g ∷ s-b0 ∷ s-b1 ∷ v-n0 ∷ v-n1 ∷ v-blockcount ∷ v-seed ∷ v-rules ∷ s-entries ∷ s-dat ∷ []) Post)
+        begins : ent 𝓤 (⋆ 𝓤 H A Had) (WpFn 𝓤 H C Λ plainly (v-g ∷ s-b0 ∷ s-b1 ∷ v-n0 ∷ v-n1 ∷ v-blockcount ∷ v-seed ∷ v-rules ∷ v-erased ∷ s-entries ∷ s-dat ∷ []) Post)
         begins =
-            qed W Had ∵ enter ! C Λ plainly (v-g ∷ s-b0 ∷ s-b1 ∷ v-n0 ∷ v-n1 ∷ v-blockcount ∷ v-seed ∷ v-rules ∷ s-entries ∷ s-dat ∷ []) _ $
-            alloc1 ! (λ l0. alloc1 ! (λ l1. alloc1 ! (λ l2. alloc1 ! (λ l3. alloc1 ! (λ l4. alloc1 ! (λ l5. alloc1 ! (λ l6. alloc1 ! (λ l7. alloc1 ! (λ l8. alloc1 ! (λ l9. alloc1 ! (λ l10. alloc1 ! (λ l11. alloc1 ! (λ l12. alloc1 ! (λ l13. alloc1 ! (λ l14. alloc1 ! (λ l15. alloc1 ! (λ l16. alloc1 ! (λ l17. alloc1 ! (λ l18. alloc1 ! (λ l19. alloc1 ! (λ l20. alloc0 ! $ params1 ! $
-            pass1 ! (init ! 38 refl (typed-Geometry x-g v-g g-g)) $ pass1 ! (init ! 36 refl (tt, (tt, (record { fits = g-b0 .0 }, tt)))) $ pass1 ! (init ! 34 refl (tt, (tt, (record { fits = g-b1 .0 }, tt)))) $ pass1 ! (init ! 32 refl (uint-lawful 𝓤 H A W w32 .typed x-n0 _ g-n0 .0)) $ pass1 ! (init ! 30 refl (uint-lawful 𝓤 H A W w32 .typed x-n1 _ g-n1 .0)) $ pass1 ! (init ! 28 refl (uint-lawful 𝓤 H A W w32 .typed x-blockcount _ g-blockcount .0)) $ pass1 ! (init ! 26 refl (uint-lawful 𝓤 H A W w32 .typed x-seed _ g-seed .0)) $ pass1 ! (init ! 24 refl (uint-lawful 𝓤 H A W w32 .typed x-rules _ g-rules .0)) $ pass1 ! (init ! 22 refl (tt, (tt, (record { fits = g-entries .0 }, tt)))) $ pass1 ! (init ! 20 refl (tt, (tt, (record { fits = g-dat .0 }, tt)))) $ pass0 ! $
-            move ! (41 ∷ 39 ∷ 37 ∷ 35 ∷ 33 ∷ 31 ∷ 29 ∷ 27 ∷ 25 ∷ 23 ∷ 21 ∷ 19 ∷ 17 ∷ 15 ∷ 13 ∷ 11 ∷ 9 ∷ 7 ∷ 5 ∷ 3 ∷ 1 ∷ []) $ group ! 21 $ keep ! (22 ∷ 23 ∷ 24 ∷ 25 ∷ 26 ∷ 27 ∷ 28 ∷ 29 ∷ 21 ∷ 20 ∷ 19 ∷ 18 ∷ 17 ∷ 16 ∷ 15 ∷ 14 ∷ 13 ∷ 12 ∷ 11 ∷ 10 ∷ 9 ∷ 8 ∷ 7 ∷ 6 ∷ 5 ∷ 4 ∷ 3 ∷ 2 ∷ 1 ∷ 0 ∷ []) $
-            by ! (body l0 l1 l2 l3 l4 l5 l6 l7 l8 l9 l10 l11 l12 l13 l14 l15 l16 l17 l18 l19 l20))))))))))))))))))))))
+            qed W Had ∵ enter ! C Λ plainly (v-g ∷ s-b0 ∷ s-b1 ∷ v-n0 ∷ v-n1 ∷ v-blockcount ∷ v-seed ∷ v-rules ∷ v-erased ∷ s-entries ∷ s-dat ∷ []) _ $
+            alloc1 ! (λ l0. alloc1 ! (λ l1. alloc1 ! (λ l2. alloc1 ! (λ l3. alloc1 ! (λ l4. alloc1 ! (λ l5. alloc1 ! (λ l6. alloc1 ! (λ l7. alloc1 ! (λ l8. alloc1 ! (λ l9. alloc1 ! (λ l10. alloc1 ! (λ l11. alloc1 ! (λ l12. alloc1 ! (λ l13. alloc1 ! (λ l14. alloc1 ! (λ l15. alloc1 ! (λ l16. alloc1 ! (λ l17. alloc1 ! (λ l18. alloc1 ! (λ l19. alloc1 ! (λ l20. alloc1 ! (λ l21. alloc0 ! $ params1 ! $
+            pass1 ! (init ! 40 refl (typed-Geometry x-g v-g g-g)) $ pass1 ! (init ! 38 refl (tt, (tt, (record { fits = g-b0 .0 }, tt)))) $ pass1 ! (init ! 36 refl (tt, (tt, (record { fits = g-b1 .0 }, tt)))) $ pass1 ! (init ! 34 refl (uint-lawful 𝓤 H A W w32 .typed x-n0 _ g-n0 .0)) $ pass1 ! (init ! 32 refl (uint-lawful 𝓤 H A W w32 .typed x-n1 _ g-n1 .0)) $ pass1 ! (init ! 30 refl (uint-lawful 𝓤 H A W w32 .typed x-blockcount _ g-blockcount .0)) $ pass1 ! (init ! 28 refl (uint-lawful 𝓤 H A W w32 .typed x-seed _ g-seed .0)) $ pass1 ! (init ! 26 refl (uint-lawful 𝓤 H A W w32 .typed x-rules _ g-rules .0)) $ pass1 ! (init ! 24 refl (uint-lawful 𝓤 H A W w8 .typed x-erased _ g-erased .0)) $ pass1 ! (init ! 22 refl (tt, (tt, (record { fits = g-entries .0 }, tt)))) $ pass1 ! (init ! 20 refl (tt, (tt, (record { fits = g-dat .0 }, tt)))) $ pass0 ! $
+            move ! (43 ∷ 41 ∷ 39 ∷ 37 ∷ 35 ∷ 33 ∷ 31 ∷ 29 ∷ 27 ∷ 25 ∷ 23 ∷ 21 ∷ 19 ∷ 17 ∷ 15 ∷ 13 ∷ 11 ∷ 9 ∷ 7 ∷ 5 ∷ 3 ∷ 1 ∷ []) $ group ! 22 $ keep ! (23 ∷ 24 ∷ 25 ∷ 26 ∷ 27 ∷ 28 ∷ 29 ∷ 30 ∷ 22 ∷ 21 ∷ 20 ∷ 19 ∷ 18 ∷ 17 ∷ 16 ∷ 15 ∷ 14 ∷ 13 ∷ 12 ∷ 11 ∷ 10 ∷ 9 ∷ 8 ∷ 7 ∷ 6 ∷ 5 ∷ 4 ∷ 3 ∷ 2 ∷ 1 ∷ 0 ∷ []) $
+            by ! (body l0 l1 l2 l3 l4 l5 l6 l7 l8 l9 l10 l11 l12 l13 l14 l15 l16 l17 l18 l19 l20 l21)))))))))))))))))))))))
 
-        walk : ent 𝓤 (onEntry 𝓤 H A f.signature (κ-b0, (κ-b1, (κ-entries, (κ-dat, tt)))) (q-b0, (q-b1, (q-entries, (q-dat, tt)))) x at) (WpFn 𝓤 H C Λ code.function (v-g ∷ s-b0 ∷ s-b1 ∷ v-n0 ∷ v-n1 ∷ v-blockcount ∷ v-seed ∷ v-rules ∷ s-entries ∷ s-dat ∷ []) Post)
-        walk = apart (WpFn 𝓤 H C Λ code.function (v-g ∷ s-b0 ∷ s-b1 ∷ v-n0 ∷ v-n1 ∷ v-blockcount ∷ v-seed ∷ v-rules ∷ s-entries ∷ s-dat ∷ []) Post) begins
+        walk : ent 𝓤 (onEntry 𝓤 H A f.signature (κ-b0, (κ-b1, (κ-entries, (κ-dat, tt)))) (q-b0, (q-b1, (q-entries, (q-dat, tt)))) x at) (WpFn 𝓤 H C Λ code.function (v-g ∷ s-b0 ∷ s-b1 ∷ v-n0 ∷ v-n1 ∷ v-blockcount ∷ v-seed ∷ v-rules ∷ v-erased ∷ s-entries ∷ s-dat ∷ []) Post)
+        walk = apart (WpFn 𝓤 H C Λ code.function (v-g ∷ s-b0 ∷ s-b1 ∷ v-n0 ∷ v-n1 ∷ v-blockcount ∷ v-seed ∷ v-rules ∷ v-erased ∷ s-entries ∷ s-dat ∷ []) Post) begins
 
   walks : (𝓣 : Tables 𝓤 H) → FmC 𝓤 H (W .laws) (𝓣 .C) → Triple 𝓤 (𝓣 .C #unlimited) K-unlimited → Triple 𝓤 (𝓣 .C #run) K-run → Triple 𝓤 (𝓣 .C #answer) K-answer → Walks 𝓤 H A f.ended stayed (WpFn 𝓤 H (𝓣 .C) (𝓣 .Λ) code.function) (f.clauses 𝓤 H A at-mem run)
-  walks 𝓣 fm known-unlimited known-run known-answer = walked 𝓤 H A f.ended stayed (f.clauses 𝓤 H A at-mem run) (WpFn 𝓤 H (𝓣 .C) (𝓣 .Λ) code.function) (λ κs. (LL.vals Geometry-ty.the-type Geometry-laws.the-laws, (slice-vals, (slice-vals, (uint-vals w32, (uint-vals w32, (uint-vals w32, (uint-vals w32, (uint-vals w32, (slice-vals, (slice-vals, tt)))))))))))
-      (λ κs. (LL.tells Geometry-ty.the-type Geometry-laws.the-laws, (mut-slice-tells (named 0) (κs .0) u8, (mut-slice-tells (named 1) (κs .1 .0) u8, (uint-tells w32, (uint-tells w32, (uint-tells w32, (uint-tells w32, (uint-tells w32, (shr-slice-tells (named 2) (κs .1 .1 .0) Entry-ty.the-row, (shr-slice-tells (named 3) (κs .1 .1 .1 .0) u8, tt)))))))))))
-      (λ κs qs bounds a g are. via 𝓤 _ (fst∗ 𝓤 _ (emp 𝓤)) (walk (κs .0) (κs .1 .0) (κs .1 .1 .0) (κs .1 .1 .1 .0) (qs .0) (qs .1 .0) (qs .1 .1 .0) (qs .1 .1 .1 .0) (a .0) (mach-Geometry (a .0)) (a .1 .0 .ptr .0) (a .1 .0 .ptr .1) (a .1 .0 .name) (a .1 .0 .now) (a .1 .1 .0 .ptr .0) (a .1 .1 .0 .ptr .1) (a .1 .1 .0 .name) (a .1 .1 .0 .now) (a .1 .1 .1 .0) (vint w32 (a .1 .1 .1 .0)) (a .1 .1 .1 .1 .0) (vint w32 (a .1 .1 .1 .1 .0)) (a .1 .1 .1 .1 .1 .0) (vint w32 (a .1 .1 .1 .1 .1 .0)) (a .1 .1 .1 .1 .1 .1 .0) (vint w32 (a .1 .1 .1 .1 .1 .1 .0)) (a .1 .1 .1 .1 .1 .1 .1 .0) (vint w32 (a .1 .1 .1 .1 .1 .1 .1 .0)) (a .1 .1 .1 .1 .1 .1 .1 .1 .0 .ptr .0) (a .1 .1 .1 .1 .1 .1 .1 .1 .0 .ptr .1) (a .1 .1 .1 .1 .1 .1 .1 .1 .0 .name) (a .1 .1 .1 .1 .1 .1 .1 .1 .0 .now) (a .1 .1 .1 .1 .1 .1 .1 .1 .1 .0 .ptr .0) (a .1 .1 .1 .1 .1 .1 .1 .1 .1 .0 .ptr .1) (a .1 .1 .1 .1 .1 .1 .1 .1 .1 .0 .name) (a .1 .1 .1 .1 .1 .1 .1 .1 .1 .0 .now) (are .0) (are .1 .0 .0 .1) (are .1 .1 .0 .0 .1) (are .1 .1 .1 .0) (are .1 .1 .1 .1 .0) (are .1 .1 .1 .1 .1 .0) (are .1 .1 .1 .1 .1 .1 .0) (are .1 .1 .1 .1 .1 .1 .1 .0) (are .1 .1 .1 .1 .1 .1 .1 .1 .0 .0 .1) (are .1 .1 .1 .1 .1 .1 .1 .1 .1 .0 .0 .1) 𝓣 fm known-unlimited known-run known-answer))
+  walks 𝓣 fm known-unlimited known-run known-answer = walked 𝓤 H A f.ended stayed (f.clauses 𝓤 H A at-mem run) (WpFn 𝓤 H (𝓣 .C) (𝓣 .Λ) code.function) (λ κs. (LL.vals Geometry-ty.the-type Geometry-laws.the-laws, (slice-vals, (slice-vals, (uint-vals w32, (uint-vals w32, (uint-vals w32, (uint-vals w32, (uint-vals w32, (uint-vals w8, (slice-vals, (slice-vals, tt))))))))))))
+      (λ κs. (LL.tells Geometry-ty.the-type Geometry-laws.the-laws, (mut-slice-tells (named 0) (κs .0) u8, (mut-slice-tells (named 1) (κs .1 .0) u8, (uint-tells w32, (uint-tells w32, (uint-tells w32, (uint-tells w32, (uint-tells w32, (uint-tells w8, (shr-slice-tells (named 2) (κs .1 .1 .0) Entry-ty.the-row, (shr-slice-tells (named 3) (κs .1 .1 .1 .0) u8, tt))))))))))))
+      (λ κs qs bounds a g are. via 𝓤 _ (fst∗ 𝓤 _ (emp 𝓤)) (walk (κs .0) (κs .1 .0) (κs .1 .1 .0) (κs .1 .1 .1 .0) (qs .0) (qs .1 .0) (qs .1 .1 .0) (qs .1 .1 .1 .0) (a .0) (mach-Geometry (a .0)) (a .1 .0 .ptr .0) (a .1 .0 .ptr .1) (a .1 .0 .name) (a .1 .0 .now) (a .1 .1 .0 .ptr .0) (a .1 .1 .0 .ptr .1) (a .1 .1 .0 .name) (a .1 .1 .0 .now) (a .1 .1 .1 .0) (vint w32 (a .1 .1 .1 .0)) (a .1 .1 .1 .1 .0) (vint w32 (a .1 .1 .1 .1 .0)) (a .1 .1 .1 .1 .1 .0) (vint w32 (a .1 .1 .1 .1 .1 .0)) (a .1 .1 .1 .1 .1 .1 .0) (vint w32 (a .1 .1 .1 .1 .1 .1 .0)) (a .1 .1 .1 .1 .1 .1 .1 .0) (vint w32 (a .1 .1 .1 .1 .1 .1 .1 .0)) (a .1 .1 .1 .1 .1 .1 .1 .1 .0) (vint w8 (a .1 .1 .1 .1 .1 .1 .1 .1 .0)) (a .1 .1 .1 .1 .1 .1 .1 .1 .1 .0 .ptr .0) (a .1 .1 .1 .1 .1 .1 .1 .1 .1 .0 .ptr .1) (a .1 .1 .1 .1 .1 .1 .1 .1 .1 .0 .name) (a .1 .1 .1 .1 .1 .1 .1 .1 .1 .0 .now) (a .1 .1 .1 .1 .1 .1 .1 .1 .1 .1 .0 .ptr .0) (a .1 .1 .1 .1 .1 .1 .1 .1 .1 .1 .0 .ptr .1) (a .1 .1 .1 .1 .1 .1 .1 .1 .1 .1 .0 .name) (a .1 .1 .1 .1 .1 .1 .1 .1 .1 .1 .0 .now) (are .0) (are .1 .0 .0 .1) (are .1 .1 .0 .0 .1) (are .1 .1 .1 .0) (are .1 .1 .1 .1 .0) (are .1 .1 .1 .1 .1 .0) (are .1 .1 .1 .1 .1 .1 .0) (are .1 .1 .1 .1 .1 .1 .1 .0) (are .1 .1 .1 .1 .1 .1 .1 .1 .0) (are .1 .1 .1 .1 .1 .1 .1 .1 .1 .0 .0 .1) (are .1 .1 .1 .1 .1 .1 .1 .1 .1 .1 .0 .0 .1) 𝓣 fm known-unlimited known-run known-answer))
 
 meets : {M : Type 1} (𝓤 : URA M) (H : Heap 𝓤) (A : Atoms 𝓤) (W : Given 𝓤 H A) (mem : Memory → SProp 𝓤) (run : Routine → Fun 𝓤) (𝓣 : Tables 𝓤 H) → Triple 𝓤 (𝓣 .C #unlimited) (K-unlimited 𝓤 H A W mem run) → Triple 𝓤 (𝓣 .C #run) (K-run 𝓤 H A W mem run) → Triple 𝓤 (𝓣 .C #answer) (K-answer 𝓤 H A W mem run)
     → Meets 𝓤 H A f.signature (WpFn 𝓤 H (𝓣 .C) (𝓣 .Λ) code.function) (f.spec 𝓤 H A mem run)
 meets 𝓤 H A W mem run 𝓣 known-unlimited known-run known-answer =
-    walk-meets 𝓤 H A f.ended stayed W (goes-none 𝓤 H A W 4 (λ _. Geometry-ty.the-row) yes (λ κs x f. refl), (goes-slice 𝓤 H A W 4 0 tt (plain (λ _. u8)), (goes-slice 𝓤 H A W 4 1 tt (plain (λ _. u8)), (goes-none 𝓤 H A W 4 (λ _. u32) yes (λ κs x f. refl), (goes-none 𝓤 H A W 4 (λ _. u32) yes (λ κs x f. refl), (goes-none 𝓤 H A W 4 (λ _. u32) yes (λ κs x f. refl), (goes-none 𝓤 H A W 4 (λ _. u32) yes (λ κs x f. refl), (goes-none 𝓤 H A W 4 (λ _. u32) yes (λ κs x f. refl), (goes-none-slice 𝓤 H A W 4 (2 ∷ []) tt (plain (λ _. Entry-ty.the-row)) yes, (goes-none-slice 𝓤 H A W 4 (3 ∷ []) tt (plain (λ _. u8)) yes, tt)))))))))) (f.clauses 𝓤 H A mem run)
+    walk-meets 𝓤 H A f.ended stayed W (goes-none 𝓤 H A W 4 (λ _. Geometry-ty.the-row) yes (λ κs x f. refl), (goes-slice 𝓤 H A W 4 0 tt (plain (λ _. u8)), (goes-slice 𝓤 H A W 4 1 tt (plain (λ _. u8)), (goes-none 𝓤 H A W 4 (λ _. u32) yes (λ κs x f. refl), (goes-none 𝓤 H A W 4 (λ _. u32) yes (λ κs x f. refl), (goes-none 𝓤 H A W 4 (λ _. u32) yes (λ κs x f. refl), (goes-none 𝓤 H A W 4 (λ _. u32) yes (λ κs x f. refl), (goes-none 𝓤 H A W 4 (λ _. u32) yes (λ κs x f. refl), (goes-none 𝓤 H A W 4 (λ _. u8) yes (λ κs x f. refl), (goes-none-slice 𝓤 H A W 4 (2 ∷ []) tt (plain (λ _. Entry-ty.the-row)) yes, (goes-none-slice 𝓤 H A W 4 (3 ∷ []) tt (plain (λ _. u8)) yes, tt))))))))))) (f.clauses 𝓤 H A mem run)
     (WpFn 𝓤 H (𝓣 .C) (𝓣 .Λ) code.function) (WpFn-mono 𝓤 H (W .laws) 𝓣 code.function) (walks 𝓤 H A W mem run 𝓣 (fmOf 𝓤 H (W .laws) 𝓣) known-unlimited known-run known-answer)
 
 pub lfs-dir-commit-spec : {M : Type 1} → stated.statement M

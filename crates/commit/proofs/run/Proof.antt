@@ -78,13 +78,13 @@ use Rattle.commit.proofs.run.Code as code
 use Rattle.commit.proofs.run.Code.Mir.{t-1, t-7, t-12, t-17, t-22, t-27}
 
 -- the law that it cites (proofs/Rules.antt):
---   pub run-glue : (xs-b0 : List ℕ) (xs-b1 : List ℕ) (xs-entries : List Entry) (xs-dat : List ℕ) (x-g : Geometry) (x-n0 : ℕ) (x-n1 : ℕ) (x-blockcount : ℕ) (x-seed : ℕ) (x-rules : ℕ) (x-stores : ℕ) (r0 : State) (r1 : State) (y1b0 : List ℕ) (y1b1 : List ℕ) (r2 : State) (r3 : State) (y3b0 : List ℕ) (y3b1 : List ℕ) (r4 : State) (y4b0 : List ℕ) (y4b1 : List ℕ)
---       → r0 ≡ begunOf x-g xs-b0 xs-b1 x-n0 x-n1 x-blockcount x-seed x-rules (length xs-entries) xs-dat
+--   pub run-glue : (xs-b0 : List ℕ) (xs-b1 : List ℕ) (xs-entries : List Entry) (xs-dat : List ℕ) (x-g : Geometry) (x-n0 : ℕ) (x-n1 : ℕ) (x-blockcount : ℕ) (x-seed : ℕ) (x-rules : ℕ) (x-erased : ℕ) (x-stores : ℕ) (r0 : State) (r1 : State) (y1b0 : List ℕ) (y1b1 : List ℕ) (r2 : State) (r3 : State) (y3b0 : List ℕ) (y3b1 : List ℕ) (r4 : State) (y4b0 : List ℕ) (y4b1 : List ℕ)
+--       → r0 ≡ begunOf x-g xs-b0 xs-b1 x-n0 x-n1 x-blockcount x-seed x-rules x-erased (length xs-entries) xs-dat
 --       → trio r1 y1b0 y1b1 ≡ eachOf (length xs-entries) xs-entries xs-dat xs-b0 xs-b1 r0
---       → r2 ≡ decidedOf r1 x-g y1b0 y1b1 x-stores
+--       → r2 ≡ decidedOf x-erased r1 x-g y1b0 y1b1 x-stores
 --       → trio r3 y3b0 y3b1 ≡ eachOf (length xs-entries) xs-entries xs-dat y1b0 y1b1 r2
 --       → trio r4 y4b0 y4b1 ≡ sealedOf r3 y3b0 y3b1
---       → trio r4 y4b0 y4b1 ≡ ranOf x-g xs-b0 xs-b1 x-n0 x-n1 x-blockcount x-seed x-rules xs-entries xs-dat x-stores
+--       → trio r4 y4b0 y4b1 ≡ ranOf x-g xs-b0 xs-b1 x-n0 x-n1 x-blockcount x-seed x-rules x-erased xs-entries xs-dat x-stores
 
 abbrev mach-Entry : Entry → Val
 mach-Entry h = LL.tuple-val Entry-ty.the-type Entry-laws.the-laws (Entry-ty.the-type .to h)
@@ -106,10 +106,10 @@ vals-State = LL.vals State-ty.the-type State-laws.the-laws
 
 -- the function with its locals' types spelled out: it is `code.function` by computation, which is compared once
 abbrev plainly : Fn
-plainly = record { lifetimes = 4; outlives = []; params = 11; locals = local State-laws.mir valueLocal ∷ local Geometry-laws.mir valueLocal ∷ local (sliceTy (tyRef (named 0) mut (tyInt w8))) valueLocal ∷ local (sliceTy (tyRef (named 1) mut (tyInt w8))) valueLocal ∷ local (tyInt w32) valueLocal ∷ local (tyInt w32) valueLocal ∷ local (tyInt w32) valueLocal ∷ local (tyInt w32) valueLocal ∷ local (tyInt w32) valueLocal ∷ local (sliceTy (tyRef (named 2) imm (pointee (Entry-ty.the-row .written)))) valueLocal ∷ local (sliceTy (tyRef (named 3) imm (tyInt w8))) valueLocal ∷ local (tyInt w32) valueLocal ∷ local State-laws.mir valueLocal ∷ local State-laws.mir valueLocal ∷ local State-laws.mir valueLocal ∷ local State-laws.mir valueLocal ∷ local (tyRef erased imm (tyInt w8)) valueLocal ∷ local (sliceTy (tyRef erased imm (tyInt w8))) valueLocal ∷ local (tyRef erased imm (tyInt w8)) valueLocal ∷ local (sliceTy (tyRef erased imm (tyInt w8))) valueLocal ∷ local (tyInt w64) valueLocal ∷ local (tyRef erased mut (tyInt w8)) valueLocal ∷ local (sliceTy (tyRef erased mut (tyInt w8))) valueLocal ∷ local (tyRef erased mut (tyInt w8)) valueLocal ∷ local (sliceTy (tyRef erased mut (tyInt w8))) valueLocal ∷ local (tyRef erased imm (tyInt w8)) valueLocal ∷ local (sliceTy (tyRef erased imm (tyInt w8))) valueLocal ∷ local (tyRef erased imm (tyInt w8)) valueLocal ∷ local (sliceTy (tyRef erased imm (tyInt w8))) valueLocal ∷ local (tyRef erased mut (tyInt w8)) valueLocal ∷ local (sliceTy (tyRef erased mut (tyInt w8))) valueLocal ∷ local (tyRef erased mut (tyInt w8)) valueLocal ∷ local (sliceTy (tyRef erased mut (tyInt w8))) valueLocal ∷ local (tyRef erased mut (tyInt w8)) valueLocal ∷ local (sliceTy (tyRef erased mut (tyInt w8))) valueLocal ∷ local (tyRef erased mut (tyInt w8)) valueLocal ∷ local (sliceTy (tyRef erased mut (tyInt w8))) valueLocal ∷ []; body = t-1 }
+plainly = record { lifetimes = 4; outlives = []; params = 12; locals = local State-laws.mir valueLocal ∷ local Geometry-laws.mir valueLocal ∷ local (sliceTy (tyRef (named 0) mut (tyInt w8))) valueLocal ∷ local (sliceTy (tyRef (named 1) mut (tyInt w8))) valueLocal ∷ local (tyInt w32) valueLocal ∷ local (tyInt w32) valueLocal ∷ local (tyInt w32) valueLocal ∷ local (tyInt w32) valueLocal ∷ local (tyInt w32) valueLocal ∷ local (tyInt w8) valueLocal ∷ local (sliceTy (tyRef (named 2) imm (pointee (Entry-ty.the-row .written)))) valueLocal ∷ local (sliceTy (tyRef (named 3) imm (tyInt w8))) valueLocal ∷ local (tyInt w32) valueLocal ∷ local State-laws.mir valueLocal ∷ local State-laws.mir valueLocal ∷ local State-laws.mir valueLocal ∷ local State-laws.mir valueLocal ∷ local (tyRef erased imm (tyInt w8)) valueLocal ∷ local (sliceTy (tyRef erased imm (tyInt w8))) valueLocal ∷ local (tyRef erased imm (tyInt w8)) valueLocal ∷ local (sliceTy (tyRef erased imm (tyInt w8))) valueLocal ∷ local (tyInt w64) valueLocal ∷ local (tyRef erased mut (tyInt w8)) valueLocal ∷ local (sliceTy (tyRef erased mut (tyInt w8))) valueLocal ∷ local (tyRef erased mut (tyInt w8)) valueLocal ∷ local (sliceTy (tyRef erased mut (tyInt w8))) valueLocal ∷ local (tyRef erased imm (tyInt w8)) valueLocal ∷ local (sliceTy (tyRef erased imm (tyInt w8))) valueLocal ∷ local (tyRef erased imm (tyInt w8)) valueLocal ∷ local (sliceTy (tyRef erased imm (tyInt w8))) valueLocal ∷ local (tyRef erased mut (tyInt w8)) valueLocal ∷ local (sliceTy (tyRef erased mut (tyInt w8))) valueLocal ∷ local (tyRef erased mut (tyInt w8)) valueLocal ∷ local (sliceTy (tyRef erased mut (tyInt w8))) valueLocal ∷ local (tyRef erased mut (tyInt w8)) valueLocal ∷ local (sliceTy (tyRef erased mut (tyInt w8))) valueLocal ∷ local (tyRef erased mut (tyInt w8)) valueLocal ∷ local (sliceTy (tyRef erased mut (tyInt w8))) valueLocal ∷ []; body = t-1 }
 
 abbrev stayed : Stays (f.ended .signature .params) (f.ended .kept)
-stayed = (stay-none (λ _. Geometry-ty.the-row) yes, (stay-slice (0 ∷ []) tt (plain (λ _. u8)), (stay-slice (1 ∷ []) tt (plain (λ _. u8)), (stay-none (λ _. u32) yes, (stay-none (λ _. u32) yes, (stay-none (λ _. u32) yes, (stay-none (λ _. u32) yes, (stay-none (λ _. u32) yes, (stay-none-slice (2 ∷ []) tt (plain (λ _. Entry-ty.the-row)) yes, (stay-none-slice (3 ∷ []) tt (plain (λ _. u8)) yes, (stay-none (λ _. u32) yes, tt)))))))))))
+stayed = (stay-none (λ _. Geometry-ty.the-row) yes, (stay-slice (0 ∷ []) tt (plain (λ _. u8)), (stay-slice (1 ∷ []) tt (plain (λ _. u8)), (stay-none (λ _. u32) yes, (stay-none (λ _. u32) yes, (stay-none (λ _. u32) yes, (stay-none (λ _. u32) yes, (stay-none (λ _. u32) yes, (stay-none (λ _. u8) yes, (stay-none-slice (2 ∷ []) tt (plain (λ _. Entry-ty.the-row)) yes, (stay-none-slice (3 ∷ []) tt (plain (λ _. u8)) yes, (stay-none (λ _. u32) yes, tt))))))))))))
 
 module _ {M : Type 1} (𝓤 : URA M) (H : Heap 𝓤) (A : Atoms 𝓤) (W : Given 𝓤 H A) (at-mem : Memory → SProp 𝓤) (run : Routine → Fun 𝓤) where
   abbrev K-begin : Contract 𝓤
@@ -133,7 +133,7 @@ module _ {M : Type 1} (𝓤 : URA M) (H : Heap 𝓤) (A : Atoms 𝓤) (W : Given
   typed-State : (h : State) (v : Val) → Is State-ty.the-row h (v ∷ []) → Holds (hasTy State-laws.mir v) × WT v
   typed-State h v g = LL.lawful State-ty.the-type State-laws.the-laws 𝓤 H A W .typed h _ g .0
 
-  module _ (κ-b0 κ-b1 κ-entries κ-dat : Lft) (q-b0 q-b1 q-entries q-dat : Share) (x-g : Geometry) (v-g : Val) (b-b0 o-b0 : ℕ) (γ-b0 : GName) (xs-b0 : List ℕ) (b-b1 o-b1 : ℕ) (γ-b1 : GName) (xs-b1 : List ℕ) (x-n0 : ℕ) (v-n0 : Val) (x-n1 : ℕ) (v-n1 : Val) (x-blockcount : ℕ) (v-blockcount : Val) (x-seed : ℕ) (v-seed : Val) (x-rules : ℕ) (v-rules : Val) (b-entries o-entries : ℕ) (γ-entries : GName) (xs-entries : List Entry) (b-dat o-dat : ℕ) (γ-dat : GName) (xs-dat : List ℕ) (x-stores : ℕ) (v-stores : Val) where
+  module _ (κ-b0 κ-b1 κ-entries κ-dat : Lft) (q-b0 q-b1 q-entries q-dat : Share) (x-g : Geometry) (v-g : Val) (b-b0 o-b0 : ℕ) (γ-b0 : GName) (xs-b0 : List ℕ) (b-b1 o-b1 : ℕ) (γ-b1 : GName) (xs-b1 : List ℕ) (x-n0 : ℕ) (v-n0 : Val) (x-n1 : ℕ) (v-n1 : Val) (x-blockcount : ℕ) (v-blockcount : Val) (x-seed : ℕ) (v-seed : Val) (x-rules : ℕ) (v-rules : Val) (x-erased : ℕ) (v-erased : Val) (b-entries o-entries : ℕ) (γ-entries : GName) (xs-entries : List Entry) (b-dat o-dat : ℕ) (γ-dat : GName) (xs-dat : List ℕ) (x-stores : ℕ) (v-stores : Val) where
     abbrev ref-b0 : GName → List ℕ → RefT (List ℕ)
     ref-b0 δ zs = record { ptr = (b-b0, o-b0); name = δ; now = zs }
 
@@ -170,11 +170,11 @@ module _ {M : Type 1} (𝓤 : URA M) (H : Heap 𝓤) (A : Atoms 𝓤) (W : Given
     abbrev Own-dat : Fml
     Own-dat = ShrSlice (named 3) κ-dat u8 .own (ref-dat γ-dat xs-dat) (s-dat ∷ [])
 
-    abbrev x : Geometry × (RefT (List ℕ) × (RefT (List ℕ) × (ℕ × (ℕ × (ℕ × (ℕ × (ℕ × (RefT (List Entry) × (RefT (List ℕ) × (ℕ × Unit {0}))))))))))
-    x = (x-g, ((ref-b0 γ-b0 xs-b0), ((ref-b1 γ-b1 xs-b1), (x-n0, (x-n1, (x-blockcount, (x-seed, (x-rules, ((ref-entries γ-entries xs-entries), ((ref-dat γ-dat xs-dat), (x-stores, tt)))))))))))
+    abbrev x : Geometry × (RefT (List ℕ) × (RefT (List ℕ) × (ℕ × (ℕ × (ℕ × (ℕ × (ℕ × (ℕ × (RefT (List Entry) × (RefT (List ℕ) × (ℕ × Unit {0})))))))))))
+    x = (x-g, ((ref-b0 γ-b0 xs-b0), ((ref-b1 γ-b1 xs-b1), (x-n0, (x-n1, (x-blockcount, (x-seed, (x-rules, (x-erased, ((ref-entries γ-entries xs-entries), ((ref-dat γ-dat xs-dat), (x-stores, tt))))))))))))
 
-    abbrev at : List Val × (List Val × (List Val × (List Val × (List Val × (List Val × (List Val × (List Val × (List Val × (List Val × (List Val × Unit {0}))))))))))
-    at = (v-g ∷ [], (s-b0 ∷ [], (s-b1 ∷ [], (v-n0 ∷ [], (v-n1 ∷ [], (v-blockcount ∷ [], (v-seed ∷ [], (v-rules ∷ [], (s-entries ∷ [], (s-dat ∷ [], (v-stores ∷ [], tt)))))))))))
+    abbrev at : List Val × (List Val × (List Val × (List Val × (List Val × (List Val × (List Val × (List Val × (List Val × (List Val × (List Val × (List Val × Unit {0})))))))))))
+    at = (v-g ∷ [], (s-b0 ∷ [], (s-b1 ∷ [], (v-n0 ∷ [], (v-n1 ∷ [], (v-blockcount ∷ [], (v-seed ∷ [], (v-rules ∷ [], (v-erased ∷ [], (s-entries ∷ [], (s-dat ∷ [], (v-stores ∷ [], tt))))))))))))
 
     abbrev bound : walkOf 𝓤 H A f.ended stayed (f.clauses 𝓤 H A at-mem run) .Ghost
     bound = (((κ-b0, (κ-b1, (κ-entries, (κ-dat, tt)))), (q-b0, (q-b1, (q-entries, (q-dat, tt)))), tt, x, at), tt)
@@ -197,20 +197,20 @@ module _ {M : Type 1} (𝓤 : URA M) (H : Heap 𝓤) (A : Atoms 𝓤) (W : Given
 
     apart : (Q : SProp 𝓤) → ent 𝓤 (⋆ 𝓤 H A Had) Q → ent 𝓤 (onEntry 𝓤 H A f.signature (κ-b0, (κ-b1, (κ-entries, (κ-dat, tt)))) (q-b0, (q-b1, (q-entries, (q-dat, tt)))) x at) Q
     apart Q next =
-        qed W ((‵ (flft κ-b0 q-b0) ⊛ ‵ (flft κ-b1 q-b1) ⊛ ‵ (flft κ-entries q-entries) ⊛ ‵ (flft κ-dat q-dat) ⊛ ‵ ftrue) ∷ ‵ (owns (Geometry-ty.the-row ∷ MutSlice (named 0) κ-b0 u8 ∷ MutSlice (named 1) κ-b1 u8 ∷ u32 ∷ u32 ∷ u32 ∷ u32 ∷ u32 ∷ ShrSlice (named 2) κ-entries Entry-ty.the-row ∷ ShrSlice (named 3) κ-dat u8 ∷ u32 ∷ []) x at) ∷ []) ∵ move ! (1 ∷ []) $ fsplit ! $ move ! (1 ∷ []) $ fsplit ! $ move ! (1 ∷ []) $ fsplit ! $ move ! (1 ∷ []) $ fsplit ! $ move ! (1 ∷ []) $ fsplit ! $ move ! (1 ∷ []) $ fsplit ! $ move ! (1 ∷ []) $ fsplit ! $ move ! (1 ∷ []) $ fsplit ! $ move ! (1 ∷ []) $ fsplit ! $ move ! (1 ∷ []) $ fsplit ! $ move ! (1 ∷ []) $ fsplit ! $ move ! (12 ∷ []) $ split ! $ move ! (1 ∷ []) $ split ! $ move ! (1 ∷ []) $ split ! $ move ! (1 ∷ []) $ split ! $ keep ! (15 ∷ 14 ∷ 8 ∷ 7 ∷ 4 ∷ 3 ∷ 2 ∷ 0 ∷ []) $ by ! next
+        qed W ((‵ (flft κ-b0 q-b0) ⊛ ‵ (flft κ-b1 q-b1) ⊛ ‵ (flft κ-entries q-entries) ⊛ ‵ (flft κ-dat q-dat) ⊛ ‵ ftrue) ∷ ‵ (owns (Geometry-ty.the-row ∷ MutSlice (named 0) κ-b0 u8 ∷ MutSlice (named 1) κ-b1 u8 ∷ u32 ∷ u32 ∷ u32 ∷ u32 ∷ u32 ∷ u8 ∷ ShrSlice (named 2) κ-entries Entry-ty.the-row ∷ ShrSlice (named 3) κ-dat u8 ∷ u32 ∷ []) x at) ∷ []) ∵ move ! (1 ∷ []) $ fsplit ! $ move ! (1 ∷ []) $ fsplit ! $ move ! (1 ∷ []) $ fsplit ! $ move ! (1 ∷ []) $ fsplit ! $ move ! (1 ∷ []) $ fsplit ! $ move ! (1 ∷ []) $ fsplit ! $ move ! (1 ∷ []) $ fsplit ! $ move ! (1 ∷ []) $ fsplit ! $ move ! (1 ∷ []) $ fsplit ! $ move ! (1 ∷ []) $ fsplit ! $ move ! (1 ∷ []) $ fsplit ! $ move ! (1 ∷ []) $ fsplit ! $ move ! (13 ∷ []) $ split ! $ move ! (1 ∷ []) $ split ! $ move ! (1 ∷ []) $ split ! $ move ! (1 ∷ []) $ split ! $ keep ! (16 ∷ 15 ∷ 8 ∷ 7 ∷ 4 ∷ 3 ∷ 2 ∷ 0 ∷ []) $ by ! next
 
-    module _ (g-g : Is Geometry-ty.the-row x-g (v-g ∷ [])) (g-b0 : Room u8 (length xs-b0)) (g-b1 : Room u8 (length xs-b1)) (g-n0 : Is u32 x-n0 (v-n0 ∷ [])) (g-n1 : Is u32 x-n1 (v-n1 ∷ [])) (g-blockcount : Is u32 x-blockcount (v-blockcount ∷ [])) (g-seed : Is u32 x-seed (v-seed ∷ [])) (g-rules : Is u32 x-rules (v-rules ∷ [])) (g-entries : Room Entry-ty.the-row (length xs-entries)) (g-dat : Room u8 (length xs-dat)) (g-stores : Is u32 x-stores (v-stores ∷ [])) where
-      exits : (r : State) (v : Val) (z-b0 z-b1 : List ℕ) → length z-b0 ≡ length xs-b0 → length z-b1 ≡ length xs-b1 → Is State-ty.the-row r (v ∷ []) → trio r z-b0 z-b1 ≡ ranOf x-g xs-b0 xs-b1 x-n0 x-n1 x-blockcount x-seed x-rules xs-entries xs-dat x-stores
+    module _ (g-g : Is Geometry-ty.the-row x-g (v-g ∷ [])) (g-b0 : Room u8 (length xs-b0)) (g-b1 : Room u8 (length xs-b1)) (g-n0 : Is u32 x-n0 (v-n0 ∷ [])) (g-n1 : Is u32 x-n1 (v-n1 ∷ [])) (g-blockcount : Is u32 x-blockcount (v-blockcount ∷ [])) (g-seed : Is u32 x-seed (v-seed ∷ [])) (g-rules : Is u32 x-rules (v-rules ∷ [])) (g-erased : Is u8 x-erased (v-erased ∷ [])) (g-entries : Room Entry-ty.the-row (length xs-entries)) (g-dat : Room u8 (length xs-dat)) (g-stores : Is u32 x-stores (v-stores ∷ [])) where
+      exits : (r : State) (v : Val) (z-b0 z-b1 : List ℕ) → length z-b0 ≡ length xs-b0 → length z-b1 ≡ length xs-b1 → Is State-ty.the-row r (v ∷ []) → trio r z-b0 z-b1 ≡ ranOf x-g xs-b0 xs-b1 x-n0 x-n1 x-blockcount x-seed x-rules x-erased xs-entries xs-dat x-stores
           → ent 𝓤 (⋆ 𝓤 H A (‵ (Own-b0 z-b0) ∷ ‵ (Own-b1 z-b1) ∷ ‵ Own-entries ∷ ‵ Own-dat ∷ ‵ (flft κ-b0 q-b0) ∷ ‵ (flft κ-b1 q-b1) ∷ ‵ (flft κ-entries q-entries) ∷ ‵ (flft κ-dat q-dat) ∷ [])) (Post v)
       exits r v z-b0 z-b1 l-b0 l-b1 is said =
-          qed W (‵ (Own-b0 z-b0) ∷ ‵ (Own-b1 z-b1) ∷ ‵ Own-entries ∷ ‵ Own-dat ∷ ‵ (flft κ-b0 q-b0) ∷ ‵ (flft κ-b1 q-b1) ∷ ‵ (flft κ-entries q-entries) ∷ ‵ (flft κ-dat q-dat) ∷ []) ∵ suffices ! _ (ends-at 𝓤 H A f.ended stayed (f.clauses 𝓤 H A at-mem run) W bound v r (tt, (z-b0, (z-b1, (tt, (tt, (tt, (tt, (tt, (tt, (tt, (tt, tt))))))))))) (tt, (l-b0, (l-b1, (tt, (tt, (tt, (tt, (tt, (tt, (tt, (tt, tt)))))))))))) $ says ! said $
+          qed W (‵ (Own-b0 z-b0) ∷ ‵ (Own-b1 z-b1) ∷ ‵ Own-entries ∷ ‵ Own-dat ∷ ‵ (flft κ-b0 q-b0) ∷ ‵ (flft κ-b1 q-b1) ∷ ‵ (flft κ-entries q-entries) ∷ ‵ (flft κ-dat q-dat) ∷ []) ∵ suffices ! _ (ends-at 𝓤 H A f.ended stayed (f.clauses 𝓤 H A at-mem run) W bound v r (tt, (z-b0, (z-b1, (tt, (tt, (tt, (tt, (tt, (tt, (tt, (tt, (tt, tt)))))))))))) (tt, (l-b0, (l-b1, (tt, (tt, (tt, (tt, (tt, (tt, (tt, (tt, (tt, tt))))))))))))) $ says ! said $
           nothing ! $ move ! (8 ∷ 0 ∷ []) $ join ! $ move ! (7 ∷ 0 ∷ []) $ join ! $ move ! (6 ∷ 0 ∷ []) $ join ! $ move ! (5 ∷ 0 ∷ []) $ join ! $ frame ! $
-          nothing ! $ owned ! u32 (Is u32) (uint-makes 𝓤 H A W w32) x-stores _ g-stores $ fjoin ! $ move ! (4 ∷ 0 ∷ []) $ fjoin ! $ move ! (3 ∷ 0 ∷ []) $ fjoin ! $ owned ! u32 (Is u32) (uint-makes 𝓤 H A W w32) x-rules _ g-rules $ fjoin ! $ owned ! u32 (Is u32) (uint-makes 𝓤 H A W w32) x-seed _ g-seed $ fjoin ! $ owned ! u32 (Is u32) (uint-makes 𝓤 H A W w32) x-blockcount _ g-blockcount $ fjoin ! $ owned ! u32 (Is u32) (uint-makes 𝓤 H A W w32) x-n1 _ g-n1 $ fjoin ! $ owned ! u32 (Is u32) (uint-makes 𝓤 H A W w32) x-n0 _ g-n0 $ fjoin ! $ move ! (2 ∷ 0 ∷ []) $ fjoin ! $ move ! (1 ∷ 0 ∷ []) $ fjoin ! $ owned ! Geometry-ty.the-row (Is Geometry-ty.the-row) (LL.makes Geometry-ty.the-type Geometry-laws.the-plain 𝓤 H A) x-g _ g-g $ fjoin ! $ frame ! $ owned ! State-ty.the-row (Is State-ty.the-row) (LL.makes State-ty.the-type State-laws.the-plain 𝓤 H A) r (v ∷ []) is $ done !
+          nothing ! $ owned ! u32 (Is u32) (uint-makes 𝓤 H A W w32) x-stores _ g-stores $ fjoin ! $ move ! (4 ∷ 0 ∷ []) $ fjoin ! $ move ! (3 ∷ 0 ∷ []) $ fjoin ! $ owned ! u8 (Is u8) (uint-makes 𝓤 H A W w8) x-erased _ g-erased $ fjoin ! $ owned ! u32 (Is u32) (uint-makes 𝓤 H A W w32) x-rules _ g-rules $ fjoin ! $ owned ! u32 (Is u32) (uint-makes 𝓤 H A W w32) x-seed _ g-seed $ fjoin ! $ owned ! u32 (Is u32) (uint-makes 𝓤 H A W w32) x-blockcount _ g-blockcount $ fjoin ! $ owned ! u32 (Is u32) (uint-makes 𝓤 H A W w32) x-n1 _ g-n1 $ fjoin ! $ owned ! u32 (Is u32) (uint-makes 𝓤 H A W w32) x-n0 _ g-n0 $ fjoin ! $ move ! (2 ∷ 0 ∷ []) $ fjoin ! $ move ! (1 ∷ 0 ∷ []) $ fjoin ! $ owned ! Geometry-ty.the-row (Is Geometry-ty.the-row) (LL.makes Geometry-ty.the-type Geometry-laws.the-plain 𝓤 H A) x-g _ g-g $ fjoin ! $ frame ! $ owned ! State-ty.the-row (Is State-ty.the-row) (LL.makes State-ty.the-type State-laws.the-plain 𝓤 H A) r (v ∷ []) is $ done !
 
       -- what call 0, of `begin`, is passed
-      goes-0 : (x-g : Geometry) (v-g : Val) (i-g : Is Geometry-ty.the-row x-g (v-g ∷ [])) (ν-b0 : ℕ) (δ-b0 : GName) (z-b0 : List ℕ) (ν-b1 : ℕ) (δ-b1 : GName) (z-b1 : List ℕ) (x-n0 : ℕ) (v-n0 : Val) (i-n0 : Is u32 x-n0 (v-n0 ∷ [])) (x-n1 : ℕ) (v-n1 : Val) (i-n1 : Is u32 x-n1 (v-n1 ∷ [])) (x-blockcount : ℕ) (v-blockcount : Val) (i-blockcount : Is u32 x-blockcount (v-blockcount ∷ [])) (x-seed : ℕ) (v-seed : Val) (i-seed : Is u32 x-seed (v-seed ∷ [])) (x-rules : ℕ) (v-rules : Val) (i-rules : Is u32 x-rules (v-rules ∷ [])) (x-entries : ℕ) (v-entries : Val) (i-entries : Is usize x-entries (v-entries ∷ [])) → ent 𝓤 (⋆ 𝓤 H A ((‵ (flft (ν-b0 ∷ []) fullShare) ⊛ ‵ (flft (ν-b1 ∷ []) fullShare) ⊛ ‵ (flft κ-dat q-dat) ⊛ ‵ (ShrSlice (named 0) (ν-b0 ∷ []) u8 .own (ref-b0 δ-b0 z-b0) (s-b0 ∷ [])) ⊛ ‵ (ShrSlice (named 1) (ν-b1 ∷ []) u8 .own (ref-b1 δ-b1 z-b1) (s-b1 ∷ [])) ⊛ ‵ Own-dat) ∷ [])) (K-begin .pre ((((ν-b0 ∷ [], (ν-b1 ∷ [], (κ-dat, tt)))), ((fullShare, (fullShare, (q-dat, tt)))), tt, (x-g, ((ref-b0 δ-b0 z-b0), ((ref-b1 δ-b1 z-b1), (x-n0, (x-n1, (x-blockcount, (x-seed, (x-rules, (x-entries, ((ref-dat γ-dat xs-dat), tt)))))))))), (v-g ∷ [], (s-b0 ∷ [], (s-b1 ∷ [], (v-n0 ∷ [], (v-n1 ∷ [], (v-blockcount ∷ [], (v-seed ∷ [], (v-rules ∷ [], (v-entries ∷ [], (s-dat ∷ [], tt))))))))))), tt))
-      goes-0 x-g v-g i-g ν-b0 δ-b0 z-b0 ν-b1 δ-b1 z-b1 x-n0 v-n0 i-n0 x-n1 v-n1 i-n1 x-blockcount v-blockcount i-blockcount x-seed v-seed i-seed x-rules v-rules i-rules x-entries v-entries i-entries =
-          qed W ((‵ (flft (ν-b0 ∷ []) fullShare) ⊛ ‵ (flft (ν-b1 ∷ []) fullShare) ⊛ ‵ (flft κ-dat q-dat) ⊛ ‵ (ShrSlice (named 0) (ν-b0 ∷ []) u8 .own (ref-b0 δ-b0 z-b0) (s-b0 ∷ [])) ⊛ ‵ (ShrSlice (named 1) (ν-b1 ∷ []) u8 .own (ref-b1 δ-b1 z-b1) (s-b1 ∷ [])) ⊛ ‵ Own-dat) ∷ []) ∵ split ! $ move ! (1 ∷ []) $ split ! $ move ! (1 ∷ []) $ split ! $ move ! (1 ∷ []) $ split ! $ move ! (1 ∷ []) $ split ! $ move ! (1 ∷ []) $ nothing ! $ move ! (4 ∷ 0 ∷ []) $ join ! $ move ! (4 ∷ 0 ∷ []) $ join ! $ move ! (4 ∷ 0 ∷ []) $ join ! $ nothing ! $ move ! (2 ∷ 0 ∷ []) $ fjoin ! $ owned ! usize (Is usize) (uint-makes 𝓤 H A W w64) x-entries _ i-entries $ fjoin ! $ owned ! u32 (Is u32) (uint-makes 𝓤 H A W w32) x-rules _ i-rules $ fjoin ! $ owned ! u32 (Is u32) (uint-makes 𝓤 H A W w32) x-seed _ i-seed $ fjoin ! $ owned ! u32 (Is u32) (uint-makes 𝓤 H A W w32) x-blockcount _ i-blockcount $ fjoin ! $ owned ! u32 (Is u32) (uint-makes 𝓤 H A W w32) x-n1 _ i-n1 $ fjoin ! $ owned ! u32 (Is u32) (uint-makes 𝓤 H A W w32) x-n0 _ i-n0 $ fjoin ! $ move ! (2 ∷ 0 ∷ []) $ fjoin ! $ move ! (2 ∷ 0 ∷ []) $ fjoin ! $ owned ! Geometry-ty.the-row (Is Geometry-ty.the-row) (LL.makes Geometry-ty.the-type Geometry-laws.the-plain 𝓤 H A) x-g _ i-g $ fjoin ! $ move ! (1 ∷ 0 ∷ []) $ join ! $ frame ! $ done !
+      goes-0 : (x-g : Geometry) (v-g : Val) (i-g : Is Geometry-ty.the-row x-g (v-g ∷ [])) (ν-b0 : ℕ) (δ-b0 : GName) (z-b0 : List ℕ) (ν-b1 : ℕ) (δ-b1 : GName) (z-b1 : List ℕ) (x-n0 : ℕ) (v-n0 : Val) (i-n0 : Is u32 x-n0 (v-n0 ∷ [])) (x-n1 : ℕ) (v-n1 : Val) (i-n1 : Is u32 x-n1 (v-n1 ∷ [])) (x-blockcount : ℕ) (v-blockcount : Val) (i-blockcount : Is u32 x-blockcount (v-blockcount ∷ [])) (x-seed : ℕ) (v-seed : Val) (i-seed : Is u32 x-seed (v-seed ∷ [])) (x-rules : ℕ) (v-rules : Val) (i-rules : Is u32 x-rules (v-rules ∷ [])) (x-erased : ℕ) (v-erased : Val) (i-erased : Is u8 x-erased (v-erased ∷ [])) (x-entries : ℕ) (v-entries : Val) (i-entries : Is usize x-entries (v-entries ∷ [])) → ent 𝓤 (⋆ 𝓤 H A ((‵ (flft (ν-b0 ∷ []) fullShare) ⊛ ‵ (flft (ν-b1 ∷ []) fullShare) ⊛ ‵ (flft κ-dat q-dat) ⊛ ‵ (ShrSlice (named 0) (ν-b0 ∷ []) u8 .own (ref-b0 δ-b0 z-b0) (s-b0 ∷ [])) ⊛ ‵ (ShrSlice (named 1) (ν-b1 ∷ []) u8 .own (ref-b1 δ-b1 z-b1) (s-b1 ∷ [])) ⊛ ‵ Own-dat) ∷ [])) (K-begin .pre ((((ν-b0 ∷ [], (ν-b1 ∷ [], (κ-dat, tt)))), ((fullShare, (fullShare, (q-dat, tt)))), tt, (x-g, ((ref-b0 δ-b0 z-b0), ((ref-b1 δ-b1 z-b1), (x-n0, (x-n1, (x-blockcount, (x-seed, (x-rules, (x-erased, (x-entries, ((ref-dat γ-dat xs-dat), tt))))))))))), (v-g ∷ [], (s-b0 ∷ [], (s-b1 ∷ [], (v-n0 ∷ [], (v-n1 ∷ [], (v-blockcount ∷ [], (v-seed ∷ [], (v-rules ∷ [], (v-erased ∷ [], (v-entries ∷ [], (s-dat ∷ [], tt)))))))))))), tt))
+      goes-0 x-g v-g i-g ν-b0 δ-b0 z-b0 ν-b1 δ-b1 z-b1 x-n0 v-n0 i-n0 x-n1 v-n1 i-n1 x-blockcount v-blockcount i-blockcount x-seed v-seed i-seed x-rules v-rules i-rules x-erased v-erased i-erased x-entries v-entries i-entries =
+          qed W ((‵ (flft (ν-b0 ∷ []) fullShare) ⊛ ‵ (flft (ν-b1 ∷ []) fullShare) ⊛ ‵ (flft κ-dat q-dat) ⊛ ‵ (ShrSlice (named 0) (ν-b0 ∷ []) u8 .own (ref-b0 δ-b0 z-b0) (s-b0 ∷ [])) ⊛ ‵ (ShrSlice (named 1) (ν-b1 ∷ []) u8 .own (ref-b1 δ-b1 z-b1) (s-b1 ∷ [])) ⊛ ‵ Own-dat) ∷ []) ∵ split ! $ move ! (1 ∷ []) $ split ! $ move ! (1 ∷ []) $ split ! $ move ! (1 ∷ []) $ split ! $ move ! (1 ∷ []) $ split ! $ move ! (1 ∷ []) $ nothing ! $ move ! (4 ∷ 0 ∷ []) $ join ! $ move ! (4 ∷ 0 ∷ []) $ join ! $ move ! (4 ∷ 0 ∷ []) $ join ! $ nothing ! $ move ! (2 ∷ 0 ∷ []) $ fjoin ! $ owned ! usize (Is usize) (uint-makes 𝓤 H A W w64) x-entries _ i-entries $ fjoin ! $ owned ! u8 (Is u8) (uint-makes 𝓤 H A W w8) x-erased _ i-erased $ fjoin ! $ owned ! u32 (Is u32) (uint-makes 𝓤 H A W w32) x-rules _ i-rules $ fjoin ! $ owned ! u32 (Is u32) (uint-makes 𝓤 H A W w32) x-seed _ i-seed $ fjoin ! $ owned ! u32 (Is u32) (uint-makes 𝓤 H A W w32) x-blockcount _ i-blockcount $ fjoin ! $ owned ! u32 (Is u32) (uint-makes 𝓤 H A W w32) x-n1 _ i-n1 $ fjoin ! $ owned ! u32 (Is u32) (uint-makes 𝓤 H A W w32) x-n0 _ i-n0 $ fjoin ! $ move ! (2 ∷ 0 ∷ []) $ fjoin ! $ move ! (2 ∷ 0 ∷ []) $ fjoin ! $ owned ! Geometry-ty.the-row (Is Geometry-ty.the-row) (LL.makes Geometry-ty.the-type Geometry-laws.the-plain 𝓤 H A) x-g _ i-g $ fjoin ! $ move ! (1 ∷ 0 ∷ []) $ join ! $ frame ! $ done !
 
       -- what call 1, of `each`, is passed
       goes-1 : (ν-b0 : ℕ) (δ-b0 : GName) (z-b0 : List ℕ) (ν-b1 : ℕ) (δ-b1 : GName) (z-b1 : List ℕ) (x-st : State) (v-st : Val) (i-st : Is State-ty.the-row x-st (v-st ∷ [])) → ent 𝓤 (⋆ 𝓤 H A ((‵ (flft κ-entries q-entries) ⊛ ‵ (flft κ-dat q-dat) ⊛ ‵ (flft (ν-b0 ∷ []) fullShare) ⊛ ‵ (flft (ν-b1 ∷ []) fullShare) ⊛ ‵ Own-entries ⊛ ‵ Own-dat ⊛ ‵ (MutSlice (named 2) (ν-b0 ∷ []) u8 .own (ref-b0 δ-b0 z-b0) (s-b0 ∷ [])) ⊛ ‵ (MutSlice (named 3) (ν-b1 ∷ []) u8 .own (ref-b1 δ-b1 z-b1) (s-b1 ∷ []))) ∷ [])) (K-each .pre ((((κ-entries, (κ-dat, (ν-b0 ∷ [], (ν-b1 ∷ [], tt))))), ((q-entries, (q-dat, (fullShare, (fullShare, tt))))), tt, ((ref-entries γ-entries xs-entries), ((ref-dat γ-dat xs-dat), ((ref-b0 δ-b0 z-b0), ((ref-b1 δ-b1 z-b1), (x-st, tt))))), (s-entries ∷ [], (s-dat ∷ [], (s-b0 ∷ [], (s-b1 ∷ [], (v-st ∷ [], tt)))))), tt))
@@ -218,9 +218,9 @@ module _ {M : Type 1} (𝓤 : URA M) (H : Heap 𝓤) (A : Atoms 𝓤) (W : Given
           qed W ((‵ (flft κ-entries q-entries) ⊛ ‵ (flft κ-dat q-dat) ⊛ ‵ (flft (ν-b0 ∷ []) fullShare) ⊛ ‵ (flft (ν-b1 ∷ []) fullShare) ⊛ ‵ Own-entries ⊛ ‵ Own-dat ⊛ ‵ (MutSlice (named 2) (ν-b0 ∷ []) u8 .own (ref-b0 δ-b0 z-b0) (s-b0 ∷ [])) ⊛ ‵ (MutSlice (named 3) (ν-b1 ∷ []) u8 .own (ref-b1 δ-b1 z-b1) (s-b1 ∷ []))) ∷ []) ∵ split ! $ move ! (1 ∷ []) $ split ! $ move ! (1 ∷ []) $ split ! $ move ! (1 ∷ []) $ split ! $ move ! (1 ∷ []) $ split ! $ move ! (1 ∷ []) $ split ! $ move ! (1 ∷ []) $ split ! $ move ! (1 ∷ []) $ nothing ! $ move ! (5 ∷ 0 ∷ []) $ join ! $ move ! (5 ∷ 0 ∷ []) $ join ! $ move ! (5 ∷ 0 ∷ []) $ join ! $ move ! (5 ∷ 0 ∷ []) $ join ! $ nothing ! $ owned ! State-ty.the-row (Is State-ty.the-row) (LL.makes State-ty.the-type State-laws.the-plain 𝓤 H A) x-st _ i-st $ fjoin ! $ move ! (2 ∷ 0 ∷ []) $ fjoin ! $ move ! (2 ∷ 0 ∷ []) $ fjoin ! $ move ! (2 ∷ 0 ∷ []) $ fjoin ! $ move ! (2 ∷ 0 ∷ []) $ fjoin ! $ move ! (1 ∷ 0 ∷ []) $ join ! $ frame ! $ done !
 
       -- what call 2, of `decide`, is passed
-      goes-2 : (x-st : State) (v-st : Val) (i-st : Is State-ty.the-row x-st (v-st ∷ [])) (x-g : Geometry) (v-g : Val) (i-g : Is Geometry-ty.the-row x-g (v-g ∷ [])) (ν-b0 : ℕ) (δ-b0 : GName) (z-b0 : List ℕ) (ν-b1 : ℕ) (δ-b1 : GName) (z-b1 : List ℕ) (x-stores : ℕ) (v-stores : Val) (i-stores : Is u32 x-stores (v-stores ∷ [])) → ent 𝓤 (⋆ 𝓤 H A ((‵ (flft (ν-b0 ∷ []) fullShare) ⊛ ‵ (flft (ν-b1 ∷ []) fullShare) ⊛ ‵ (ShrSlice (named 0) (ν-b0 ∷ []) u8 .own (ref-b0 δ-b0 z-b0) (s-b0 ∷ [])) ⊛ ‵ (ShrSlice (named 1) (ν-b1 ∷ []) u8 .own (ref-b1 δ-b1 z-b1) (s-b1 ∷ []))) ∷ [])) (K-decide .pre ((((ν-b0 ∷ [], (ν-b1 ∷ [], tt))), ((fullShare, (fullShare, tt))), tt, (x-st, (x-g, ((ref-b0 δ-b0 z-b0), ((ref-b1 δ-b1 z-b1), (x-stores, tt))))), (v-st ∷ [], (v-g ∷ [], (s-b0 ∷ [], (s-b1 ∷ [], (v-stores ∷ [], tt)))))), tt))
-      goes-2 x-st v-st i-st x-g v-g i-g ν-b0 δ-b0 z-b0 ν-b1 δ-b1 z-b1 x-stores v-stores i-stores =
-          qed W ((‵ (flft (ν-b0 ∷ []) fullShare) ⊛ ‵ (flft (ν-b1 ∷ []) fullShare) ⊛ ‵ (ShrSlice (named 0) (ν-b0 ∷ []) u8 .own (ref-b0 δ-b0 z-b0) (s-b0 ∷ [])) ⊛ ‵ (ShrSlice (named 1) (ν-b1 ∷ []) u8 .own (ref-b1 δ-b1 z-b1) (s-b1 ∷ []))) ∷ []) ∵ split ! $ move ! (1 ∷ []) $ split ! $ move ! (1 ∷ []) $ split ! $ move ! (1 ∷ []) $ nothing ! $ move ! (3 ∷ 0 ∷ []) $ join ! $ move ! (3 ∷ 0 ∷ []) $ join ! $ nothing ! $ owned ! u32 (Is u32) (uint-makes 𝓤 H A W w32) x-stores _ i-stores $ fjoin ! $ move ! (2 ∷ 0 ∷ []) $ fjoin ! $ move ! (2 ∷ 0 ∷ []) $ fjoin ! $ owned ! Geometry-ty.the-row (Is Geometry-ty.the-row) (LL.makes Geometry-ty.the-type Geometry-laws.the-plain 𝓤 H A) x-g _ i-g $ fjoin ! $ owned ! State-ty.the-row (Is State-ty.the-row) (LL.makes State-ty.the-type State-laws.the-plain 𝓤 H A) x-st _ i-st $ fjoin ! $ move ! (1 ∷ 0 ∷ []) $ join ! $ frame ! $ done !
+      goes-2 : (x-erased : ℕ) (v-erased : Val) (i-erased : Is u8 x-erased (v-erased ∷ [])) (x-st : State) (v-st : Val) (i-st : Is State-ty.the-row x-st (v-st ∷ [])) (x-g : Geometry) (v-g : Val) (i-g : Is Geometry-ty.the-row x-g (v-g ∷ [])) (ν-b0 : ℕ) (δ-b0 : GName) (z-b0 : List ℕ) (ν-b1 : ℕ) (δ-b1 : GName) (z-b1 : List ℕ) (x-stores : ℕ) (v-stores : Val) (i-stores : Is u32 x-stores (v-stores ∷ [])) → ent 𝓤 (⋆ 𝓤 H A ((‵ (flft (ν-b0 ∷ []) fullShare) ⊛ ‵ (flft (ν-b1 ∷ []) fullShare) ⊛ ‵ (ShrSlice (named 0) (ν-b0 ∷ []) u8 .own (ref-b0 δ-b0 z-b0) (s-b0 ∷ [])) ⊛ ‵ (ShrSlice (named 1) (ν-b1 ∷ []) u8 .own (ref-b1 δ-b1 z-b1) (s-b1 ∷ []))) ∷ [])) (K-decide .pre ((((ν-b0 ∷ [], (ν-b1 ∷ [], tt))), ((fullShare, (fullShare, tt))), tt, (x-erased, (x-st, (x-g, ((ref-b0 δ-b0 z-b0), ((ref-b1 δ-b1 z-b1), (x-stores, tt)))))), (v-erased ∷ [], (v-st ∷ [], (v-g ∷ [], (s-b0 ∷ [], (s-b1 ∷ [], (v-stores ∷ [], tt))))))), tt))
+      goes-2 x-erased v-erased i-erased x-st v-st i-st x-g v-g i-g ν-b0 δ-b0 z-b0 ν-b1 δ-b1 z-b1 x-stores v-stores i-stores =
+          qed W ((‵ (flft (ν-b0 ∷ []) fullShare) ⊛ ‵ (flft (ν-b1 ∷ []) fullShare) ⊛ ‵ (ShrSlice (named 0) (ν-b0 ∷ []) u8 .own (ref-b0 δ-b0 z-b0) (s-b0 ∷ [])) ⊛ ‵ (ShrSlice (named 1) (ν-b1 ∷ []) u8 .own (ref-b1 δ-b1 z-b1) (s-b1 ∷ []))) ∷ []) ∵ split ! $ move ! (1 ∷ []) $ split ! $ move ! (1 ∷ []) $ split ! $ move ! (1 ∷ []) $ nothing ! $ move ! (3 ∷ 0 ∷ []) $ join ! $ move ! (3 ∷ 0 ∷ []) $ join ! $ nothing ! $ owned ! u32 (Is u32) (uint-makes 𝓤 H A W w32) x-stores _ i-stores $ fjoin ! $ move ! (2 ∷ 0 ∷ []) $ fjoin ! $ move ! (2 ∷ 0 ∷ []) $ fjoin ! $ owned ! Geometry-ty.the-row (Is Geometry-ty.the-row) (LL.makes Geometry-ty.the-type Geometry-laws.the-plain 𝓤 H A) x-g _ i-g $ fjoin ! $ owned ! State-ty.the-row (Is State-ty.the-row) (LL.makes State-ty.the-type State-laws.the-plain 𝓤 H A) x-st _ i-st $ fjoin ! $ owned ! u8 (Is u8) (uint-makes 𝓤 H A W w8) x-erased _ i-erased $ fjoin ! $ move ! (1 ∷ 0 ∷ []) $ join ! $ frame ! $ done !
 
       -- what call 3, of `each`, is passed
       goes-3 : (ν-b0 : ℕ) (δ-b0 : GName) (z-b0 : List ℕ) (ν-b1 : ℕ) (δ-b1 : GName) (z-b1 : List ℕ) (x-st : State) (v-st : Val) (i-st : Is State-ty.the-row x-st (v-st ∷ [])) → ent 𝓤 (⋆ 𝓤 H A ((‵ (flft κ-entries q-entries) ⊛ ‵ (flft κ-dat q-dat) ⊛ ‵ (flft (ν-b0 ∷ []) fullShare) ⊛ ‵ (flft (ν-b1 ∷ []) fullShare) ⊛ ‵ Own-entries ⊛ ‵ Own-dat ⊛ ‵ (MutSlice (named 2) (ν-b0 ∷ []) u8 .own (ref-b0 δ-b0 z-b0) (s-b0 ∷ [])) ⊛ ‵ (MutSlice (named 3) (ν-b1 ∷ []) u8 .own (ref-b1 δ-b1 z-b1) (s-b1 ∷ []))) ∷ [])) (K-each .pre ((((κ-entries, (κ-dat, (ν-b0 ∷ [], (ν-b1 ∷ [], tt))))), ((q-entries, (q-dat, (fullShare, (fullShare, tt))))), tt, ((ref-entries γ-entries xs-entries), ((ref-dat γ-dat xs-dat), ((ref-b0 δ-b0 z-b0), ((ref-b1 δ-b1 z-b1), (x-st, tt))))), (s-entries ∷ [], (s-dat ∷ [], (s-b0 ∷ [], (s-b1 ∷ [], (v-st ∷ [], tt)))))), tt))
@@ -239,161 +239,161 @@ module _ {M : Type 1} (𝓤 : URA M) (H : Heap 𝓤) (A : Atoms 𝓤) (W : Given
         abbrev Λ : Loops 𝓤 H
         Λ = 𝓣 .Λ
 
-        module _ (l0 l1 l2 l3 l4 l5 l6 l7 l8 l9 l10 l11 l12 l13 l14 l15 l16 l17 l18 l19 l20 l21 l22 l23 l24 l25 l26 l27 l28 l29 l30 l31 l32 l33 l34 l35 l36 : ℕ) where
+        module _ (l0 l1 l2 l3 l4 l5 l6 l7 l8 l9 l10 l11 l12 l13 l14 l15 l16 l17 l18 l19 l20 l21 l22 l23 l24 l25 l26 l27 l28 l29 l30 l31 l32 l33 l34 l35 l36 l37 : ℕ) where
           abbrev En : Env 𝓤 H
-          En = (State-laws.mir, l0) ∷ (Geometry-laws.mir, l1) ∷ ((sliceTy (tyRef (named 0) mut (tyInt w8))), l2) ∷ ((sliceTy (tyRef (named 1) mut (tyInt w8))), l3) ∷ ((tyInt w32), l4) ∷ ((tyInt w32), l5) ∷ ((tyInt w32), l6) ∷ ((tyInt w32), l7) ∷ ((tyInt w32), l8) ∷ ((sliceTy (tyRef (named 2) imm (pointee (Entry-ty.the-row .written)))), l9) ∷ ((sliceTy (tyRef (named 3) imm (tyInt w8))), l10) ∷ ((tyInt w32), l11) ∷ (State-laws.mir, l12) ∷ (State-laws.mir, l13) ∷ (State-laws.mir, l14) ∷ (State-laws.mir, l15) ∷ ((tyRef erased imm (tyInt w8)), l16) ∷ ((sliceTy (tyRef erased imm (tyInt w8))), l17) ∷ ((tyRef erased imm (tyInt w8)), l18) ∷ ((sliceTy (tyRef erased imm (tyInt w8))), l19) ∷ ((tyInt w64), l20) ∷ ((tyRef erased mut (tyInt w8)), l21) ∷ ((sliceTy (tyRef erased mut (tyInt w8))), l22) ∷ ((tyRef erased mut (tyInt w8)), l23) ∷ ((sliceTy (tyRef erased mut (tyInt w8))), l24) ∷ ((tyRef erased imm (tyInt w8)), l25) ∷ ((sliceTy (tyRef erased imm (tyInt w8))), l26) ∷ ((tyRef erased imm (tyInt w8)), l27) ∷ ((sliceTy (tyRef erased imm (tyInt w8))), l28) ∷ ((tyRef erased mut (tyInt w8)), l29) ∷ ((sliceTy (tyRef erased mut (tyInt w8))), l30) ∷ ((tyRef erased mut (tyInt w8)), l31) ∷ ((sliceTy (tyRef erased mut (tyInt w8))), l32) ∷ ((tyRef erased mut (tyInt w8)), l33) ∷ ((sliceTy (tyRef erased mut (tyInt w8))), l34) ∷ ((tyRef erased mut (tyInt w8)), l35) ∷ ((sliceTy (tyRef erased mut (tyInt w8))), l36) ∷ []
+          En = (State-laws.mir, l0) ∷ (Geometry-laws.mir, l1) ∷ ((sliceTy (tyRef (named 0) mut (tyInt w8))), l2) ∷ ((sliceTy (tyRef (named 1) mut (tyInt w8))), l3) ∷ ((tyInt w32), l4) ∷ ((tyInt w32), l5) ∷ ((tyInt w32), l6) ∷ ((tyInt w32), l7) ∷ ((tyInt w32), l8) ∷ ((tyInt w8), l9) ∷ ((sliceTy (tyRef (named 2) imm (pointee (Entry-ty.the-row .written)))), l10) ∷ ((sliceTy (tyRef (named 3) imm (tyInt w8))), l11) ∷ ((tyInt w32), l12) ∷ (State-laws.mir, l13) ∷ (State-laws.mir, l14) ∷ (State-laws.mir, l15) ∷ (State-laws.mir, l16) ∷ ((tyRef erased imm (tyInt w8)), l17) ∷ ((sliceTy (tyRef erased imm (tyInt w8))), l18) ∷ ((tyRef erased imm (tyInt w8)), l19) ∷ ((sliceTy (tyRef erased imm (tyInt w8))), l20) ∷ ((tyInt w64), l21) ∷ ((tyRef erased mut (tyInt w8)), l22) ∷ ((sliceTy (tyRef erased mut (tyInt w8))), l23) ∷ ((tyRef erased mut (tyInt w8)), l24) ∷ ((sliceTy (tyRef erased mut (tyInt w8))), l25) ∷ ((tyRef erased imm (tyInt w8)), l26) ∷ ((sliceTy (tyRef erased imm (tyInt w8))), l27) ∷ ((tyRef erased imm (tyInt w8)), l28) ∷ ((sliceTy (tyRef erased imm (tyInt w8))), l29) ∷ ((tyRef erased mut (tyInt w8)), l30) ∷ ((sliceTy (tyRef erased mut (tyInt w8))), l31) ∷ ((tyRef erased mut (tyInt w8)), l32) ∷ ((sliceTy (tyRef erased mut (tyInt w8))), l33) ∷ ((tyRef erased mut (tyInt w8)), l34) ∷ ((sliceTy (tyRef erased mut (tyInt w8))), l35) ∷ ((tyRef erased mut (tyInt w8)), l36) ∷ ((sliceTy (tyRef erased mut (tyInt w8))), l37) ∷ []
 
           abbrev Dies : Item 𝓤
-          Dies = ‵ (fdies State-laws.mir l0) ⊛ ‵ (fdies Geometry-laws.mir l1) ⊛ ‵ (fdies (sliceTy (tyRef (named 0) mut (tyInt w8))) l2) ⊛ ‵ (fdies (sliceTy (tyRef (named 1) mut (tyInt w8))) l3) ⊛ ‵ (fdies (tyInt w32) l4) ⊛ ‵ (fdies (tyInt w32) l5) ⊛ ‵ (fdies (tyInt w32) l6) ⊛ ‵ (fdies (tyInt w32) l7) ⊛ ‵ (fdies (tyInt w32) l8) ⊛ ‵ (fdies (sliceTy (tyRef (named 2) imm (pointee (Entry-ty.the-row .written)))) l9) ⊛ ‵ (fdies (sliceTy (tyRef (named 3) imm (tyInt w8))) l10) ⊛ ‵ (fdies (tyInt w32) l11) ⊛ ‵ (fdies State-laws.mir l12) ⊛ ‵ (fdies State-laws.mir l13) ⊛ ‵ (fdies State-laws.mir l14) ⊛ ‵ (fdies State-laws.mir l15) ⊛ ‵ (fdies (tyRef erased imm (tyInt w8)) l16) ⊛ ‵ (fdies (sliceTy (tyRef erased imm (tyInt w8))) l17) ⊛ ‵ (fdies (tyRef erased imm (tyInt w8)) l18) ⊛ ‵ (fdies (sliceTy (tyRef erased imm (tyInt w8))) l19) ⊛ ‵ (fdies (tyInt w64) l20) ⊛ ‵ (fdies (tyRef erased mut (tyInt w8)) l21) ⊛ ‵ (fdies (sliceTy (tyRef erased mut (tyInt w8))) l22) ⊛ ‵ (fdies (tyRef erased mut (tyInt w8)) l23) ⊛ ‵ (fdies (sliceTy (tyRef erased mut (tyInt w8))) l24) ⊛ ‵ (fdies (tyRef erased imm (tyInt w8)) l25) ⊛ ‵ (fdies (sliceTy (tyRef erased imm (tyInt w8))) l26) ⊛ ‵ (fdies (tyRef erased imm (tyInt w8)) l27) ⊛ ‵ (fdies (sliceTy (tyRef erased imm (tyInt w8))) l28) ⊛ ‵ (fdies (tyRef erased mut (tyInt w8)) l29) ⊛ ‵ (fdies (sliceTy (tyRef erased mut (tyInt w8))) l30) ⊛ ‵ (fdies (tyRef erased mut (tyInt w8)) l31) ⊛ ‵ (fdies (sliceTy (tyRef erased mut (tyInt w8))) l32) ⊛ ‵ (fdies (tyRef erased mut (tyInt w8)) l33) ⊛ ‵ (fdies (sliceTy (tyRef erased mut (tyInt w8))) l34) ⊛ ‵ (fdies (tyRef erased mut (tyInt w8)) l35) ⊛ ‵ (fdies (sliceTy (tyRef erased mut (tyInt w8))) l36)
+          Dies = ‵ (fdies State-laws.mir l0) ⊛ ‵ (fdies Geometry-laws.mir l1) ⊛ ‵ (fdies (sliceTy (tyRef (named 0) mut (tyInt w8))) l2) ⊛ ‵ (fdies (sliceTy (tyRef (named 1) mut (tyInt w8))) l3) ⊛ ‵ (fdies (tyInt w32) l4) ⊛ ‵ (fdies (tyInt w32) l5) ⊛ ‵ (fdies (tyInt w32) l6) ⊛ ‵ (fdies (tyInt w32) l7) ⊛ ‵ (fdies (tyInt w32) l8) ⊛ ‵ (fdies (tyInt w8) l9) ⊛ ‵ (fdies (sliceTy (tyRef (named 2) imm (pointee (Entry-ty.the-row .written)))) l10) ⊛ ‵ (fdies (sliceTy (tyRef (named 3) imm (tyInt w8))) l11) ⊛ ‵ (fdies (tyInt w32) l12) ⊛ ‵ (fdies State-laws.mir l13) ⊛ ‵ (fdies State-laws.mir l14) ⊛ ‵ (fdies State-laws.mir l15) ⊛ ‵ (fdies State-laws.mir l16) ⊛ ‵ (fdies (tyRef erased imm (tyInt w8)) l17) ⊛ ‵ (fdies (sliceTy (tyRef erased imm (tyInt w8))) l18) ⊛ ‵ (fdies (tyRef erased imm (tyInt w8)) l19) ⊛ ‵ (fdies (sliceTy (tyRef erased imm (tyInt w8))) l20) ⊛ ‵ (fdies (tyInt w64) l21) ⊛ ‵ (fdies (tyRef erased mut (tyInt w8)) l22) ⊛ ‵ (fdies (sliceTy (tyRef erased mut (tyInt w8))) l23) ⊛ ‵ (fdies (tyRef erased mut (tyInt w8)) l24) ⊛ ‵ (fdies (sliceTy (tyRef erased mut (tyInt w8))) l25) ⊛ ‵ (fdies (tyRef erased imm (tyInt w8)) l26) ⊛ ‵ (fdies (sliceTy (tyRef erased imm (tyInt w8))) l27) ⊛ ‵ (fdies (tyRef erased imm (tyInt w8)) l28) ⊛ ‵ (fdies (sliceTy (tyRef erased imm (tyInt w8))) l29) ⊛ ‵ (fdies (tyRef erased mut (tyInt w8)) l30) ⊛ ‵ (fdies (sliceTy (tyRef erased mut (tyInt w8))) l31) ⊛ ‵ (fdies (tyRef erased mut (tyInt w8)) l32) ⊛ ‵ (fdies (sliceTy (tyRef erased mut (tyInt w8))) l33) ⊛ ‵ (fdies (tyRef erased mut (tyInt w8)) l34) ⊛ ‵ (fdies (sliceTy (tyRef erased mut (tyInt w8))) l35) ⊛ ‵ (fdies (tyRef erased mut (tyInt w8)) l36) ⊛ ‵ (fdies (sliceTy (tyRef erased mut (tyInt w8))) l37)
 
           -- what is had: the slices at their lists, the locals that calls set
           abbrev At : List ℕ → List ℕ → Item 𝓤 → Item 𝓤 → Item 𝓤 → Item 𝓤 → Item 𝓤 → Item 𝓤 → List (Item 𝓤)
-          At z-b0 z-b1 c0 c12 c13 c14 c15 c20 =
+          At z-b0 z-b1 c0 c13 c14 c15 c16 c21 =
               ‵ (Own-b0 z-b0) ∷ ‵ (Own-b1 z-b1) ∷ ‵ Own-entries ∷ ‵ Own-dat
               ∷ ‵ (flft κ-b0 q-b0) ∷ ‵ (flft κ-b1 q-b1) ∷ ‵ (flft κ-entries q-entries) ∷ ‵ (flft κ-dat q-dat)
               ∷ c0 ∷ ‵ (fat fullShare Geometry-laws.mir l1 0 v-g) ∷ ‵ (fat fullShare (sliceTy (tyRef (named 0) mut (tyInt w8))) l2 0 s-b0) ∷ ‵ (fat fullShare (sliceTy (tyRef (named 1) mut (tyInt w8))) l3 0 s-b1)
               ∷ ‵ (fat fullShare (tyInt w32) l4 0 v-n0) ∷ ‵ (fat fullShare (tyInt w32) l5 0 v-n1) ∷ ‵ (fat fullShare (tyInt w32) l6 0 v-blockcount) ∷ ‵ (fat fullShare (tyInt w32) l7 0 v-seed)
-              ∷ ‵ (fat fullShare (tyInt w32) l8 0 v-rules) ∷ ‵ (fat fullShare (sliceTy (tyRef (named 2) imm (pointee (Entry-ty.the-row .written)))) l9 0 s-entries) ∷ ‵ (fat fullShare (sliceTy (tyRef (named 3) imm (tyInt w8))) l10 0 s-dat) ∷ ‵ (fat fullShare (tyInt w32) l11 0 v-stores)
-              ∷ c12 ∷ c13 ∷ c14 ∷ c15
-              ∷ ‵ (froom (tyRef erased imm (tyInt w8)) l16 0) ∷ ‵ (froom (sliceTy (tyRef erased imm (tyInt w8))) l17 0) ∷ ‵ (froom (tyRef erased imm (tyInt w8)) l18 0) ∷ ‵ (froom (sliceTy (tyRef erased imm (tyInt w8))) l19 0)
-              ∷ c20 ∷ ‵ (froom (tyRef erased mut (tyInt w8)) l21 0) ∷ ‵ (froom (sliceTy (tyRef erased mut (tyInt w8))) l22 0) ∷ ‵ (froom (tyRef erased mut (tyInt w8)) l23 0)
-              ∷ ‵ (froom (sliceTy (tyRef erased mut (tyInt w8))) l24 0) ∷ ‵ (froom (tyRef erased imm (tyInt w8)) l25 0) ∷ ‵ (froom (sliceTy (tyRef erased imm (tyInt w8))) l26 0) ∷ ‵ (froom (tyRef erased imm (tyInt w8)) l27 0)
-              ∷ ‵ (froom (sliceTy (tyRef erased imm (tyInt w8))) l28 0) ∷ ‵ (froom (tyRef erased mut (tyInt w8)) l29 0) ∷ ‵ (froom (sliceTy (tyRef erased mut (tyInt w8))) l30 0) ∷ ‵ (froom (tyRef erased mut (tyInt w8)) l31 0)
-              ∷ ‵ (froom (sliceTy (tyRef erased mut (tyInt w8))) l32 0) ∷ ‵ (froom (tyRef erased mut (tyInt w8)) l33 0) ∷ ‵ (froom (sliceTy (tyRef erased mut (tyInt w8))) l34 0) ∷ ‵ (froom (tyRef erased mut (tyInt w8)) l35 0)
-              ∷ ‵ (froom (sliceTy (tyRef erased mut (tyInt w8))) l36 0) ∷ Dies ∷ []
+              ∷ ‵ (fat fullShare (tyInt w32) l8 0 v-rules) ∷ ‵ (fat fullShare (tyInt w8) l9 0 v-erased) ∷ ‵ (fat fullShare (sliceTy (tyRef (named 2) imm (pointee (Entry-ty.the-row .written)))) l10 0 s-entries) ∷ ‵ (fat fullShare (sliceTy (tyRef (named 3) imm (tyInt w8))) l11 0 s-dat)
+              ∷ ‵ (fat fullShare (tyInt w32) l12 0 v-stores) ∷ c13 ∷ c14 ∷ c15
+              ∷ c16 ∷ ‵ (froom (tyRef erased imm (tyInt w8)) l17 0) ∷ ‵ (froom (sliceTy (tyRef erased imm (tyInt w8))) l18 0) ∷ ‵ (froom (tyRef erased imm (tyInt w8)) l19 0)
+              ∷ ‵ (froom (sliceTy (tyRef erased imm (tyInt w8))) l20 0) ∷ c21 ∷ ‵ (froom (tyRef erased mut (tyInt w8)) l22 0) ∷ ‵ (froom (sliceTy (tyRef erased mut (tyInt w8))) l23 0)
+              ∷ ‵ (froom (tyRef erased mut (tyInt w8)) l24 0) ∷ ‵ (froom (sliceTy (tyRef erased mut (tyInt w8))) l25 0) ∷ ‵ (froom (tyRef erased imm (tyInt w8)) l26 0) ∷ ‵ (froom (sliceTy (tyRef erased imm (tyInt w8))) l27 0)
+              ∷ ‵ (froom (tyRef erased imm (tyInt w8)) l28 0) ∷ ‵ (froom (sliceTy (tyRef erased imm (tyInt w8))) l29 0) ∷ ‵ (froom (tyRef erased mut (tyInt w8)) l30 0) ∷ ‵ (froom (sliceTy (tyRef erased mut (tyInt w8))) l31 0)
+              ∷ ‵ (froom (tyRef erased mut (tyInt w8)) l32 0) ∷ ‵ (froom (sliceTy (tyRef erased mut (tyInt w8))) l33 0) ∷ ‵ (froom (tyRef erased mut (tyInt w8)) l34 0) ∷ ‵ (froom (sliceTy (tyRef erased mut (tyInt w8))) l35 0)
+              ∷ ‵ (froom (tyRef erased mut (tyInt w8)) l36 0) ∷ ‵ (froom (sliceTy (tyRef erased mut (tyInt w8))) l37 0) ∷ Dies ∷ []
 
           abbrev Start : List (Item 𝓤)
-          Start = At xs-b0 xs-b1 (‵ (froom State-laws.mir l0 0)) (‵ (froom State-laws.mir l12 0)) (‵ (froom State-laws.mir l13 0)) (‵ (froom State-laws.mir l14 0)) (‵ (froom State-laws.mir l15 0)) (‵ (froom (tyInt w64) l20 0))
+          Start = At xs-b0 xs-b1 (‵ (froom State-laws.mir l0 0)) (‵ (froom State-laws.mir l13 0)) (‵ (froom State-laws.mir l14 0)) (‵ (froom State-laws.mir l15 0)) (‵ (froom State-laws.mir l16 0)) (‵ (froom (tyInt w64) l21 0))
 
-          part-5 : (r0 : State) (v0 : Val) (is0 : Is State-ty.the-row r0 (v0 ∷ [])) (said0 : r0 ≡ begunOf x-g xs-b0 xs-b1 x-n0 x-n1 x-blockcount x-seed x-rules (length xs-entries) xs-dat) (r1 : State) (v1 : Val) (is1 : Is State-ty.the-row r1 (v1 ∷ [])) (y1b0 : List ℕ) (m1b0 : length y1b0 ≡ length xs-b0) (y1b1 : List ℕ) (m1b1 : length y1b1 ≡ length xs-b1) (said1 : trio r1 y1b0 y1b1 ≡ eachOf (length xs-entries) xs-entries xs-dat xs-b0 xs-b1 r0) (r2 : State) (v2 : Val) (is2 : Is State-ty.the-row r2 (v2 ∷ [])) (said2 : r2 ≡ decidedOf r1 x-g y1b0 y1b1 x-stores) (r3 : State) (v3 : Val) (is3 : Is State-ty.the-row r3 (v3 ∷ [])) (y3b0 : List ℕ) (m3b0 : length y3b0 ≡ length xs-b0) (y3b1 : List ℕ) (m3b1 : length y3b1 ≡ length xs-b1) (said3 : trio r3 y3b0 y3b1 ≡ eachOf (length xs-entries) xs-entries xs-dat y1b0 y1b1 r2) (r4 : State) (v4 : Val) (is4 : Is State-ty.the-row r4 (v4 ∷ [])) (y4b0 : List ℕ) (m4b0 : length y4b0 ≡ length xs-b0) (y4b1 : List ℕ) (m4b1 : length y4b1 ≡ length xs-b1) (said4 : trio r4 y4b0 y4b1 ≡ sealedOf r3 y3b0 y3b1) → ent 𝓤 (⋆ 𝓤 H A (At y4b0 y4b1 (‵ (fat fullShare State-laws.mir l0 0 v4)) (‵ (fat fullShare State-laws.mir l12 0 v0)) (‵ (fat fullShare State-laws.mir l13 0 v1)) (‵ (fat fullShare State-laws.mir l14 0 v2)) (‵ (fat fullShare State-laws.mir l15 0 v3)) (‵ (fat fullShare (tyInt w64) l20 0 (vint w64 (length xs-entries)))))) (Wp 𝓤 H C Λ En t-27 (atReturn 𝓤 H En Post))
+          part-5 : (r0 : State) (v0 : Val) (is0 : Is State-ty.the-row r0 (v0 ∷ [])) (said0 : r0 ≡ begunOf x-g xs-b0 xs-b1 x-n0 x-n1 x-blockcount x-seed x-rules x-erased (length xs-entries) xs-dat) (r1 : State) (v1 : Val) (is1 : Is State-ty.the-row r1 (v1 ∷ [])) (y1b0 : List ℕ) (m1b0 : length y1b0 ≡ length xs-b0) (y1b1 : List ℕ) (m1b1 : length y1b1 ≡ length xs-b1) (said1 : trio r1 y1b0 y1b1 ≡ eachOf (length xs-entries) xs-entries xs-dat xs-b0 xs-b1 r0) (r2 : State) (v2 : Val) (is2 : Is State-ty.the-row r2 (v2 ∷ [])) (said2 : r2 ≡ decidedOf x-erased r1 x-g y1b0 y1b1 x-stores) (r3 : State) (v3 : Val) (is3 : Is State-ty.the-row r3 (v3 ∷ [])) (y3b0 : List ℕ) (m3b0 : length y3b0 ≡ length xs-b0) (y3b1 : List ℕ) (m3b1 : length y3b1 ≡ length xs-b1) (said3 : trio r3 y3b0 y3b1 ≡ eachOf (length xs-entries) xs-entries xs-dat y1b0 y1b1 r2) (r4 : State) (v4 : Val) (is4 : Is State-ty.the-row r4 (v4 ∷ [])) (y4b0 : List ℕ) (m4b0 : length y4b0 ≡ length xs-b0) (y4b1 : List ℕ) (m4b1 : length y4b1 ≡ length xs-b1) (said4 : trio r4 y4b0 y4b1 ≡ sealedOf r3 y3b0 y3b1) → ent 𝓤 (⋆ 𝓤 H A (At y4b0 y4b1 (‵ (fat fullShare State-laws.mir l0 0 v4)) (‵ (fat fullShare State-laws.mir l13 0 v0)) (‵ (fat fullShare State-laws.mir l14 0 v1)) (‵ (fat fullShare State-laws.mir l15 0 v2)) (‵ (fat fullShare State-laws.mir l16 0 v3)) (‵ (fat fullShare (tyInt w64) l21 0 (vint w64 (length xs-entries)))))) (Wp 𝓤 H C Λ En t-27 (atReturn 𝓤 H En Post))
           part-5 r0 v0 is0 said0 r1 v1 is1 y1b0 m1b0 y1b1 m1b1 said1 r2 v2 is2 said2 r3 v3 is3 y3b0 m3b0 y3b1 m3b1 said3 r4 v4 is4 y4b0 m4b0 y4b1 m4b1 said4 =
-              qed W (At y4b0 y4b1 (‵ (fat fullShare State-laws.mir l0 0 v4)) (‵ (fat fullShare State-laws.mir l12 0 v0)) (‵ (fat fullShare State-laws.mir l13 0 v1)) (‵ (fat fullShare State-laws.mir l14 0 v2)) (‵ (fat fullShare State-laws.mir l15 0 v3)) (‵ (fat fullShare (tyInt w64) l20 0 (vint w64 (length xs-entries))))) ∵ exec ! C Λ En t-27 (atRet En Post) $
+              qed W (At y4b0 y4b1 (‵ (fat fullShare State-laws.mir l0 0 v4)) (‵ (fat fullShare State-laws.mir l13 0 v0)) (‵ (fat fullShare State-laws.mir l14 0 v1)) (‵ (fat fullShare State-laws.mir l15 0 v2)) (‵ (fat fullShare State-laws.mir l16 0 v3)) (‵ (fat fullShare (tyInt w64) l21 0 (vint w64 (length xs-entries))))) ∵ exec ! C Λ En t-27 (atRet En Post) $
               returns ! (look ! 8 refl) $
-              forget ! 8 refl $ forget ! 9 refl $ forget ! 10 refl $ forget ! 11 refl $ forget ! 12 refl $ forget ! 13 refl $ forget ! 14 refl $ forget ! 15 refl $ forget ! 16 refl $ forget ! 17 refl $ forget ! 18 refl $ forget ! 19 refl $ forget ! 20 refl $ forget ! 21 refl $ forget ! 22 refl $ forget ! 23 refl $ forget ! 28 refl $
-              move ! (45 ∷ []) $ split ! $ move ! (10 ∷ 0 ∷ []) $ free1 ! $ split ! $ move ! (10 ∷ 0 ∷ []) $ free1 ! $ split ! $ move ! (10 ∷ 0 ∷ []) $ free1 ! $ split ! $ move ! (10 ∷ 0 ∷ []) $ free1 ! $ split ! $ move ! (10 ∷ 0 ∷ []) $ free1 ! $ split ! $ move ! (10 ∷ 0 ∷ []) $ free1 ! $ split ! $ move ! (10 ∷ 0 ∷ []) $ free1 ! $ split ! $ move ! (10 ∷ 0 ∷ []) $ free1 ! $ split ! $ move ! (10 ∷ 0 ∷ []) $ free1 ! $ split ! $ move ! (10 ∷ 0 ∷ []) $ free1 ! $ split ! $ move ! (10 ∷ 0 ∷ []) $ free1 ! $ split ! $ move ! (10 ∷ 0 ∷ []) $ free1 ! $ split ! $ move ! (10 ∷ 0 ∷ []) $ free1 ! $ split ! $ move ! (10 ∷ 0 ∷ []) $ free1 ! $ split ! $ move ! (10 ∷ 0 ∷ []) $ free1 ! $ split ! $ move ! (10 ∷ 0 ∷ []) $ free1 ! $ split ! $ move ! (10 ∷ 0 ∷ []) $ free1 ! $ split ! $ move ! (10 ∷ 0 ∷ []) $ free1 ! $ split ! $ move ! (10 ∷ 0 ∷ []) $ free1 ! $ split ! $ move ! (10 ∷ 0 ∷ []) $ free1 ! $ split ! $ move ! (10 ∷ 0 ∷ []) $ free1 ! $ split ! $ move ! (10 ∷ 0 ∷ []) $ free1 ! $ split ! $ move ! (10 ∷ 0 ∷ []) $ free1 ! $ split ! $ move ! (10 ∷ 0 ∷ []) $ free1 ! $ split ! $ move ! (10 ∷ 0 ∷ []) $ free1 ! $ split ! $ move ! (10 ∷ 0 ∷ []) $ free1 ! $ split ! $ move ! (10 ∷ 0 ∷ []) $ free1 ! $ split ! $ move ! (10 ∷ 0 ∷ []) $ free1 ! $ split ! $ move ! (10 ∷ 0 ∷ []) $ free1 ! $ split ! $ move ! (10 ∷ 0 ∷ []) $ free1 ! $ split ! $ move ! (10 ∷ 0 ∷ []) $ free1 ! $ split ! $ move ! (10 ∷ 0 ∷ []) $ free1 ! $ split ! $ move ! (10 ∷ 0 ∷ []) $ free1 ! $ split ! $ move ! (10 ∷ 0 ∷ []) $ free1 ! $ split ! $ move ! (10 ∷ 0 ∷ []) $ free1 ! $ split ! $ move ! (10 ∷ 0 ∷ []) $ free1 ! $ move ! (9 ∷ 0 ∷ []) $ free1 ! $ free0 ! $
-              by ! (exits r4 v4 y4b0 y4b1 m4b0 m4b1 is4 (run-glue xs-b0 xs-b1 xs-entries xs-dat x-g x-n0 x-n1 x-blockcount x-seed x-rules x-stores r0 r1 y1b0 y1b1 r2 r3 y3b0 y3b1 r4 y4b0 y4b1 said0 said1 said2 said3 said4))
+              forget ! 8 refl $ forget ! 9 refl $ forget ! 10 refl $ forget ! 11 refl $ forget ! 12 refl $ forget ! 13 refl $ forget ! 14 refl $ forget ! 15 refl $ forget ! 16 refl $ forget ! 17 refl $ forget ! 18 refl $ forget ! 19 refl $ forget ! 20 refl $ forget ! 21 refl $ forget ! 22 refl $ forget ! 23 refl $ forget ! 24 refl $ forget ! 29 refl $
+              move ! (46 ∷ []) $ split ! $ move ! (10 ∷ 0 ∷ []) $ free1 ! $ split ! $ move ! (10 ∷ 0 ∷ []) $ free1 ! $ split ! $ move ! (10 ∷ 0 ∷ []) $ free1 ! $ split ! $ move ! (10 ∷ 0 ∷ []) $ free1 ! $ split ! $ move ! (10 ∷ 0 ∷ []) $ free1 ! $ split ! $ move ! (10 ∷ 0 ∷ []) $ free1 ! $ split ! $ move ! (10 ∷ 0 ∷ []) $ free1 ! $ split ! $ move ! (10 ∷ 0 ∷ []) $ free1 ! $ split ! $ move ! (10 ∷ 0 ∷ []) $ free1 ! $ split ! $ move ! (10 ∷ 0 ∷ []) $ free1 ! $ split ! $ move ! (10 ∷ 0 ∷ []) $ free1 ! $ split ! $ move ! (10 ∷ 0 ∷ []) $ free1 ! $ split ! $ move ! (10 ∷ 0 ∷ []) $ free1 ! $ split ! $ move ! (10 ∷ 0 ∷ []) $ free1 ! $ split ! $ move ! (10 ∷ 0 ∷ []) $ free1 ! $ split ! $ move ! (10 ∷ 0 ∷ []) $ free1 ! $ split ! $ move ! (10 ∷ 0 ∷ []) $ free1 ! $ split ! $ move ! (10 ∷ 0 ∷ []) $ free1 ! $ split ! $ move ! (10 ∷ 0 ∷ []) $ free1 ! $ split ! $ move ! (10 ∷ 0 ∷ []) $ free1 ! $ split ! $ move ! (10 ∷ 0 ∷ []) $ free1 ! $ split ! $ move ! (10 ∷ 0 ∷ []) $ free1 ! $ split ! $ move ! (10 ∷ 0 ∷ []) $ free1 ! $ split ! $ move ! (10 ∷ 0 ∷ []) $ free1 ! $ split ! $ move ! (10 ∷ 0 ∷ []) $ free1 ! $ split ! $ move ! (10 ∷ 0 ∷ []) $ free1 ! $ split ! $ move ! (10 ∷ 0 ∷ []) $ free1 ! $ split ! $ move ! (10 ∷ 0 ∷ []) $ free1 ! $ split ! $ move ! (10 ∷ 0 ∷ []) $ free1 ! $ split ! $ move ! (10 ∷ 0 ∷ []) $ free1 ! $ split ! $ move ! (10 ∷ 0 ∷ []) $ free1 ! $ split ! $ move ! (10 ∷ 0 ∷ []) $ free1 ! $ split ! $ move ! (10 ∷ 0 ∷ []) $ free1 ! $ split ! $ move ! (10 ∷ 0 ∷ []) $ free1 ! $ split ! $ move ! (10 ∷ 0 ∷ []) $ free1 ! $ split ! $ move ! (10 ∷ 0 ∷ []) $ free1 ! $ split ! $ move ! (10 ∷ 0 ∷ []) $ free1 ! $ move ! (9 ∷ 0 ∷ []) $ free1 ! $ free0 ! $
+              by ! (exits r4 v4 y4b0 y4b1 m4b0 m4b1 is4 (run-glue xs-b0 xs-b1 xs-entries xs-dat x-g x-n0 x-n1 x-blockcount x-seed x-rules x-erased x-stores r0 r1 y1b0 y1b1 r2 r3 y3b0 y3b1 r4 y4b0 y4b1 said0 said1 said2 said3 said4))
 
-          part-4 : (r0 : State) (v0 : Val) (is0 : Is State-ty.the-row r0 (v0 ∷ [])) (said0 : r0 ≡ begunOf x-g xs-b0 xs-b1 x-n0 x-n1 x-blockcount x-seed x-rules (length xs-entries) xs-dat) (r1 : State) (v1 : Val) (is1 : Is State-ty.the-row r1 (v1 ∷ [])) (y1b0 : List ℕ) (m1b0 : length y1b0 ≡ length xs-b0) (y1b1 : List ℕ) (m1b1 : length y1b1 ≡ length xs-b1) (said1 : trio r1 y1b0 y1b1 ≡ eachOf (length xs-entries) xs-entries xs-dat xs-b0 xs-b1 r0) (r2 : State) (v2 : Val) (is2 : Is State-ty.the-row r2 (v2 ∷ [])) (said2 : r2 ≡ decidedOf r1 x-g y1b0 y1b1 x-stores) (r3 : State) (v3 : Val) (is3 : Is State-ty.the-row r3 (v3 ∷ [])) (y3b0 : List ℕ) (m3b0 : length y3b0 ≡ length xs-b0) (y3b1 : List ℕ) (m3b1 : length y3b1 ≡ length xs-b1) (said3 : trio r3 y3b0 y3b1 ≡ eachOf (length xs-entries) xs-entries xs-dat y1b0 y1b1 r2) → ent 𝓤 (⋆ 𝓤 H A (At y3b0 y3b1 (‵ (froom State-laws.mir l0 0)) (‵ (fat fullShare State-laws.mir l12 0 v0)) (‵ (fat fullShare State-laws.mir l13 0 v1)) (‵ (fat fullShare State-laws.mir l14 0 v2)) (‵ (fat fullShare State-laws.mir l15 0 v3)) (‵ (fat fullShare (tyInt w64) l20 0 (vint w64 (length xs-entries)))))) (Wp 𝓤 H C Λ En t-22 (atReturn 𝓤 H En Post))
+          part-4 : (r0 : State) (v0 : Val) (is0 : Is State-ty.the-row r0 (v0 ∷ [])) (said0 : r0 ≡ begunOf x-g xs-b0 xs-b1 x-n0 x-n1 x-blockcount x-seed x-rules x-erased (length xs-entries) xs-dat) (r1 : State) (v1 : Val) (is1 : Is State-ty.the-row r1 (v1 ∷ [])) (y1b0 : List ℕ) (m1b0 : length y1b0 ≡ length xs-b0) (y1b1 : List ℕ) (m1b1 : length y1b1 ≡ length xs-b1) (said1 : trio r1 y1b0 y1b1 ≡ eachOf (length xs-entries) xs-entries xs-dat xs-b0 xs-b1 r0) (r2 : State) (v2 : Val) (is2 : Is State-ty.the-row r2 (v2 ∷ [])) (said2 : r2 ≡ decidedOf x-erased r1 x-g y1b0 y1b1 x-stores) (r3 : State) (v3 : Val) (is3 : Is State-ty.the-row r3 (v3 ∷ [])) (y3b0 : List ℕ) (m3b0 : length y3b0 ≡ length xs-b0) (y3b1 : List ℕ) (m3b1 : length y3b1 ≡ length xs-b1) (said3 : trio r3 y3b0 y3b1 ≡ eachOf (length xs-entries) xs-entries xs-dat y1b0 y1b1 r2) → ent 𝓤 (⋆ 𝓤 H A (At y3b0 y3b1 (‵ (froom State-laws.mir l0 0)) (‵ (fat fullShare State-laws.mir l13 0 v0)) (‵ (fat fullShare State-laws.mir l14 0 v1)) (‵ (fat fullShare State-laws.mir l15 0 v2)) (‵ (fat fullShare State-laws.mir l16 0 v3)) (‵ (fat fullShare (tyInt w64) l21 0 (vint w64 (length xs-entries)))))) (Wp 𝓤 H C Λ En t-22 (atReturn 𝓤 H En Post))
           part-4 r0 v0 is0 said0 r1 v1 is1 y1b0 m1b0 y1b1 m1b1 said1 r2 v2 is2 said2 r3 v3 is3 y3b0 m3b0 y3b1 m3b1 said3 =
-              qed W (At y3b0 y3b1 (‵ (froom State-laws.mir l0 0)) (‵ (fat fullShare State-laws.mir l12 0 v0)) (‵ (fat fullShare State-laws.mir l13 0 v1)) (‵ (fat fullShare State-laws.mir l14 0 v2)) (‵ (fat fullShare State-laws.mir l15 0 v3)) (‵ (fat fullShare (tyInt w64) l20 0 (vint w64 (length xs-entries))))) ∵ exec ! C Λ En t-22 (atRet En Post) $
-              assigns ! (addr ! (from ! (fld ! refl (hop ! (look-in ! 10 (sub ! 0 refl (whole !))) (stop !))))) (from ! (stop !)) (init ! 41 refl (tt, tt)) $
-              assigns ! (agg ! (and-then ! (load ! (from ! (stop !)) (look ! 41 refl)) (and-then ! (load ! (from ! (fld ! refl (stop !))) (look-in ! 10 (sub ! 1 refl (whole !)))) (no-more !)))) (from ! (stop !)) (init ! 42 refl (tt, (tt, (record { fits = g-b0 .0 }, tt)))) $
-              assigns ! (addr ! (from ! (fld ! refl (hop ! (look-in ! 11 (sub ! 0 refl (whole !))) (stop !))))) (from ! (stop !)) (init ! 43 refl (tt, tt)) $
-              assigns ! (agg ! (and-then ! (load ! (from ! (stop !)) (look ! 43 refl)) (and-then ! (load ! (from ! (fld ! refl (stop !))) (look-in ! 11 (sub ! 1 refl (whole !)))) (no-more !)))) (from ! (stop !)) (init ! 44 refl (tt, (tt, (record { fits = g-b1 .0 }, tt)))) $
+              qed W (At y3b0 y3b1 (‵ (froom State-laws.mir l0 0)) (‵ (fat fullShare State-laws.mir l13 0 v0)) (‵ (fat fullShare State-laws.mir l14 0 v1)) (‵ (fat fullShare State-laws.mir l15 0 v2)) (‵ (fat fullShare State-laws.mir l16 0 v3)) (‵ (fat fullShare (tyInt w64) l21 0 (vint w64 (length xs-entries))))) ∵ exec ! C Λ En t-22 (atRet En Post) $
+              assigns ! (addr ! (from ! (fld ! refl (hop ! (look-in ! 10 (sub ! 0 refl (whole !))) (stop !))))) (from ! (stop !)) (init ! 42 refl (tt, tt)) $
+              assigns ! (agg ! (and-then ! (load ! (from ! (stop !)) (look ! 42 refl)) (and-then ! (load ! (from ! (fld ! refl (stop !))) (look-in ! 10 (sub ! 1 refl (whole !)))) (no-more !)))) (from ! (stop !)) (init ! 43 refl (tt, (tt, (record { fits = g-b0 .0 }, tt)))) $
+              assigns ! (addr ! (from ! (fld ! refl (hop ! (look-in ! 11 (sub ! 0 refl (whole !))) (stop !))))) (from ! (stop !)) (init ! 44 refl (tt, tt)) $
+              assigns ! (agg ! (and-then ! (load ! (from ! (stop !)) (look ! 44 refl)) (and-then ! (load ! (from ! (fld ! refl (stop !))) (look-in ! 11 (sub ! 1 refl (whole !)))) (no-more !)))) (from ! (stop !)) (init ! 45 refl (tt, (tt, (record { fits = g-b1 .0 }, tt)))) $
               lft-new ! tt (λ ν4b0. move ! (1 ∷ 5 ∷ []) $ use2 W (later (some (λ (δ : GName). ‵ (MutSlice (named 0) (ν4b0 ∷ []) u8 .own (ref-b0 δ y3b0) (s-b0 ∷ [])) ⊛ ‵ (LentAgain u8 κ-b0 (ν4b0 ∷ []) q-b0 γ-b0 b-b0 o-b0 δ y3b0)))) (lends-at u8 κ-b0 (ν4b0 ∷ []) q-b0 γ-b0 b-b0 o-b0 𝓤 H A W (named 0) (named 0) y3b0 (length xs-b0) m3b0) $ await ! tt $ pick ! (λ δ4b0. split ! $
               lft-new ! tt (λ ν4b1. move ! (4 ∷ 7 ∷ []) $ use2 W (later (some (λ (δ : GName). ‵ (MutSlice (named 1) (ν4b1 ∷ []) u8 .own (ref-b1 δ y3b1) (s-b1 ∷ [])) ⊛ ‵ (LentAgain u8 κ-b1 (ν4b1 ∷ []) q-b1 γ-b1 b-b1 o-b1 δ y3b1)))) (lends-at u8 κ-b1 (ν4b1 ∷ []) q-b1 γ-b1 b-b1 o-b1 𝓤 H A W (named 1) (named 1) y3b1 (length xs-b1) m3b1) $ await ! tt $ pick ! (λ δ4b1. split ! $
               move ! (5 ∷ 2 ∷ 3 ∷ 0 ∷ []) $ group ! 4 $ use1 W (raw (K-seal .pre (((((ν4b0 ∷ []), ((ν4b1 ∷ []), tt))), ((fullShare, (fullShare, tt))), tt, (r3, ((ref-b0 δ4b0 y3b0), ((ref-b1 δ4b1 y3b1), tt))), (v3 ∷ [], (s-b0 ∷ [], (s-b1 ∷ [], tt)))), tt))) (goes-4 r3 v3 is3 ν4b0 δ4b0 y3b0 ν4b1 δ4b1 y3b1) $
-              calls-at ! fm K-seal known-seal (((((ν4b0 ∷ []), ((ν4b1 ∷ []), tt))), ((fullShare, (fullShare, tt))), tt, (r3, ((ref-b0 δ4b0 y3b0), ((ref-b1 δ4b1 y3b1), tt))), (v3 ∷ [], (s-b0 ∷ [], (s-b1 ∷ [], tt)))), tt) (and-then ! (load ! (from ! (stop !)) (look ! 22 refl)) (and-then ! (load ! (from ! (stop !)) (look ! 41 refl)) (and-then ! (load ! (from ! (stop !)) (look ! 43 refl)) (no-more !)))) (λ v4.
+              calls-at ! fm K-seal known-seal (((((ν4b0 ∷ []), ((ν4b1 ∷ []), tt))), ((fullShare, (fullShare, tt))), tt, (r3, ((ref-b0 δ4b0 y3b0), ((ref-b1 δ4b1 y3b1), tt))), (v3 ∷ [], (s-b0 ∷ [], (s-b1 ∷ [], tt)))), tt) (and-then ! (load ! (from ! (stop !)) (look ! 23 refl)) (and-then ! (load ! (from ! (stop !)) (look ! 42 refl)) (and-then ! (load ! (from ! (stop !)) (look ! 44 refl)) (no-more !)))) (λ v4.
               use1 W (later (some (λ (r4 : State). ((‵ (flft (ν4b0 ∷ []) fullShare) ⊛ ‵ (flft (ν4b1 ∷ []) fullShare) ⊛ ‵ ftrue) ⊛ ‵ (State-ty.the-row .own r4 (v4 ∷ []))) ⊛ raw (ensured 𝓤 H A seal-fn.ended (seal-fn.clauses 𝓤 H A at-mem run) ((ν4b0 ∷ []), ((ν4b1 ∷ []), tt)) (r3, ((ref-b0 δ4b0 y3b0), ((ref-b1 δ4b1 y3b1), tt))) tt r4)))) (id⊢ 𝓤 _) $ await ! tt $ pick ! (λ r4. split ! $ move ! (1 ∷ []) $
               use1 W (some (λ (ws4 : Unit {0} × (List ℕ × (List ℕ × Unit {0}))). ‵ (lasts seal-fn.ended ((ν4b0 ∷ []), ((ν4b1 ∷ []), tt)) (r3, ((ref-b0 δ4b0 y3b0), ((ref-b1 δ4b1 y3b1), tt))) ws4) ⊛ raw (fact 𝓤 (trio r4 (ws4 .1 .0) (ws4 .1 .1 .0) ≡ sealedOf r3 y3b0 y3b1)))) (id⊢ 𝓤 _) $ pick ! (λ ws4. split ! $ move ! (1 ∷ []) $ heard ! (trio r4 (ws4 .1 .0) (ws4 .1 .1 .0) ≡ sealedOf r3 y3b0 y3b1) (λ said4.
               fsplit ! $ move ! (1 ∷ []) $ fsplit ! $ fsplit ! $ move ! (1 ∷ []) $ feqL ! (λ l4b0. move ! (1 ∷ []) $ fsplit ! $ fsplit ! $ move ! (1 ∷ []) $ feqL ! (λ l4b1. move ! (4 ∷ []) $ split ! $ move ! (1 ∷ []) $ facts ! State-ty.the-row (Is State-ty.the-row) (shows 𝓤 H A State-ty.the-row) r4 (v4 ∷ []) (λ is4. land ! (from ! (stop !)) (init ! 11 refl (typed-State r4 v4 is4)) $
               split ! $ move ! (1 ∷ []) $ split ! $ move ! (2 ∷ []) $ lft-end ! tt $ move ! (0 ∷ 8 ∷ 5 ∷ []) $ use3 W (later (‵ (Own-b0 (ws4 .1 .0)) ⊛ ‵ (flft κ-b0 q-b0))) (comes-at u8 κ-b0 (ν4b0 ∷ []) q-b0 γ-b0 b-b0 o-b0 𝓤 H A W (named 0) (named 0) y3b0 (length xs-b0) m3b0 δ4b0 (ws4 .1 .0) g-b0 l4b0) $ await ! tt $ split ! $
               move ! (2 ∷ []) $ lft-end ! tt $ move ! (0 ∷ 7 ∷ 4 ∷ []) $ use3 W (later (‵ (Own-b1 (ws4 .1 .1 .0)) ⊛ ‵ (flft κ-b1 q-b1))) (comes-at u8 κ-b1 (ν4b1 ∷ []) q-b1 γ-b1 b-b1 o-b1 𝓤 H A W (named 1) (named 1) y3b1 (length xs-b1) m3b1 δ4b1 (ws4 .1 .1 .0) g-b1 l4b1) $ await ! tt $ split ! $
-              keep ! (2 ∷ 0 ∷ 7 ∷ 8 ∷ 3 ∷ 1 ∷ 9 ∷ 10 ∷ 11 ∷ 12 ∷ 13 ∷ 14 ∷ 15 ∷ 16 ∷ 17 ∷ 18 ∷ 19 ∷ 20 ∷ 21 ∷ 22 ∷ 23 ∷ 24 ∷ 25 ∷ 26 ∷ 27 ∷ 28 ∷ 29 ∷ 30 ∷ 31 ∷ 32 ∷ 33 ∷ 34 ∷ 35 ∷ 36 ∷ 37 ∷ 38 ∷ 39 ∷ 40 ∷ 41 ∷ 42 ∷ 43 ∷ 44 ∷ 45 ∷ 46 ∷ 47 ∷ 48 ∷ []) $
-              forget ! 41 refl $ forget ! 42 refl $ forget ! 43 refl $ forget ! 44 refl $ by ! (part-5 r0 v0 is0 said0 r1 v1 is1 y1b0 m1b0 y1b1 m1b1 said1 r2 v2 is2 said2 r3 v3 is3 y3b0 m3b0 y3b1 m3b1 said3 r4 v4 is4 (ws4 .1 .0) (l4b0 ∙ m3b0) (ws4 .1 .1 .0) (l4b1 ∙ m3b1) said4))))))))))))
+              keep ! (2 ∷ 0 ∷ 7 ∷ 8 ∷ 3 ∷ 1 ∷ 9 ∷ 10 ∷ 11 ∷ 12 ∷ 13 ∷ 14 ∷ 15 ∷ 16 ∷ 17 ∷ 18 ∷ 19 ∷ 20 ∷ 21 ∷ 22 ∷ 23 ∷ 24 ∷ 25 ∷ 26 ∷ 27 ∷ 28 ∷ 29 ∷ 30 ∷ 31 ∷ 32 ∷ 33 ∷ 34 ∷ 35 ∷ 36 ∷ 37 ∷ 38 ∷ 39 ∷ 40 ∷ 41 ∷ 42 ∷ 43 ∷ 44 ∷ 45 ∷ 46 ∷ 47 ∷ 48 ∷ 49 ∷ []) $
+              forget ! 42 refl $ forget ! 43 refl $ forget ! 44 refl $ forget ! 45 refl $ by ! (part-5 r0 v0 is0 said0 r1 v1 is1 y1b0 m1b0 y1b1 m1b1 said1 r2 v2 is2 said2 r3 v3 is3 y3b0 m3b0 y3b1 m3b1 said3 r4 v4 is4 (ws4 .1 .0) (l4b0 ∙ m3b0) (ws4 .1 .1 .0) (l4b1 ∙ m3b1) said4))))))))))))
 
-          part-3 : (r0 : State) (v0 : Val) (is0 : Is State-ty.the-row r0 (v0 ∷ [])) (said0 : r0 ≡ begunOf x-g xs-b0 xs-b1 x-n0 x-n1 x-blockcount x-seed x-rules (length xs-entries) xs-dat) (r1 : State) (v1 : Val) (is1 : Is State-ty.the-row r1 (v1 ∷ [])) (y1b0 : List ℕ) (m1b0 : length y1b0 ≡ length xs-b0) (y1b1 : List ℕ) (m1b1 : length y1b1 ≡ length xs-b1) (said1 : trio r1 y1b0 y1b1 ≡ eachOf (length xs-entries) xs-entries xs-dat xs-b0 xs-b1 r0) (r2 : State) (v2 : Val) (is2 : Is State-ty.the-row r2 (v2 ∷ [])) (said2 : r2 ≡ decidedOf r1 x-g y1b0 y1b1 x-stores) → ent 𝓤 (⋆ 𝓤 H A (At y1b0 y1b1 (‵ (froom State-laws.mir l0 0)) (‵ (fat fullShare State-laws.mir l12 0 v0)) (‵ (fat fullShare State-laws.mir l13 0 v1)) (‵ (fat fullShare State-laws.mir l14 0 v2)) (‵ (froom State-laws.mir l15 0)) (‵ (fat fullShare (tyInt w64) l20 0 (vint w64 (length xs-entries)))))) (Wp 𝓤 H C Λ En t-17 (atReturn 𝓤 H En Post))
+          part-3 : (r0 : State) (v0 : Val) (is0 : Is State-ty.the-row r0 (v0 ∷ [])) (said0 : r0 ≡ begunOf x-g xs-b0 xs-b1 x-n0 x-n1 x-blockcount x-seed x-rules x-erased (length xs-entries) xs-dat) (r1 : State) (v1 : Val) (is1 : Is State-ty.the-row r1 (v1 ∷ [])) (y1b0 : List ℕ) (m1b0 : length y1b0 ≡ length xs-b0) (y1b1 : List ℕ) (m1b1 : length y1b1 ≡ length xs-b1) (said1 : trio r1 y1b0 y1b1 ≡ eachOf (length xs-entries) xs-entries xs-dat xs-b0 xs-b1 r0) (r2 : State) (v2 : Val) (is2 : Is State-ty.the-row r2 (v2 ∷ [])) (said2 : r2 ≡ decidedOf x-erased r1 x-g y1b0 y1b1 x-stores) → ent 𝓤 (⋆ 𝓤 H A (At y1b0 y1b1 (‵ (froom State-laws.mir l0 0)) (‵ (fat fullShare State-laws.mir l13 0 v0)) (‵ (fat fullShare State-laws.mir l14 0 v1)) (‵ (fat fullShare State-laws.mir l15 0 v2)) (‵ (froom State-laws.mir l16 0)) (‵ (fat fullShare (tyInt w64) l21 0 (vint w64 (length xs-entries)))))) (Wp 𝓤 H C Λ En t-17 (atReturn 𝓤 H En Post))
           part-3 r0 v0 is0 said0 r1 v1 is1 y1b0 m1b0 y1b1 m1b1 said1 r2 v2 is2 said2 =
-              qed W (At y1b0 y1b1 (‵ (froom State-laws.mir l0 0)) (‵ (fat fullShare State-laws.mir l12 0 v0)) (‵ (fat fullShare State-laws.mir l13 0 v1)) (‵ (fat fullShare State-laws.mir l14 0 v2)) (‵ (froom State-laws.mir l15 0)) (‵ (fat fullShare (tyInt w64) l20 0 (vint w64 (length xs-entries))))) ∵ exec ! C Λ En t-17 (atRet En Post) $
-              assigns ! (addr ! (from ! (fld ! refl (hop ! (look-in ! 10 (sub ! 0 refl (whole !))) (stop !))))) (from ! (stop !)) (init ! 37 refl (tt, tt)) $
-              assigns ! (agg ! (and-then ! (load ! (from ! (stop !)) (look ! 37 refl)) (and-then ! (load ! (from ! (fld ! refl (stop !))) (look-in ! 10 (sub ! 1 refl (whole !)))) (no-more !)))) (from ! (stop !)) (init ! 38 refl (tt, (tt, (record { fits = g-b0 .0 }, tt)))) $
-              assigns ! (addr ! (from ! (fld ! refl (hop ! (look-in ! 11 (sub ! 0 refl (whole !))) (stop !))))) (from ! (stop !)) (init ! 39 refl (tt, tt)) $
-              assigns ! (agg ! (and-then ! (load ! (from ! (stop !)) (look ! 39 refl)) (and-then ! (load ! (from ! (fld ! refl (stop !))) (look-in ! 11 (sub ! 1 refl (whole !)))) (no-more !)))) (from ! (stop !)) (init ! 40 refl (tt, (tt, (record { fits = g-b1 .0 }, tt)))) $
+              qed W (At y1b0 y1b1 (‵ (froom State-laws.mir l0 0)) (‵ (fat fullShare State-laws.mir l13 0 v0)) (‵ (fat fullShare State-laws.mir l14 0 v1)) (‵ (fat fullShare State-laws.mir l15 0 v2)) (‵ (froom State-laws.mir l16 0)) (‵ (fat fullShare (tyInt w64) l21 0 (vint w64 (length xs-entries))))) ∵ exec ! C Λ En t-17 (atRet En Post) $
+              assigns ! (addr ! (from ! (fld ! refl (hop ! (look-in ! 10 (sub ! 0 refl (whole !))) (stop !))))) (from ! (stop !)) (init ! 38 refl (tt, tt)) $
+              assigns ! (agg ! (and-then ! (load ! (from ! (stop !)) (look ! 38 refl)) (and-then ! (load ! (from ! (fld ! refl (stop !))) (look-in ! 10 (sub ! 1 refl (whole !)))) (no-more !)))) (from ! (stop !)) (init ! 39 refl (tt, (tt, (record { fits = g-b0 .0 }, tt)))) $
+              assigns ! (addr ! (from ! (fld ! refl (hop ! (look-in ! 11 (sub ! 0 refl (whole !))) (stop !))))) (from ! (stop !)) (init ! 40 refl (tt, tt)) $
+              assigns ! (agg ! (and-then ! (load ! (from ! (stop !)) (look ! 40 refl)) (and-then ! (load ! (from ! (fld ! refl (stop !))) (look-in ! 11 (sub ! 1 refl (whole !)))) (no-more !)))) (from ! (stop !)) (init ! 41 refl (tt, (tt, (record { fits = g-b1 .0 }, tt)))) $
               move ! (2 ∷ []) $ use1 W (‵ Own-entries ⊛ ‵ Own-entries) (shr-slice-copy 𝓤 H A W (named 2) κ-entries Entry-ty.the-row .twice (ref-entries γ-entries xs-entries) (s-entries ∷ [])) $ split ! $
               move ! (4 ∷ []) $ use1 W (‵ Own-dat ⊛ ‵ Own-dat) (shr-slice-copy 𝓤 H A W (named 3) κ-dat u8 .twice (ref-dat γ-dat xs-dat) (s-dat ∷ [])) $ split ! $
               lft-new ! tt (λ ν3b0. move ! (5 ∷ 7 ∷ []) $ use2 W (later (some (λ (δ : GName). ‵ (MutSlice (named 2) (ν3b0 ∷ []) u8 .own (ref-b0 δ y1b0) (s-b0 ∷ [])) ⊛ ‵ (LentAgain u8 κ-b0 (ν3b0 ∷ []) q-b0 γ-b0 b-b0 o-b0 δ y1b0)))) (lends-at u8 κ-b0 (ν3b0 ∷ []) q-b0 γ-b0 b-b0 o-b0 𝓤 H A W (named 0) (named 2) y1b0 (length xs-b0) m1b0) $ await ! tt $ pick ! (λ δ3b0. split ! $
               lft-new ! tt (λ ν3b1. move ! (8 ∷ 9 ∷ []) $ use2 W (later (some (λ (δ : GName). ‵ (MutSlice (named 3) (ν3b1 ∷ []) u8 .own (ref-b1 δ y1b1) (s-b1 ∷ [])) ⊛ ‵ (LentAgain u8 κ-b1 (ν3b1 ∷ []) q-b1 γ-b1 b-b1 o-b1 δ y1b1)))) (lends-at u8 κ-b1 (ν3b1 ∷ []) q-b1 γ-b1 b-b1 o-b1 𝓤 H A W (named 1) (named 3) y1b1 (length xs-b1) m1b1) $ await ! tt $ pick ! (λ δ3b1. split ! $
               move ! (10 ∷ 11 ∷ 5 ∷ 2 ∷ 8 ∷ 6 ∷ 3 ∷ 0 ∷ []) $ group ! 8 $ use1 W (raw (K-each .pre ((((κ-entries, (κ-dat, ((ν3b0 ∷ []), ((ν3b1 ∷ []), tt))))), ((q-entries, (q-dat, (fullShare, (fullShare, tt))))), tt, ((ref-entries γ-entries xs-entries), ((ref-dat γ-dat xs-dat), ((ref-b0 δ3b0 y1b0), ((ref-b1 δ3b1 y1b1), (r2, tt))))), (s-entries ∷ [], (s-dat ∷ [], (s-b0 ∷ [], (s-b1 ∷ [], (v2 ∷ [], tt)))))), tt))) (goes-3 ν3b0 δ3b0 y1b0 ν3b1 δ3b1 y1b1 r2 v2 is2) $
-              calls-at ! fm K-each known-each ((((κ-entries, (κ-dat, ((ν3b0 ∷ []), ((ν3b1 ∷ []), tt))))), ((q-entries, (q-dat, (fullShare, (fullShare, tt))))), tt, ((ref-entries γ-entries xs-entries), ((ref-dat γ-dat xs-dat), ((ref-b0 δ3b0 y1b0), ((ref-b1 δ3b1 y1b1), (r2, tt))))), (s-entries ∷ [], (s-dat ∷ [], (s-b0 ∷ [], (s-b1 ∷ [], (v2 ∷ [], tt)))))), tt) (and-then ! (load ! (from ! (stop !)) (look ! 14 refl)) (and-then ! (load ! (from ! (stop !)) (look ! 15 refl)) (and-then ! (load ! (from ! (stop !)) (look ! 35 refl)) (and-then ! (load ! (from ! (stop !)) (look ! 37 refl)) (and-then ! (load ! (from ! (stop !)) (look ! 19 refl)) (no-more !)))))) (λ v3.
+              calls-at ! fm K-each known-each ((((κ-entries, (κ-dat, ((ν3b0 ∷ []), ((ν3b1 ∷ []), tt))))), ((q-entries, (q-dat, (fullShare, (fullShare, tt))))), tt, ((ref-entries γ-entries xs-entries), ((ref-dat γ-dat xs-dat), ((ref-b0 δ3b0 y1b0), ((ref-b1 δ3b1 y1b1), (r2, tt))))), (s-entries ∷ [], (s-dat ∷ [], (s-b0 ∷ [], (s-b1 ∷ [], (v2 ∷ [], tt)))))), tt) (and-then ! (load ! (from ! (stop !)) (look ! 15 refl)) (and-then ! (load ! (from ! (stop !)) (look ! 16 refl)) (and-then ! (load ! (from ! (stop !)) (look ! 36 refl)) (and-then ! (load ! (from ! (stop !)) (look ! 38 refl)) (and-then ! (load ! (from ! (stop !)) (look ! 20 refl)) (no-more !)))))) (λ v3.
               use1 W (later (some (λ (r3 : State). ((‵ (flft κ-entries q-entries) ⊛ ‵ (flft κ-dat q-dat) ⊛ ‵ (flft (ν3b0 ∷ []) fullShare) ⊛ ‵ (flft (ν3b1 ∷ []) fullShare) ⊛ ‵ ftrue) ⊛ ‵ (State-ty.the-row .own r3 (v3 ∷ []))) ⊛ raw (ensured 𝓤 H A each-fn.ended (each-fn.clauses 𝓤 H A at-mem run) (κ-entries, (κ-dat, ((ν3b0 ∷ []), ((ν3b1 ∷ []), tt)))) ((ref-entries γ-entries xs-entries), ((ref-dat γ-dat xs-dat), ((ref-b0 δ3b0 y1b0), ((ref-b1 δ3b1 y1b1), (r2, tt))))) tt r3)))) (id⊢ 𝓤 _) $ await ! tt $ pick ! (λ r3. split ! $ move ! (1 ∷ []) $
               use1 W (some (λ (ws3 : Unit {0} × (Unit {0} × (List ℕ × (List ℕ × (Unit {0} × Unit {0}))))). ‵ (lasts each-fn.ended (κ-entries, (κ-dat, ((ν3b0 ∷ []), ((ν3b1 ∷ []), tt)))) ((ref-entries γ-entries xs-entries), ((ref-dat γ-dat xs-dat), ((ref-b0 δ3b0 y1b0), ((ref-b1 δ3b1 y1b1), (r2, tt))))) ws3) ⊛ raw (fact 𝓤 (trio r3 (ws3 .1 .1 .0) (ws3 .1 .1 .1 .0) ≡ eachOf (length xs-entries) xs-entries xs-dat y1b0 y1b1 r2)))) (id⊢ 𝓤 _) $ pick ! (λ ws3. split ! $ move ! (1 ∷ []) $ heard ! (trio r3 (ws3 .1 .1 .0) (ws3 .1 .1 .1 .0) ≡ eachOf (length xs-entries) xs-entries xs-dat y1b0 y1b1 r2) (λ said3.
-              fsplit ! $ move ! (1 ∷ []) $ fsplit ! $ move ! (1 ∷ []) $ fsplit ! $ fsplit ! $ move ! (1 ∷ []) $ feqL ! (λ l3b0. move ! (1 ∷ []) $ fsplit ! $ fsplit ! $ move ! (1 ∷ []) $ feqL ! (λ l3b1. move ! (1 ∷ []) $ fsplit ! $ move ! (6 ∷ []) $ split ! $ move ! (1 ∷ []) $ facts ! State-ty.the-row (Is State-ty.the-row) (shows 𝓤 H A State-ty.the-row) r3 (v3 ∷ []) (λ is3. land ! (from ! (stop !)) (init ! 26 refl (typed-State r3 v3 is3)) $
+              fsplit ! $ move ! (1 ∷ []) $ fsplit ! $ move ! (1 ∷ []) $ fsplit ! $ fsplit ! $ move ! (1 ∷ []) $ feqL ! (λ l3b0. move ! (1 ∷ []) $ fsplit ! $ fsplit ! $ move ! (1 ∷ []) $ feqL ! (λ l3b1. move ! (1 ∷ []) $ fsplit ! $ move ! (6 ∷ []) $ split ! $ move ! (1 ∷ []) $ facts ! State-ty.the-row (Is State-ty.the-row) (shows 𝓤 H A State-ty.the-row) r3 (v3 ∷ []) (λ is3. land ! (from ! (stop !)) (init ! 27 refl (typed-State r3 v3 is3)) $
               split ! $ move ! (1 ∷ []) $ split ! $ move ! (1 ∷ []) $ split ! $ move ! (1 ∷ []) $ split ! $ move ! (2 ∷ []) $ lft-end ! tt $ move ! (0 ∷ 12 ∷ 8 ∷ []) $ use3 W (later (‵ (Own-b0 (ws3 .1 .1 .0)) ⊛ ‵ (flft κ-b0 q-b0))) (comes-at u8 κ-b0 (ν3b0 ∷ []) q-b0 γ-b0 b-b0 o-b0 𝓤 H A W (named 0) (named 2) y1b0 (length xs-b0) m1b0 δ3b0 (ws3 .1 .1 .0) g-b0 l3b0) $ await ! tt $ split ! $
               move ! (2 ∷ []) $ lft-end ! tt $ move ! (0 ∷ 11 ∷ 8 ∷ []) $ use3 W (later (‵ (Own-b1 (ws3 .1 .1 .1 .0)) ⊛ ‵ (flft κ-b1 q-b1))) (comes-at u8 κ-b1 (ν3b1 ∷ []) q-b1 γ-b1 b-b1 o-b1 𝓤 H A W (named 1) (named 3) y1b1 (length xs-b1) m1b1 δ3b1 (ws3 .1 .1 .1 .0) g-b1 l3b1) $ await ! tt $ split ! $
-              keep ! (2 ∷ 0 ∷ 12 ∷ 11 ∷ 3 ∷ 1 ∷ 6 ∷ 5 ∷ 13 ∷ 14 ∷ 15 ∷ 16 ∷ 17 ∷ 18 ∷ 19 ∷ 20 ∷ 21 ∷ 22 ∷ 23 ∷ 24 ∷ 25 ∷ 26 ∷ 27 ∷ 28 ∷ 29 ∷ 30 ∷ 31 ∷ 32 ∷ 33 ∷ 34 ∷ 35 ∷ 36 ∷ 37 ∷ 38 ∷ 39 ∷ 40 ∷ 41 ∷ 42 ∷ 43 ∷ 44 ∷ 45 ∷ 46 ∷ 47 ∷ 48 ∷ 49 ∷ 50 ∷ []) $
-              forget ! 37 refl $ forget ! 38 refl $ forget ! 39 refl $ forget ! 40 refl $ by ! (part-4 r0 v0 is0 said0 r1 v1 is1 y1b0 m1b0 y1b1 m1b1 said1 r2 v2 is2 said2 r3 v3 is3 (ws3 .1 .1 .0) (l3b0 ∙ m1b0) (ws3 .1 .1 .1 .0) (l3b1 ∙ m1b1) said3))))))))))))
+              keep ! (2 ∷ 0 ∷ 12 ∷ 11 ∷ 3 ∷ 1 ∷ 6 ∷ 5 ∷ 13 ∷ 14 ∷ 15 ∷ 16 ∷ 17 ∷ 18 ∷ 19 ∷ 20 ∷ 21 ∷ 22 ∷ 23 ∷ 24 ∷ 25 ∷ 26 ∷ 27 ∷ 28 ∷ 29 ∷ 30 ∷ 31 ∷ 32 ∷ 33 ∷ 34 ∷ 35 ∷ 36 ∷ 37 ∷ 38 ∷ 39 ∷ 40 ∷ 41 ∷ 42 ∷ 43 ∷ 44 ∷ 45 ∷ 46 ∷ 47 ∷ 48 ∷ 49 ∷ 50 ∷ 51 ∷ []) $
+              forget ! 38 refl $ forget ! 39 refl $ forget ! 40 refl $ forget ! 41 refl $ by ! (part-4 r0 v0 is0 said0 r1 v1 is1 y1b0 m1b0 y1b1 m1b1 said1 r2 v2 is2 said2 r3 v3 is3 (ws3 .1 .1 .0) (l3b0 ∙ m1b0) (ws3 .1 .1 .1 .0) (l3b1 ∙ m1b1) said3))))))))))))
 
-          part-2 : (r0 : State) (v0 : Val) (is0 : Is State-ty.the-row r0 (v0 ∷ [])) (said0 : r0 ≡ begunOf x-g xs-b0 xs-b1 x-n0 x-n1 x-blockcount x-seed x-rules (length xs-entries) xs-dat) (r1 : State) (v1 : Val) (is1 : Is State-ty.the-row r1 (v1 ∷ [])) (y1b0 : List ℕ) (m1b0 : length y1b0 ≡ length xs-b0) (y1b1 : List ℕ) (m1b1 : length y1b1 ≡ length xs-b1) (said1 : trio r1 y1b0 y1b1 ≡ eachOf (length xs-entries) xs-entries xs-dat xs-b0 xs-b1 r0) → ent 𝓤 (⋆ 𝓤 H A (At y1b0 y1b1 (‵ (froom State-laws.mir l0 0)) (‵ (fat fullShare State-laws.mir l12 0 v0)) (‵ (fat fullShare State-laws.mir l13 0 v1)) (‵ (froom State-laws.mir l14 0)) (‵ (froom State-laws.mir l15 0)) (‵ (fat fullShare (tyInt w64) l20 0 (vint w64 (length xs-entries)))))) (Wp 𝓤 H C Λ En t-12 (atReturn 𝓤 H En Post))
+          part-2 : (r0 : State) (v0 : Val) (is0 : Is State-ty.the-row r0 (v0 ∷ [])) (said0 : r0 ≡ begunOf x-g xs-b0 xs-b1 x-n0 x-n1 x-blockcount x-seed x-rules x-erased (length xs-entries) xs-dat) (r1 : State) (v1 : Val) (is1 : Is State-ty.the-row r1 (v1 ∷ [])) (y1b0 : List ℕ) (m1b0 : length y1b0 ≡ length xs-b0) (y1b1 : List ℕ) (m1b1 : length y1b1 ≡ length xs-b1) (said1 : trio r1 y1b0 y1b1 ≡ eachOf (length xs-entries) xs-entries xs-dat xs-b0 xs-b1 r0) → ent 𝓤 (⋆ 𝓤 H A (At y1b0 y1b1 (‵ (froom State-laws.mir l0 0)) (‵ (fat fullShare State-laws.mir l13 0 v0)) (‵ (fat fullShare State-laws.mir l14 0 v1)) (‵ (froom State-laws.mir l15 0)) (‵ (froom State-laws.mir l16 0)) (‵ (fat fullShare (tyInt w64) l21 0 (vint w64 (length xs-entries)))))) (Wp 𝓤 H C Λ En t-12 (atReturn 𝓤 H En Post))
           part-2 r0 v0 is0 said0 r1 v1 is1 y1b0 m1b0 y1b1 m1b1 said1 =
-              qed W (At y1b0 y1b1 (‵ (froom State-laws.mir l0 0)) (‵ (fat fullShare State-laws.mir l12 0 v0)) (‵ (fat fullShare State-laws.mir l13 0 v1)) (‵ (froom State-laws.mir l14 0)) (‵ (froom State-laws.mir l15 0)) (‵ (fat fullShare (tyInt w64) l20 0 (vint w64 (length xs-entries))))) ∵ exec ! C Λ En t-12 (atRet En Post) $
-              assigns ! (addr ! (from ! (fld ! refl (hop ! (look-in ! 10 (sub ! 0 refl (whole !))) (stop !))))) (from ! (stop !)) (init ! 33 refl (tt, tt)) $
-              assigns ! (agg ! (and-then ! (load ! (from ! (stop !)) (look ! 33 refl)) (and-then ! (load ! (from ! (fld ! refl (stop !))) (look-in ! 10 (sub ! 1 refl (whole !)))) (no-more !)))) (from ! (stop !)) (init ! 34 refl (tt, (tt, (record { fits = g-b0 .0 }, tt)))) $
-              assigns ! (addr ! (from ! (fld ! refl (hop ! (look-in ! 11 (sub ! 0 refl (whole !))) (stop !))))) (from ! (stop !)) (init ! 35 refl (tt, tt)) $
-              assigns ! (agg ! (and-then ! (load ! (from ! (stop !)) (look ! 35 refl)) (and-then ! (load ! (from ! (fld ! refl (stop !))) (look-in ! 11 (sub ! 1 refl (whole !)))) (no-more !)))) (from ! (stop !)) (init ! 36 refl (tt, (tt, (record { fits = g-b1 .0 }, tt)))) $
+              qed W (At y1b0 y1b1 (‵ (froom State-laws.mir l0 0)) (‵ (fat fullShare State-laws.mir l13 0 v0)) (‵ (fat fullShare State-laws.mir l14 0 v1)) (‵ (froom State-laws.mir l15 0)) (‵ (froom State-laws.mir l16 0)) (‵ (fat fullShare (tyInt w64) l21 0 (vint w64 (length xs-entries))))) ∵ exec ! C Λ En t-12 (atRet En Post) $
+              assigns ! (addr ! (from ! (fld ! refl (hop ! (look-in ! 10 (sub ! 0 refl (whole !))) (stop !))))) (from ! (stop !)) (init ! 34 refl (tt, tt)) $
+              assigns ! (agg ! (and-then ! (load ! (from ! (stop !)) (look ! 34 refl)) (and-then ! (load ! (from ! (fld ! refl (stop !))) (look-in ! 10 (sub ! 1 refl (whole !)))) (no-more !)))) (from ! (stop !)) (init ! 35 refl (tt, (tt, (record { fits = g-b0 .0 }, tt)))) $
+              assigns ! (addr ! (from ! (fld ! refl (hop ! (look-in ! 11 (sub ! 0 refl (whole !))) (stop !))))) (from ! (stop !)) (init ! 36 refl (tt, tt)) $
+              assigns ! (agg ! (and-then ! (load ! (from ! (stop !)) (look ! 36 refl)) (and-then ! (load ! (from ! (fld ! refl (stop !))) (look-in ! 11 (sub ! 1 refl (whole !)))) (no-more !)))) (from ! (stop !)) (init ! 37 refl (tt, (tt, (record { fits = g-b1 .0 }, tt)))) $
               lft-new ! tt (λ ν2b0. move ! (1 ∷ 5 ∷ []) $ use2 W (later (some (λ (δ : GName). ‵ (ShrSlice (named 0) (ν2b0 ∷ []) u8 .own (ref-b0 δ y1b0) (s-b0 ∷ [])) ⊛ ‵ (LentShared u8 κ-b0 (ν2b0 ∷ []) q-b0 γ-b0 b-b0 o-b0 y1b0)))) (shares-at u8 κ-b0 (ν2b0 ∷ []) q-b0 γ-b0 b-b0 o-b0 𝓤 H A W (named 0) (named 0) y1b0 (length xs-b0) m1b0) $ await ! tt $ pick ! (λ δ2b0. split ! $
               lft-new ! tt (λ ν2b1. move ! (4 ∷ 7 ∷ []) $ use2 W (later (some (λ (δ : GName). ‵ (ShrSlice (named 1) (ν2b1 ∷ []) u8 .own (ref-b1 δ y1b1) (s-b1 ∷ [])) ⊛ ‵ (LentShared u8 κ-b1 (ν2b1 ∷ []) q-b1 γ-b1 b-b1 o-b1 y1b1)))) (shares-at u8 κ-b1 (ν2b1 ∷ []) q-b1 γ-b1 b-b1 o-b1 𝓤 H A W (named 1) (named 1) y1b1 (length xs-b1) m1b1) $ await ! tt $ pick ! (λ δ2b1. split ! $
-              move ! (5 ∷ 2 ∷ 3 ∷ 0 ∷ []) $ group ! 4 $ use1 W (raw (K-decide .pre (((((ν2b0 ∷ []), ((ν2b1 ∷ []), tt))), ((fullShare, (fullShare, tt))), tt, (r1, (x-g, ((ref-b0 δ2b0 y1b0), ((ref-b1 δ2b1 y1b1), (x-stores, tt))))), (v1 ∷ [], (v-g ∷ [], (s-b0 ∷ [], (s-b1 ∷ [], (v-stores ∷ [], tt)))))), tt))) (goes-2 r1 v1 is1 x-g v-g g-g ν2b0 δ2b0 y1b0 ν2b1 δ2b1 y1b1 x-stores v-stores g-stores) $
-              calls-at ! fm K-decide known-decide (((((ν2b0 ∷ []), ((ν2b1 ∷ []), tt))), ((fullShare, (fullShare, tt))), tt, (r1, (x-g, ((ref-b0 δ2b0 y1b0), ((ref-b1 δ2b1 y1b1), (x-stores, tt))))), (v1 ∷ [], (v-g ∷ [], (s-b0 ∷ [], (s-b1 ∷ [], (v-stores ∷ [], tt)))))), tt) (and-then ! (load ! (from ! (stop !)) (look ! 20 refl)) (and-then ! (load ! (from ! (stop !)) (look ! 8 refl)) (and-then ! (load ! (from ! (stop !)) (look ! 33 refl)) (and-then ! (load ! (from ! (stop !)) (look ! 35 refl)) (and-then ! (load ! (from ! (stop !)) (look ! 18 refl)) (no-more !)))))) (λ v2.
-              use1 W (later (some (λ (r2 : State). ((‵ (flft (ν2b0 ∷ []) fullShare) ⊛ ‵ (flft (ν2b1 ∷ []) fullShare) ⊛ ‵ ftrue) ⊛ ‵ (State-ty.the-row .own r2 (v2 ∷ []))) ⊛ raw (ensured 𝓤 H A decide-fn.ended (decide-fn.clauses 𝓤 H A at-mem run) ((ν2b0 ∷ []), ((ν2b1 ∷ []), tt)) (r1, (x-g, ((ref-b0 δ2b0 y1b0), ((ref-b1 δ2b1 y1b1), (x-stores, tt))))) tt r2)))) (id⊢ 𝓤 _) $ await ! tt $ pick ! (λ r2. split ! $ move ! (1 ∷ []) $
-              use1 W (some (λ (ws2 : Unit {0} × (Unit {0} × (Unit {0} × (Unit {0} × (Unit {0} × Unit {0}))))). ‵ (lasts decide-fn.ended ((ν2b0 ∷ []), ((ν2b1 ∷ []), tt)) (r1, (x-g, ((ref-b0 δ2b0 y1b0), ((ref-b1 δ2b1 y1b1), (x-stores, tt))))) ws2) ⊛ raw (fact 𝓤 (r2 ≡ decidedOf r1 x-g y1b0 y1b1 x-stores)))) (id⊢ 𝓤 _) $ pick ! (λ ws2. split ! $ move ! (1 ∷ []) $ heard ! (r2 ≡ decidedOf r1 x-g y1b0 y1b1 x-stores) (λ said2.
-              fsplit ! $ move ! (1 ∷ []) $ fsplit ! $ move ! (1 ∷ []) $ fsplit ! $ move ! (1 ∷ []) $ fsplit ! $ move ! (1 ∷ []) $ fsplit ! $ move ! (6 ∷ []) $ split ! $ move ! (1 ∷ []) $ facts ! State-ty.the-row (Is State-ty.the-row) (shows 𝓤 H A State-ty.the-row) r2 (v2 ∷ []) (λ is2. land ! (from ! (stop !)) (init ! 27 refl (typed-State r2 v2 is2)) $
-              split ! $ move ! (1 ∷ []) $ split ! $ move ! (2 ∷ []) $ lft-end ! tt $ move ! (0 ∷ 10 ∷ []) $ use2 W (later (‵ (Own-b0 y1b0) ⊛ ‵ (flft κ-b0 q-b0))) (unshared-at u8 κ-b0 (ν2b0 ∷ []) q-b0 γ-b0 b-b0 o-b0 𝓤 H A W (named 0) (named 0) y1b0 (length xs-b0) m1b0 g-b0) $ await ! tt $ split ! $
-              move ! (2 ∷ []) $ lft-end ! tt $ move ! (0 ∷ 10 ∷ []) $ use2 W (later (‵ (Own-b1 y1b1) ⊛ ‵ (flft κ-b1 q-b1))) (unshared-at u8 κ-b1 (ν2b1 ∷ []) q-b1 γ-b1 b-b1 o-b1 𝓤 H A W (named 1) (named 1) y1b1 (length xs-b1) m1b1 g-b1) $ await ! tt $ split ! $
-              keep ! (2 ∷ 0 ∷ 11 ∷ 12 ∷ 3 ∷ 1 ∷ 13 ∷ 14 ∷ 15 ∷ 16 ∷ 17 ∷ 18 ∷ 19 ∷ 20 ∷ 21 ∷ 22 ∷ 23 ∷ 24 ∷ 25 ∷ 26 ∷ 27 ∷ 28 ∷ 29 ∷ 30 ∷ 31 ∷ 32 ∷ 33 ∷ 34 ∷ 35 ∷ 36 ∷ 37 ∷ 38 ∷ 39 ∷ 40 ∷ 41 ∷ 42 ∷ 43 ∷ 44 ∷ 45 ∷ 46 ∷ 47 ∷ 48 ∷ 49 ∷ 50 ∷ 51 ∷ 52 ∷ []) $
-              forget ! 33 refl $ forget ! 34 refl $ forget ! 35 refl $ forget ! 36 refl $ by ! (part-3 r0 v0 is0 said0 r1 v1 is1 y1b0 m1b0 y1b1 m1b1 said1 r2 v2 is2 said2))))))))))
+              move ! (5 ∷ 2 ∷ 3 ∷ 0 ∷ []) $ group ! 4 $ use1 W (raw (K-decide .pre (((((ν2b0 ∷ []), ((ν2b1 ∷ []), tt))), ((fullShare, (fullShare, tt))), tt, (x-erased, (r1, (x-g, ((ref-b0 δ2b0 y1b0), ((ref-b1 δ2b1 y1b1), (x-stores, tt)))))), (v-erased ∷ [], (v1 ∷ [], (v-g ∷ [], (s-b0 ∷ [], (s-b1 ∷ [], (v-stores ∷ [], tt))))))), tt))) (goes-2 x-erased v-erased g-erased r1 v1 is1 x-g v-g g-g ν2b0 δ2b0 y1b0 ν2b1 δ2b1 y1b1 x-stores v-stores g-stores) $
+              calls-at ! fm K-decide known-decide (((((ν2b0 ∷ []), ((ν2b1 ∷ []), tt))), ((fullShare, (fullShare, tt))), tt, (x-erased, (r1, (x-g, ((ref-b0 δ2b0 y1b0), ((ref-b1 δ2b1 y1b1), (x-stores, tt)))))), (v-erased ∷ [], (v1 ∷ [], (v-g ∷ [], (s-b0 ∷ [], (s-b1 ∷ [], (v-stores ∷ [], tt))))))), tt) (and-then ! (load ! (from ! (stop !)) (look ! 16 refl)) (and-then ! (load ! (from ! (stop !)) (look ! 21 refl)) (and-then ! (load ! (from ! (stop !)) (look ! 8 refl)) (and-then ! (load ! (from ! (stop !)) (look ! 34 refl)) (and-then ! (load ! (from ! (stop !)) (look ! 36 refl)) (and-then ! (load ! (from ! (stop !)) (look ! 19 refl)) (no-more !))))))) (λ v2.
+              use1 W (later (some (λ (r2 : State). ((‵ (flft (ν2b0 ∷ []) fullShare) ⊛ ‵ (flft (ν2b1 ∷ []) fullShare) ⊛ ‵ ftrue) ⊛ ‵ (State-ty.the-row .own r2 (v2 ∷ []))) ⊛ raw (ensured 𝓤 H A decide-fn.ended (decide-fn.clauses 𝓤 H A at-mem run) ((ν2b0 ∷ []), ((ν2b1 ∷ []), tt)) (x-erased, (r1, (x-g, ((ref-b0 δ2b0 y1b0), ((ref-b1 δ2b1 y1b1), (x-stores, tt)))))) tt r2)))) (id⊢ 𝓤 _) $ await ! tt $ pick ! (λ r2. split ! $ move ! (1 ∷ []) $
+              use1 W (some (λ (ws2 : Unit {0} × (Unit {0} × (Unit {0} × (Unit {0} × (Unit {0} × (Unit {0} × Unit {0})))))). ‵ (lasts decide-fn.ended ((ν2b0 ∷ []), ((ν2b1 ∷ []), tt)) (x-erased, (r1, (x-g, ((ref-b0 δ2b0 y1b0), ((ref-b1 δ2b1 y1b1), (x-stores, tt)))))) ws2) ⊛ raw (fact 𝓤 (r2 ≡ decidedOf x-erased r1 x-g y1b0 y1b1 x-stores)))) (id⊢ 𝓤 _) $ pick ! (λ ws2. split ! $ move ! (1 ∷ []) $ heard ! (r2 ≡ decidedOf x-erased r1 x-g y1b0 y1b1 x-stores) (λ said2.
+              fsplit ! $ move ! (1 ∷ []) $ fsplit ! $ move ! (1 ∷ []) $ fsplit ! $ move ! (1 ∷ []) $ fsplit ! $ move ! (1 ∷ []) $ fsplit ! $ move ! (1 ∷ []) $ fsplit ! $ move ! (7 ∷ []) $ split ! $ move ! (1 ∷ []) $ facts ! State-ty.the-row (Is State-ty.the-row) (shows 𝓤 H A State-ty.the-row) r2 (v2 ∷ []) (λ is2. land ! (from ! (stop !)) (init ! 29 refl (typed-State r2 v2 is2)) $
+              split ! $ move ! (1 ∷ []) $ split ! $ move ! (2 ∷ []) $ lft-end ! tt $ move ! (0 ∷ 11 ∷ []) $ use2 W (later (‵ (Own-b0 y1b0) ⊛ ‵ (flft κ-b0 q-b0))) (unshared-at u8 κ-b0 (ν2b0 ∷ []) q-b0 γ-b0 b-b0 o-b0 𝓤 H A W (named 0) (named 0) y1b0 (length xs-b0) m1b0 g-b0) $ await ! tt $ split ! $
+              move ! (2 ∷ []) $ lft-end ! tt $ move ! (0 ∷ 11 ∷ []) $ use2 W (later (‵ (Own-b1 y1b1) ⊛ ‵ (flft κ-b1 q-b1))) (unshared-at u8 κ-b1 (ν2b1 ∷ []) q-b1 γ-b1 b-b1 o-b1 𝓤 H A W (named 1) (named 1) y1b1 (length xs-b1) m1b1 g-b1) $ await ! tt $ split ! $
+              keep ! (2 ∷ 0 ∷ 12 ∷ 13 ∷ 3 ∷ 1 ∷ 14 ∷ 15 ∷ 16 ∷ 17 ∷ 18 ∷ 19 ∷ 20 ∷ 21 ∷ 22 ∷ 23 ∷ 24 ∷ 25 ∷ 26 ∷ 27 ∷ 28 ∷ 29 ∷ 30 ∷ 31 ∷ 32 ∷ 33 ∷ 34 ∷ 35 ∷ 36 ∷ 37 ∷ 38 ∷ 39 ∷ 40 ∷ 41 ∷ 42 ∷ 43 ∷ 44 ∷ 45 ∷ 46 ∷ 47 ∷ 48 ∷ 49 ∷ 50 ∷ 51 ∷ 52 ∷ 53 ∷ 54 ∷ []) $
+              forget ! 34 refl $ forget ! 35 refl $ forget ! 36 refl $ forget ! 37 refl $ by ! (part-3 r0 v0 is0 said0 r1 v1 is1 y1b0 m1b0 y1b1 m1b1 said1 r2 v2 is2 said2))))))))))
 
-          part-1 : (r0 : State) (v0 : Val) (is0 : Is State-ty.the-row r0 (v0 ∷ [])) (said0 : r0 ≡ begunOf x-g xs-b0 xs-b1 x-n0 x-n1 x-blockcount x-seed x-rules (length xs-entries) xs-dat) → ent 𝓤 (⋆ 𝓤 H A (At xs-b0 xs-b1 (‵ (froom State-laws.mir l0 0)) (‵ (fat fullShare State-laws.mir l12 0 v0)) (‵ (froom State-laws.mir l13 0)) (‵ (froom State-laws.mir l14 0)) (‵ (froom State-laws.mir l15 0)) (‵ (fat fullShare (tyInt w64) l20 0 (vint w64 (length xs-entries)))))) (Wp 𝓤 H C Λ En t-7 (atReturn 𝓤 H En Post))
+          part-1 : (r0 : State) (v0 : Val) (is0 : Is State-ty.the-row r0 (v0 ∷ [])) (said0 : r0 ≡ begunOf x-g xs-b0 xs-b1 x-n0 x-n1 x-blockcount x-seed x-rules x-erased (length xs-entries) xs-dat) → ent 𝓤 (⋆ 𝓤 H A (At xs-b0 xs-b1 (‵ (froom State-laws.mir l0 0)) (‵ (fat fullShare State-laws.mir l13 0 v0)) (‵ (froom State-laws.mir l14 0)) (‵ (froom State-laws.mir l15 0)) (‵ (froom State-laws.mir l16 0)) (‵ (fat fullShare (tyInt w64) l21 0 (vint w64 (length xs-entries)))))) (Wp 𝓤 H C Λ En t-7 (atReturn 𝓤 H En Post))
           part-1 r0 v0 is0 said0 =
-              qed W (At xs-b0 xs-b1 (‵ (froom State-laws.mir l0 0)) (‵ (fat fullShare State-laws.mir l12 0 v0)) (‵ (froom State-laws.mir l13 0)) (‵ (froom State-laws.mir l14 0)) (‵ (froom State-laws.mir l15 0)) (‵ (fat fullShare (tyInt w64) l20 0 (vint w64 (length xs-entries))))) ∵ exec ! C Λ En t-7 (atRet En Post) $
-              assigns ! (addr ! (from ! (fld ! refl (hop ! (look-in ! 10 (sub ! 0 refl (whole !))) (stop !))))) (from ! (stop !)) (init ! 29 refl (tt, tt)) $
-              assigns ! (agg ! (and-then ! (load ! (from ! (stop !)) (look ! 29 refl)) (and-then ! (load ! (from ! (fld ! refl (stop !))) (look-in ! 10 (sub ! 1 refl (whole !)))) (no-more !)))) (from ! (stop !)) (init ! 30 refl (tt, (tt, (record { fits = g-b0 .0 }, tt)))) $
-              assigns ! (addr ! (from ! (fld ! refl (hop ! (look-in ! 11 (sub ! 0 refl (whole !))) (stop !))))) (from ! (stop !)) (init ! 31 refl (tt, tt)) $
-              assigns ! (agg ! (and-then ! (load ! (from ! (stop !)) (look ! 31 refl)) (and-then ! (load ! (from ! (fld ! refl (stop !))) (look-in ! 11 (sub ! 1 refl (whole !)))) (no-more !)))) (from ! (stop !)) (init ! 32 refl (tt, (tt, (record { fits = g-b1 .0 }, tt)))) $
+              qed W (At xs-b0 xs-b1 (‵ (froom State-laws.mir l0 0)) (‵ (fat fullShare State-laws.mir l13 0 v0)) (‵ (froom State-laws.mir l14 0)) (‵ (froom State-laws.mir l15 0)) (‵ (froom State-laws.mir l16 0)) (‵ (fat fullShare (tyInt w64) l21 0 (vint w64 (length xs-entries))))) ∵ exec ! C Λ En t-7 (atRet En Post) $
+              assigns ! (addr ! (from ! (fld ! refl (hop ! (look-in ! 10 (sub ! 0 refl (whole !))) (stop !))))) (from ! (stop !)) (init ! 30 refl (tt, tt)) $
+              assigns ! (agg ! (and-then ! (load ! (from ! (stop !)) (look ! 30 refl)) (and-then ! (load ! (from ! (fld ! refl (stop !))) (look-in ! 10 (sub ! 1 refl (whole !)))) (no-more !)))) (from ! (stop !)) (init ! 31 refl (tt, (tt, (record { fits = g-b0 .0 }, tt)))) $
+              assigns ! (addr ! (from ! (fld ! refl (hop ! (look-in ! 11 (sub ! 0 refl (whole !))) (stop !))))) (from ! (stop !)) (init ! 32 refl (tt, tt)) $
+              assigns ! (agg ! (and-then ! (load ! (from ! (stop !)) (look ! 32 refl)) (and-then ! (load ! (from ! (fld ! refl (stop !))) (look-in ! 11 (sub ! 1 refl (whole !)))) (no-more !)))) (from ! (stop !)) (init ! 33 refl (tt, (tt, (record { fits = g-b1 .0 }, tt)))) $
               move ! (2 ∷ []) $ use1 W (‵ Own-entries ⊛ ‵ Own-entries) (shr-slice-copy 𝓤 H A W (named 2) κ-entries Entry-ty.the-row .twice (ref-entries γ-entries xs-entries) (s-entries ∷ [])) $ split ! $
               move ! (4 ∷ []) $ use1 W (‵ Own-dat ⊛ ‵ Own-dat) (shr-slice-copy 𝓤 H A W (named 3) κ-dat u8 .twice (ref-dat γ-dat xs-dat) (s-dat ∷ [])) $ split ! $
               lft-new ! tt (λ ν1b0. move ! (5 ∷ 7 ∷ []) $ use2 W (later (some (λ (δ : GName). ‵ (MutSlice (named 2) (ν1b0 ∷ []) u8 .own (ref-b0 δ xs-b0) (s-b0 ∷ [])) ⊛ ‵ (LentAgain u8 κ-b0 (ν1b0 ∷ []) q-b0 γ-b0 b-b0 o-b0 δ xs-b0)))) (lends-at u8 κ-b0 (ν1b0 ∷ []) q-b0 γ-b0 b-b0 o-b0 𝓤 H A W (named 0) (named 2) xs-b0 (length xs-b0) refl) $ await ! tt $ pick ! (λ δ1b0. split ! $
               lft-new ! tt (λ ν1b1. move ! (8 ∷ 9 ∷ []) $ use2 W (later (some (λ (δ : GName). ‵ (MutSlice (named 3) (ν1b1 ∷ []) u8 .own (ref-b1 δ xs-b1) (s-b1 ∷ [])) ⊛ ‵ (LentAgain u8 κ-b1 (ν1b1 ∷ []) q-b1 γ-b1 b-b1 o-b1 δ xs-b1)))) (lends-at u8 κ-b1 (ν1b1 ∷ []) q-b1 γ-b1 b-b1 o-b1 𝓤 H A W (named 1) (named 3) xs-b1 (length xs-b1) refl) $ await ! tt $ pick ! (λ δ1b1. split ! $
               move ! (10 ∷ 11 ∷ 5 ∷ 2 ∷ 8 ∷ 6 ∷ 3 ∷ 0 ∷ []) $ group ! 8 $ use1 W (raw (K-each .pre ((((κ-entries, (κ-dat, ((ν1b0 ∷ []), ((ν1b1 ∷ []), tt))))), ((q-entries, (q-dat, (fullShare, (fullShare, tt))))), tt, ((ref-entries γ-entries xs-entries), ((ref-dat γ-dat xs-dat), ((ref-b0 δ1b0 xs-b0), ((ref-b1 δ1b1 xs-b1), (r0, tt))))), (s-entries ∷ [], (s-dat ∷ [], (s-b0 ∷ [], (s-b1 ∷ [], (v0 ∷ [], tt)))))), tt))) (goes-1 ν1b0 δ1b0 xs-b0 ν1b1 δ1b1 xs-b1 r0 v0 is0) $
-              calls-at ! fm K-each known-each ((((κ-entries, (κ-dat, ((ν1b0 ∷ []), ((ν1b1 ∷ []), tt))))), ((q-entries, (q-dat, (fullShare, (fullShare, tt))))), tt, ((ref-entries γ-entries xs-entries), ((ref-dat γ-dat xs-dat), ((ref-b0 δ1b0 xs-b0), ((ref-b1 δ1b1 xs-b1), (r0, tt))))), (s-entries ∷ [], (s-dat ∷ [], (s-b0 ∷ [], (s-b1 ∷ [], (v0 ∷ [], tt)))))), tt) (and-then ! (load ! (from ! (stop !)) (look ! 14 refl)) (and-then ! (load ! (from ! (stop !)) (look ! 15 refl)) (and-then ! (load ! (from ! (stop !)) (look ! 27 refl)) (and-then ! (load ! (from ! (stop !)) (look ! 29 refl)) (and-then ! (load ! (from ! (stop !)) (look ! 17 refl)) (no-more !)))))) (λ v1.
+              calls-at ! fm K-each known-each ((((κ-entries, (κ-dat, ((ν1b0 ∷ []), ((ν1b1 ∷ []), tt))))), ((q-entries, (q-dat, (fullShare, (fullShare, tt))))), tt, ((ref-entries γ-entries xs-entries), ((ref-dat γ-dat xs-dat), ((ref-b0 δ1b0 xs-b0), ((ref-b1 δ1b1 xs-b1), (r0, tt))))), (s-entries ∷ [], (s-dat ∷ [], (s-b0 ∷ [], (s-b1 ∷ [], (v0 ∷ [], tt)))))), tt) (and-then ! (load ! (from ! (stop !)) (look ! 15 refl)) (and-then ! (load ! (from ! (stop !)) (look ! 16 refl)) (and-then ! (load ! (from ! (stop !)) (look ! 28 refl)) (and-then ! (load ! (from ! (stop !)) (look ! 30 refl)) (and-then ! (load ! (from ! (stop !)) (look ! 18 refl)) (no-more !)))))) (λ v1.
               use1 W (later (some (λ (r1 : State). ((‵ (flft κ-entries q-entries) ⊛ ‵ (flft κ-dat q-dat) ⊛ ‵ (flft (ν1b0 ∷ []) fullShare) ⊛ ‵ (flft (ν1b1 ∷ []) fullShare) ⊛ ‵ ftrue) ⊛ ‵ (State-ty.the-row .own r1 (v1 ∷ []))) ⊛ raw (ensured 𝓤 H A each-fn.ended (each-fn.clauses 𝓤 H A at-mem run) (κ-entries, (κ-dat, ((ν1b0 ∷ []), ((ν1b1 ∷ []), tt)))) ((ref-entries γ-entries xs-entries), ((ref-dat γ-dat xs-dat), ((ref-b0 δ1b0 xs-b0), ((ref-b1 δ1b1 xs-b1), (r0, tt))))) tt r1)))) (id⊢ 𝓤 _) $ await ! tt $ pick ! (λ r1. split ! $ move ! (1 ∷ []) $
               use1 W (some (λ (ws1 : Unit {0} × (Unit {0} × (List ℕ × (List ℕ × (Unit {0} × Unit {0}))))). ‵ (lasts each-fn.ended (κ-entries, (κ-dat, ((ν1b0 ∷ []), ((ν1b1 ∷ []), tt)))) ((ref-entries γ-entries xs-entries), ((ref-dat γ-dat xs-dat), ((ref-b0 δ1b0 xs-b0), ((ref-b1 δ1b1 xs-b1), (r0, tt))))) ws1) ⊛ raw (fact 𝓤 (trio r1 (ws1 .1 .1 .0) (ws1 .1 .1 .1 .0) ≡ eachOf (length xs-entries) xs-entries xs-dat xs-b0 xs-b1 r0)))) (id⊢ 𝓤 _) $ pick ! (λ ws1. split ! $ move ! (1 ∷ []) $ heard ! (trio r1 (ws1 .1 .1 .0) (ws1 .1 .1 .1 .0) ≡ eachOf (length xs-entries) xs-entries xs-dat xs-b0 xs-b1 r0) (λ said1.
-              fsplit ! $ move ! (1 ∷ []) $ fsplit ! $ move ! (1 ∷ []) $ fsplit ! $ fsplit ! $ move ! (1 ∷ []) $ feqL ! (λ l1b0. move ! (1 ∷ []) $ fsplit ! $ fsplit ! $ move ! (1 ∷ []) $ feqL ! (λ l1b1. move ! (1 ∷ []) $ fsplit ! $ move ! (6 ∷ []) $ split ! $ move ! (1 ∷ []) $ facts ! State-ty.the-row (Is State-ty.the-row) (shows 𝓤 H A State-ty.the-row) r1 (v1 ∷ []) (λ is1. land ! (from ! (stop !)) (init ! 24 refl (typed-State r1 v1 is1)) $
+              fsplit ! $ move ! (1 ∷ []) $ fsplit ! $ move ! (1 ∷ []) $ fsplit ! $ fsplit ! $ move ! (1 ∷ []) $ feqL ! (λ l1b0. move ! (1 ∷ []) $ fsplit ! $ fsplit ! $ move ! (1 ∷ []) $ feqL ! (λ l1b1. move ! (1 ∷ []) $ fsplit ! $ move ! (6 ∷ []) $ split ! $ move ! (1 ∷ []) $ facts ! State-ty.the-row (Is State-ty.the-row) (shows 𝓤 H A State-ty.the-row) r1 (v1 ∷ []) (λ is1. land ! (from ! (stop !)) (init ! 25 refl (typed-State r1 v1 is1)) $
               split ! $ move ! (1 ∷ []) $ split ! $ move ! (1 ∷ []) $ split ! $ move ! (1 ∷ []) $ split ! $ move ! (2 ∷ []) $ lft-end ! tt $ move ! (0 ∷ 12 ∷ 8 ∷ []) $ use3 W (later (‵ (Own-b0 (ws1 .1 .1 .0)) ⊛ ‵ (flft κ-b0 q-b0))) (comes-at u8 κ-b0 (ν1b0 ∷ []) q-b0 γ-b0 b-b0 o-b0 𝓤 H A W (named 0) (named 2) xs-b0 (length xs-b0) refl δ1b0 (ws1 .1 .1 .0) g-b0 l1b0) $ await ! tt $ split ! $
               move ! (2 ∷ []) $ lft-end ! tt $ move ! (0 ∷ 11 ∷ 8 ∷ []) $ use3 W (later (‵ (Own-b1 (ws1 .1 .1 .1 .0)) ⊛ ‵ (flft κ-b1 q-b1))) (comes-at u8 κ-b1 (ν1b1 ∷ []) q-b1 γ-b1 b-b1 o-b1 𝓤 H A W (named 1) (named 3) xs-b1 (length xs-b1) refl δ1b1 (ws1 .1 .1 .1 .0) g-b1 l1b1) $ await ! tt $ split ! $
-              keep ! (2 ∷ 0 ∷ 12 ∷ 11 ∷ 3 ∷ 1 ∷ 6 ∷ 5 ∷ 13 ∷ 14 ∷ 15 ∷ 16 ∷ 17 ∷ 18 ∷ 19 ∷ 20 ∷ 21 ∷ 22 ∷ 23 ∷ 24 ∷ 25 ∷ 26 ∷ 27 ∷ 28 ∷ 29 ∷ 30 ∷ 31 ∷ 32 ∷ 33 ∷ 34 ∷ 35 ∷ 36 ∷ 37 ∷ 38 ∷ 39 ∷ 40 ∷ 41 ∷ 42 ∷ 43 ∷ 44 ∷ 45 ∷ 46 ∷ 47 ∷ 48 ∷ 49 ∷ 50 ∷ []) $
-              forget ! 29 refl $ forget ! 30 refl $ forget ! 31 refl $ forget ! 32 refl $ by ! (part-2 r0 v0 is0 said0 r1 v1 is1 (ws1 .1 .1 .0) l1b0 (ws1 .1 .1 .1 .0) l1b1 said1))))))))))))
+              keep ! (2 ∷ 0 ∷ 12 ∷ 11 ∷ 3 ∷ 1 ∷ 6 ∷ 5 ∷ 13 ∷ 14 ∷ 15 ∷ 16 ∷ 17 ∷ 18 ∷ 19 ∷ 20 ∷ 21 ∷ 22 ∷ 23 ∷ 24 ∷ 25 ∷ 26 ∷ 27 ∷ 28 ∷ 29 ∷ 30 ∷ 31 ∷ 32 ∷ 33 ∷ 34 ∷ 35 ∷ 36 ∷ 37 ∷ 38 ∷ 39 ∷ 40 ∷ 41 ∷ 42 ∷ 43 ∷ 44 ∷ 45 ∷ 46 ∷ 47 ∷ 48 ∷ 49 ∷ 50 ∷ 51 ∷ []) $
+              forget ! 30 refl $ forget ! 31 refl $ forget ! 32 refl $ forget ! 33 refl $ by ! (part-2 r0 v0 is0 said0 r1 v1 is1 (ws1 .1 .1 .0) l1b0 (ws1 .1 .1 .1 .0) l1b1 said1))))))))))))
 
           body : ent 𝓤 (⋆ 𝓤 H A Start) (Wp 𝓤 H C Λ En t-1 (atReturn 𝓤 H En Post))
           body =
               qed W Start ∵ exec ! C Λ En t-1 (atRet En Post) $
-              assigns ! (addr ! (from ! (fld ! refl (hop ! (look-in ! 10 (sub ! 0 refl (whole !))) (stop !))))) (from ! (stop !)) (init ! 24 refl (tt, tt)) $
-              assigns ! (agg ! (and-then ! (load ! (from ! (stop !)) (look ! 24 refl)) (and-then ! (load ! (from ! (fld ! refl (stop !))) (look-in ! 10 (sub ! 1 refl (whole !)))) (no-more !)))) (from ! (stop !)) (init ! 25 refl (tt, (tt, (record { fits = g-b0 .0 }, tt)))) $
-              assigns ! (addr ! (from ! (fld ! refl (hop ! (look-in ! 11 (sub ! 0 refl (whole !))) (stop !))))) (from ! (stop !)) (init ! 26 refl (tt, tt)) $
-              assigns ! (agg ! (and-then ! (load ! (from ! (stop !)) (look ! 26 refl)) (and-then ! (load ! (from ! (fld ! refl (stop !))) (look-in ! 11 (sub ! 1 refl (whole !)))) (no-more !)))) (from ! (stop !)) (init ! 27 refl (tt, (tt, (record { fits = g-b1 .0 }, tt)))) $
-              assigns ! (of-opd ! (load ! (from ! (fld ! refl (stop !))) (look-in ! 17 (sub ! 1 refl (whole !))))) (from ! (stop !)) (init ! 28 refl (tt, record { fits = g-entries .0 })) $
+              assigns ! (addr ! (from ! (fld ! refl (hop ! (look-in ! 10 (sub ! 0 refl (whole !))) (stop !))))) (from ! (stop !)) (init ! 25 refl (tt, tt)) $
+              assigns ! (agg ! (and-then ! (load ! (from ! (stop !)) (look ! 25 refl)) (and-then ! (load ! (from ! (fld ! refl (stop !))) (look-in ! 10 (sub ! 1 refl (whole !)))) (no-more !)))) (from ! (stop !)) (init ! 26 refl (tt, (tt, (record { fits = g-b0 .0 }, tt)))) $
+              assigns ! (addr ! (from ! (fld ! refl (hop ! (look-in ! 11 (sub ! 0 refl (whole !))) (stop !))))) (from ! (stop !)) (init ! 27 refl (tt, tt)) $
+              assigns ! (agg ! (and-then ! (load ! (from ! (stop !)) (look ! 27 refl)) (and-then ! (load ! (from ! (fld ! refl (stop !))) (look-in ! 11 (sub ! 1 refl (whole !)))) (no-more !)))) (from ! (stop !)) (init ! 28 refl (tt, (tt, (record { fits = g-b1 .0 }, tt)))) $
+              assigns ! (of-opd ! (load ! (from ! (fld ! refl (stop !))) (look-in ! 18 (sub ! 1 refl (whole !))))) (from ! (stop !)) (init ! 29 refl (tt, record { fits = g-entries .0 })) $
               lft-new ! tt (λ ν0b0. move ! (1 ∷ 5 ∷ []) $ use2 W (later (some (λ (δ : GName). ‵ (ShrSlice (named 0) (ν0b0 ∷ []) u8 .own (ref-b0 δ xs-b0) (s-b0 ∷ [])) ⊛ ‵ (LentShared u8 κ-b0 (ν0b0 ∷ []) q-b0 γ-b0 b-b0 o-b0 xs-b0)))) (shares-at u8 κ-b0 (ν0b0 ∷ []) q-b0 γ-b0 b-b0 o-b0 𝓤 H A W (named 0) (named 0) xs-b0 (length xs-b0) refl) $ await ! tt $ pick ! (λ δ0b0. split ! $
               lft-new ! tt (λ ν0b1. move ! (4 ∷ 7 ∷ []) $ use2 W (later (some (λ (δ : GName). ‵ (ShrSlice (named 1) (ν0b1 ∷ []) u8 .own (ref-b1 δ xs-b1) (s-b1 ∷ [])) ⊛ ‵ (LentShared u8 κ-b1 (ν0b1 ∷ []) q-b1 γ-b1 b-b1 o-b1 xs-b1)))) (shares-at u8 κ-b1 (ν0b1 ∷ []) q-b1 γ-b1 b-b1 o-b1 𝓤 H A W (named 1) (named 1) xs-b1 (length xs-b1) refl) $ await ! tt $ pick ! (λ δ0b1. split ! $
               move ! (7 ∷ []) $ use1 W (‵ Own-dat ⊛ ‵ Own-dat) (shr-slice-copy 𝓤 H A W (named 3) κ-dat u8 .twice (ref-dat γ-dat xs-dat) (s-dat ∷ [])) $ split ! $
-              move ! (7 ∷ 4 ∷ 10 ∷ 5 ∷ 2 ∷ 0 ∷ []) $ group ! 6 $ use1 W (raw (K-begin .pre (((((ν0b0 ∷ []), ((ν0b1 ∷ []), (κ-dat, tt)))), ((fullShare, (fullShare, (q-dat, tt)))), tt, (x-g, ((ref-b0 δ0b0 xs-b0), ((ref-b1 δ0b1 xs-b1), (x-n0, (x-n1, (x-blockcount, (x-seed, (x-rules, ((length xs-entries), ((ref-dat γ-dat xs-dat), tt)))))))))), (v-g ∷ [], (s-b0 ∷ [], (s-b1 ∷ [], (v-n0 ∷ [], (v-n1 ∷ [], (v-blockcount ∷ [], (v-seed ∷ [], (v-rules ∷ [], ((vint w64 (length xs-entries)) ∷ [], (s-dat ∷ [], tt))))))))))), tt))) (goes-0 x-g v-g g-g ν0b0 δ0b0 xs-b0 ν0b1 δ0b1 xs-b1 x-n0 v-n0 g-n0 x-n1 v-n1 g-n1 x-blockcount v-blockcount g-blockcount x-seed v-seed g-seed x-rules v-rules g-rules (length xs-entries) (vint w64 (length xs-entries)) (refl, g-entries .0)) $
-              calls-at ! fm K-begin known-begin (((((ν0b0 ∷ []), ((ν0b1 ∷ []), (κ-dat, tt)))), ((fullShare, (fullShare, (q-dat, tt)))), tt, (x-g, ((ref-b0 δ0b0 xs-b0), ((ref-b1 δ0b1 xs-b1), (x-n0, (x-n1, (x-blockcount, (x-seed, (x-rules, ((length xs-entries), ((ref-dat γ-dat xs-dat), tt)))))))))), (v-g ∷ [], (s-b0 ∷ [], (s-b1 ∷ [], (v-n0 ∷ [], (v-n1 ∷ [], (v-blockcount ∷ [], (v-seed ∷ [], (v-rules ∷ [], ((vint w64 (length xs-entries)) ∷ [], (s-dat ∷ [], tt))))))))))), tt) (and-then ! (load ! (from ! (stop !)) (look ! 7 refl)) (and-then ! (load ! (from ! (stop !)) (look ! 23 refl)) (and-then ! (load ! (from ! (stop !)) (look ! 25 refl)) (and-then ! (load ! (from ! (stop !)) (look ! 10 refl)) (and-then ! (load ! (from ! (stop !)) (look ! 11 refl)) (and-then ! (load ! (from ! (stop !)) (look ! 12 refl)) (and-then ! (load ! (from ! (stop !)) (look ! 13 refl)) (and-then ! (load ! (from ! (stop !)) (look ! 14 refl)) (and-then ! (load ! (from ! (stop !)) (look ! 26 refl)) (and-then ! (load ! (from ! (stop !)) (look ! 16 refl)) (no-more !))))))))))) (λ v0.
-              use1 W (later (some (λ (r0 : State). ((‵ (flft (ν0b0 ∷ []) fullShare) ⊛ ‵ (flft (ν0b1 ∷ []) fullShare) ⊛ ‵ (flft κ-dat q-dat) ⊛ ‵ ftrue) ⊛ ‵ (State-ty.the-row .own r0 (v0 ∷ []))) ⊛ raw (ensured 𝓤 H A begin-fn.ended (begin-fn.clauses 𝓤 H A at-mem run) ((ν0b0 ∷ []), ((ν0b1 ∷ []), (κ-dat, tt))) (x-g, ((ref-b0 δ0b0 xs-b0), ((ref-b1 δ0b1 xs-b1), (x-n0, (x-n1, (x-blockcount, (x-seed, (x-rules, ((length xs-entries), ((ref-dat γ-dat xs-dat), tt)))))))))) tt r0)))) (id⊢ 𝓤 _) $ await ! tt $ pick ! (λ r0. split ! $ move ! (1 ∷ []) $
-              use1 W (some (λ (ws0 : Unit {0} × (Unit {0} × (Unit {0} × (Unit {0} × (Unit {0} × (Unit {0} × (Unit {0} × (Unit {0} × (Unit {0} × (Unit {0} × Unit {0})))))))))). ‵ (lasts begin-fn.ended ((ν0b0 ∷ []), ((ν0b1 ∷ []), (κ-dat, tt))) (x-g, ((ref-b0 δ0b0 xs-b0), ((ref-b1 δ0b1 xs-b1), (x-n0, (x-n1, (x-blockcount, (x-seed, (x-rules, ((length xs-entries), ((ref-dat γ-dat xs-dat), tt)))))))))) ws0) ⊛ raw (fact 𝓤 (r0 ≡ begunOf x-g xs-b0 xs-b1 x-n0 x-n1 x-blockcount x-seed x-rules (length xs-entries) xs-dat)))) (id⊢ 𝓤 _) $ pick ! (λ ws0. split ! $ move ! (1 ∷ []) $ heard ! (r0 ≡ begunOf x-g xs-b0 xs-b1 x-n0 x-n1 x-blockcount x-seed x-rules (length xs-entries) xs-dat) (λ said0.
-              fsplit ! $ move ! (1 ∷ []) $ fsplit ! $ move ! (1 ∷ []) $ fsplit ! $ move ! (1 ∷ []) $ fsplit ! $ move ! (1 ∷ []) $ fsplit ! $ move ! (1 ∷ []) $ fsplit ! $ move ! (1 ∷ []) $ fsplit ! $ move ! (1 ∷ []) $ fsplit ! $ move ! (1 ∷ []) $ fsplit ! $ move ! (1 ∷ []) $ fsplit ! $ move ! (11 ∷ []) $ split ! $ move ! (1 ∷ []) $ facts ! State-ty.the-row (Is State-ty.the-row) (shows 𝓤 H A State-ty.the-row) r0 (v0 ∷ []) (λ is0. land ! (from ! (stop !)) (init ! 29 refl (typed-State r0 v0 is0)) $
-              split ! $ move ! (1 ∷ []) $ split ! $ move ! (1 ∷ []) $ split ! $ move ! (3 ∷ []) $ lft-end ! tt $ move ! (0 ∷ 17 ∷ []) $ use2 W (later (‵ (Own-b0 xs-b0) ⊛ ‵ (flft κ-b0 q-b0))) (unshared-at u8 κ-b0 (ν0b0 ∷ []) q-b0 γ-b0 b-b0 o-b0 𝓤 H A W (named 0) (named 0) xs-b0 (length xs-b0) refl g-b0) $ await ! tt $ split ! $
-              move ! (4 ∷ []) $ lft-end ! tt $ move ! (0 ∷ 17 ∷ []) $ use2 W (later (‵ (Own-b1 xs-b1) ⊛ ‵ (flft κ-b1 q-b1))) (unshared-at u8 κ-b1 (ν0b1 ∷ []) q-b1 γ-b1 b-b1 o-b1 𝓤 H A W (named 1) (named 1) xs-b1 (length xs-b1) refl g-b1) $ await ! tt $ split ! $
-              keep ! (2 ∷ 0 ∷ 18 ∷ 17 ∷ 3 ∷ 1 ∷ 19 ∷ 4 ∷ 20 ∷ 21 ∷ 22 ∷ 23 ∷ 24 ∷ 25 ∷ 26 ∷ 27 ∷ 28 ∷ 29 ∷ 30 ∷ 31 ∷ 32 ∷ 33 ∷ 34 ∷ 35 ∷ 36 ∷ 37 ∷ 38 ∷ 39 ∷ 40 ∷ 41 ∷ 42 ∷ 43 ∷ 44 ∷ 45 ∷ 46 ∷ 47 ∷ 48 ∷ 49 ∷ 50 ∷ 51 ∷ 52 ∷ 53 ∷ 54 ∷ 55 ∷ 56 ∷ 57 ∷ []) $
-              forget ! 24 refl $ forget ! 25 refl $ forget ! 26 refl $ forget ! 27 refl $ by ! (part-1 r0 v0 is0 said0))))))))))
+              move ! (7 ∷ 4 ∷ 10 ∷ 5 ∷ 2 ∷ 0 ∷ []) $ group ! 6 $ use1 W (raw (K-begin .pre (((((ν0b0 ∷ []), ((ν0b1 ∷ []), (κ-dat, tt)))), ((fullShare, (fullShare, (q-dat, tt)))), tt, (x-g, ((ref-b0 δ0b0 xs-b0), ((ref-b1 δ0b1 xs-b1), (x-n0, (x-n1, (x-blockcount, (x-seed, (x-rules, (x-erased, ((length xs-entries), ((ref-dat γ-dat xs-dat), tt))))))))))), (v-g ∷ [], (s-b0 ∷ [], (s-b1 ∷ [], (v-n0 ∷ [], (v-n1 ∷ [], (v-blockcount ∷ [], (v-seed ∷ [], (v-rules ∷ [], (v-erased ∷ [], ((vint w64 (length xs-entries)) ∷ [], (s-dat ∷ [], tt)))))))))))), tt))) (goes-0 x-g v-g g-g ν0b0 δ0b0 xs-b0 ν0b1 δ0b1 xs-b1 x-n0 v-n0 g-n0 x-n1 v-n1 g-n1 x-blockcount v-blockcount g-blockcount x-seed v-seed g-seed x-rules v-rules g-rules x-erased v-erased g-erased (length xs-entries) (vint w64 (length xs-entries)) (refl, g-entries .0)) $
+              calls-at ! fm K-begin known-begin (((((ν0b0 ∷ []), ((ν0b1 ∷ []), (κ-dat, tt)))), ((fullShare, (fullShare, (q-dat, tt)))), tt, (x-g, ((ref-b0 δ0b0 xs-b0), ((ref-b1 δ0b1 xs-b1), (x-n0, (x-n1, (x-blockcount, (x-seed, (x-rules, (x-erased, ((length xs-entries), ((ref-dat γ-dat xs-dat), tt))))))))))), (v-g ∷ [], (s-b0 ∷ [], (s-b1 ∷ [], (v-n0 ∷ [], (v-n1 ∷ [], (v-blockcount ∷ [], (v-seed ∷ [], (v-rules ∷ [], (v-erased ∷ [], ((vint w64 (length xs-entries)) ∷ [], (s-dat ∷ [], tt)))))))))))), tt) (and-then ! (load ! (from ! (stop !)) (look ! 7 refl)) (and-then ! (load ! (from ! (stop !)) (look ! 24 refl)) (and-then ! (load ! (from ! (stop !)) (look ! 26 refl)) (and-then ! (load ! (from ! (stop !)) (look ! 10 refl)) (and-then ! (load ! (from ! (stop !)) (look ! 11 refl)) (and-then ! (load ! (from ! (stop !)) (look ! 12 refl)) (and-then ! (load ! (from ! (stop !)) (look ! 13 refl)) (and-then ! (load ! (from ! (stop !)) (look ! 14 refl)) (and-then ! (load ! (from ! (stop !)) (look ! 15 refl)) (and-then ! (load ! (from ! (stop !)) (look ! 27 refl)) (and-then ! (load ! (from ! (stop !)) (look ! 17 refl)) (no-more !)))))))))))) (λ v0.
+              use1 W (later (some (λ (r0 : State). ((‵ (flft (ν0b0 ∷ []) fullShare) ⊛ ‵ (flft (ν0b1 ∷ []) fullShare) ⊛ ‵ (flft κ-dat q-dat) ⊛ ‵ ftrue) ⊛ ‵ (State-ty.the-row .own r0 (v0 ∷ []))) ⊛ raw (ensured 𝓤 H A begin-fn.ended (begin-fn.clauses 𝓤 H A at-mem run) ((ν0b0 ∷ []), ((ν0b1 ∷ []), (κ-dat, tt))) (x-g, ((ref-b0 δ0b0 xs-b0), ((ref-b1 δ0b1 xs-b1), (x-n0, (x-n1, (x-blockcount, (x-seed, (x-rules, (x-erased, ((length xs-entries), ((ref-dat γ-dat xs-dat), tt))))))))))) tt r0)))) (id⊢ 𝓤 _) $ await ! tt $ pick ! (λ r0. split ! $ move ! (1 ∷ []) $
+              use1 W (some (λ (ws0 : Unit {0} × (Unit {0} × (Unit {0} × (Unit {0} × (Unit {0} × (Unit {0} × (Unit {0} × (Unit {0} × (Unit {0} × (Unit {0} × (Unit {0} × Unit {0}))))))))))). ‵ (lasts begin-fn.ended ((ν0b0 ∷ []), ((ν0b1 ∷ []), (κ-dat, tt))) (x-g, ((ref-b0 δ0b0 xs-b0), ((ref-b1 δ0b1 xs-b1), (x-n0, (x-n1, (x-blockcount, (x-seed, (x-rules, (x-erased, ((length xs-entries), ((ref-dat γ-dat xs-dat), tt))))))))))) ws0) ⊛ raw (fact 𝓤 (r0 ≡ begunOf x-g xs-b0 xs-b1 x-n0 x-n1 x-blockcount x-seed x-rules x-erased (length xs-entries) xs-dat)))) (id⊢ 𝓤 _) $ pick ! (λ ws0. split ! $ move ! (1 ∷ []) $ heard ! (r0 ≡ begunOf x-g xs-b0 xs-b1 x-n0 x-n1 x-blockcount x-seed x-rules x-erased (length xs-entries) xs-dat) (λ said0.
+              fsplit ! $ move ! (1 ∷ []) $ fsplit ! $ move ! (1 ∷ []) $ fsplit ! $ move ! (1 ∷ []) $ fsplit ! $ move ! (1 ∷ []) $ fsplit ! $ move ! (1 ∷ []) $ fsplit ! $ move ! (1 ∷ []) $ fsplit ! $ move ! (1 ∷ []) $ fsplit ! $ move ! (1 ∷ []) $ fsplit ! $ move ! (1 ∷ []) $ fsplit ! $ move ! (1 ∷ []) $ fsplit ! $ move ! (12 ∷ []) $ split ! $ move ! (1 ∷ []) $ facts ! State-ty.the-row (Is State-ty.the-row) (shows 𝓤 H A State-ty.the-row) r0 (v0 ∷ []) (λ is0. land ! (from ! (stop !)) (init ! 31 refl (typed-State r0 v0 is0)) $
+              split ! $ move ! (1 ∷ []) $ split ! $ move ! (1 ∷ []) $ split ! $ move ! (3 ∷ []) $ lft-end ! tt $ move ! (0 ∷ 18 ∷ []) $ use2 W (later (‵ (Own-b0 xs-b0) ⊛ ‵ (flft κ-b0 q-b0))) (unshared-at u8 κ-b0 (ν0b0 ∷ []) q-b0 γ-b0 b-b0 o-b0 𝓤 H A W (named 0) (named 0) xs-b0 (length xs-b0) refl g-b0) $ await ! tt $ split ! $
+              move ! (4 ∷ []) $ lft-end ! tt $ move ! (0 ∷ 18 ∷ []) $ use2 W (later (‵ (Own-b1 xs-b1) ⊛ ‵ (flft κ-b1 q-b1))) (unshared-at u8 κ-b1 (ν0b1 ∷ []) q-b1 γ-b1 b-b1 o-b1 𝓤 H A W (named 1) (named 1) xs-b1 (length xs-b1) refl g-b1) $ await ! tt $ split ! $
+              keep ! (2 ∷ 0 ∷ 19 ∷ 18 ∷ 3 ∷ 1 ∷ 20 ∷ 4 ∷ 21 ∷ 22 ∷ 23 ∷ 24 ∷ 25 ∷ 26 ∷ 27 ∷ 28 ∷ 29 ∷ 30 ∷ 31 ∷ 32 ∷ 33 ∷ 34 ∷ 35 ∷ 36 ∷ 37 ∷ 38 ∷ 39 ∷ 40 ∷ 41 ∷ 42 ∷ 43 ∷ 44 ∷ 45 ∷ 46 ∷ 47 ∷ 48 ∷ 49 ∷ 50 ∷ 51 ∷ 52 ∷ 53 ∷ 54 ∷ 55 ∷ 56 ∷ 57 ∷ 58 ∷ 59 ∷ []) $
+              forget ! 25 refl $ forget ! 26 refl $ forget ! 27 refl $ forget ! 28 refl $ by ! (part-1 r0 v0 is0 said0))))))))))
 
-        begins : ent 𝓤 (⋆ 𝓤 H A Had) (WpFn 𝓤 H C Λ plainly (v-g ∷ s-b0 ∷ s-b1 ∷ v-n0 ∷ v-n1 ∷ v-blockcount ∷ v-seed ∷ v-rules ∷ s-entries ∷ s-dat ∷ v-stores ∷ []) Post)
+        begins : ent 𝓤 (⋆ 𝓤 H A Had) (WpFn 𝓤 H C Λ plainly (v-g ∷ s-b0 ∷ s-b1 ∷ v-n0 ∷ v-n1 ∷ v-blockcount ∷ v-seed ∷ v-rules ∷ v-erased ∷ s-entries ∷ s-dat ∷ v-stores ∷ []) Post)
         begins =
-            qed W Had ∵ enter ! C Λ plainly (v-g ∷ s-b0 ∷ s-b1 ∷ v-n0 ∷ v-n1 ∷ v-blockcount ∷ v-seed ∷ v-rules ∷ s-entries ∷ s-dat ∷ v-stores ∷ []) _ $
-            alloc1 ! (λ l0. alloc1 ! (λ l1. alloc1 ! (λ l2. alloc1 ! (λ l3. alloc1 ! (λ l4. alloc1 ! (λ l5. alloc1 ! (λ l6. alloc1 ! (λ l7. alloc1 ! (λ l8. alloc1 ! (λ l9. alloc1 ! (λ l10. alloc1 ! (λ l11. alloc1 ! (λ l12. alloc1 ! (λ l13. alloc1 ! (λ l14. alloc1 ! (λ l15. alloc1 ! (λ l16. alloc1 ! (λ l17. alloc1 ! (λ l18. alloc1 ! (λ l19. alloc1 ! (λ l20. alloc1 ! (λ l21. alloc1 ! (λ l22. alloc1 ! (λ l23. alloc1 ! (λ l24. alloc1 ! (λ l25. alloc1 ! (λ l26. alloc1 ! (λ l27. alloc1 ! (λ l28. alloc1 ! (λ l29. alloc1 ! (λ l30. alloc1 ! (λ l31. alloc1 ! (λ l32. alloc1 ! (λ l33. alloc1 ! (λ l34. alloc1 ! (λ l35. alloc1 ! (λ l36. alloc0 ! $ params1 ! $
-            pass1 ! (init ! 70 refl (typed-Geometry x-g v-g g-g)) $ pass1 ! (init ! 68 refl (tt, (tt, (record { fits = g-b0 .0 }, tt)))) $ pass1 ! (init ! 66 refl (tt, (tt, (record { fits = g-b1 .0 }, tt)))) $ pass1 ! (init ! 64 refl (uint-lawful 𝓤 H A W w32 .typed x-n0 _ g-n0 .0)) $ pass1 ! (init ! 62 refl (uint-lawful 𝓤 H A W w32 .typed x-n1 _ g-n1 .0)) $ pass1 ! (init ! 60 refl (uint-lawful 𝓤 H A W w32 .typed x-blockcount _ g-blockcount .0)) $ pass1 ! (init ! 58 refl (uint-lawful 𝓤 H A W w32 .typed x-seed _ g-seed .0)) $ pass1 ! (init ! 56 refl (uint-lawful 𝓤 H A W w32 .typed x-rules _ g-rules .0)) $ pass1 ! (init ! 54 refl (tt, (tt, (record { fits = g-entries .0 }, tt)))) $ pass1 ! (init ! 52 refl (tt, (tt, (record { fits = g-dat .0 }, tt)))) $ pass1 ! (init ! 50 refl (uint-lawful 𝓤 H A W w32 .typed x-stores _ g-stores .0)) $ pass0 ! $
-            move ! (73 ∷ 71 ∷ 69 ∷ 67 ∷ 65 ∷ 63 ∷ 61 ∷ 59 ∷ 57 ∷ 55 ∷ 53 ∷ 51 ∷ 49 ∷ 47 ∷ 45 ∷ 43 ∷ 41 ∷ 39 ∷ 37 ∷ 35 ∷ 33 ∷ 31 ∷ 29 ∷ 27 ∷ 25 ∷ 23 ∷ 21 ∷ 19 ∷ 17 ∷ 15 ∷ 13 ∷ 11 ∷ 9 ∷ 7 ∷ 5 ∷ 3 ∷ 1 ∷ []) $ group ! 37 $ keep ! (38 ∷ 39 ∷ 40 ∷ 41 ∷ 42 ∷ 43 ∷ 44 ∷ 45 ∷ 37 ∷ 36 ∷ 35 ∷ 34 ∷ 33 ∷ 32 ∷ 31 ∷ 30 ∷ 29 ∷ 28 ∷ 27 ∷ 26 ∷ 25 ∷ 24 ∷ 23 ∷ 22 ∷ 21 ∷ 20 ∷ 19 ∷ 18 ∷ 17 ∷ 16 ∷ 15 ∷ 14 ∷ 13 ∷ 12 ∷ 11 ∷ 10 ∷ 9 ∷ 8 ∷ 7 ∷ 6 ∷ 5 ∷ 4 ∷ 3 ∷ 2 ∷ 1 ∷ 0 ∷ []) $
-            by ! (body l0 l1 l2 l3 l4 l5 l6 l7 l8 l9 l10 l11 l12 l13 l14 l15 l16 l17 l18 l19 l20 l21 l22 l23 l24 l25 l26 l27 l28 l29 l30 l31 l32 l33 l34 l35 l36))))))))))))))))))))))))))))))))))))))
+            qed W Had ∵ enter ! C Λ plainly (v-g ∷ s-b0 ∷ s-b1 ∷ v-n0 ∷ v-n1 ∷ v-blockcount ∷ v-seed ∷ v-rules ∷ v-erased ∷ s-entries ∷ s-dat ∷ v-stores ∷ []) _ $
+            alloc1 ! (λ l0. alloc1 ! (λ l1. alloc1 ! (λ l2. alloc1 ! (λ l3. alloc1 ! (λ l4. alloc1 ! (λ l5. alloc1 ! (λ l6. alloc1 ! (λ l7. alloc1 ! (λ l8. alloc1 ! (λ l9. alloc1 ! (λ l10. alloc1 ! (λ l11. alloc1 ! (λ l12. alloc1 ! (λ l13. alloc1 ! (λ l14. alloc1 ! (λ l15. alloc1 ! (λ l16. alloc1 ! (λ l17. alloc1 ! (λ l18. alloc1 ! (λ l19. alloc1 ! (λ l20. alloc1 ! (λ l21. alloc1 ! (λ l22. alloc1 ! (λ l23. alloc1 ! (λ l24. alloc1 ! (λ l25. alloc1 ! (λ l26. alloc1 ! (λ l27. alloc1 ! (λ l28. alloc1 ! (λ l29. alloc1 ! (λ l30. alloc1 ! (λ l31. alloc1 ! (λ l32. alloc1 ! (λ l33. alloc1 ! (λ l34. alloc1 ! (λ l35. alloc1 ! (λ l36. alloc1 ! (λ l37. alloc0 ! $ params1 ! $
+            pass1 ! (init ! 72 refl (typed-Geometry x-g v-g g-g)) $ pass1 ! (init ! 70 refl (tt, (tt, (record { fits = g-b0 .0 }, tt)))) $ pass1 ! (init ! 68 refl (tt, (tt, (record { fits = g-b1 .0 }, tt)))) $ pass1 ! (init ! 66 refl (uint-lawful 𝓤 H A W w32 .typed x-n0 _ g-n0 .0)) $ pass1 ! (init ! 64 refl (uint-lawful 𝓤 H A W w32 .typed x-n1 _ g-n1 .0)) $ pass1 ! (init ! 62 refl (uint-lawful 𝓤 H A W w32 .typed x-blockcount _ g-blockcount .0)) $ pass1 ! (init ! 60 refl (uint-lawful 𝓤 H A W w32 .typed x-seed _ g-seed .0)) $ pass1 ! (init ! 58 refl (uint-lawful 𝓤 H A W w32 .typed x-rules _ g-rules .0)) $ pass1 ! (init ! 56 refl (uint-lawful 𝓤 H A W w8 .typed x-erased _ g-erased .0)) $ pass1 ! (init ! 54 refl (tt, (tt, (record { fits = g-entries .0 }, tt)))) $ pass1 ! (init ! 52 refl (tt, (tt, (record { fits = g-dat .0 }, tt)))) $ pass1 ! (init ! 50 refl (uint-lawful 𝓤 H A W w32 .typed x-stores _ g-stores .0)) $ pass0 ! $
+            move ! (75 ∷ 73 ∷ 71 ∷ 69 ∷ 67 ∷ 65 ∷ 63 ∷ 61 ∷ 59 ∷ 57 ∷ 55 ∷ 53 ∷ 51 ∷ 49 ∷ 47 ∷ 45 ∷ 43 ∷ 41 ∷ 39 ∷ 37 ∷ 35 ∷ 33 ∷ 31 ∷ 29 ∷ 27 ∷ 25 ∷ 23 ∷ 21 ∷ 19 ∷ 17 ∷ 15 ∷ 13 ∷ 11 ∷ 9 ∷ 7 ∷ 5 ∷ 3 ∷ 1 ∷ []) $ group ! 38 $ keep ! (39 ∷ 40 ∷ 41 ∷ 42 ∷ 43 ∷ 44 ∷ 45 ∷ 46 ∷ 38 ∷ 37 ∷ 36 ∷ 35 ∷ 34 ∷ 33 ∷ 32 ∷ 31 ∷ 30 ∷ 29 ∷ 28 ∷ 27 ∷ 26 ∷ 25 ∷ 24 ∷ 23 ∷ 22 ∷ 21 ∷ 20 ∷ 19 ∷ 18 ∷ 17 ∷ 16 ∷ 15 ∷ 14 ∷ 13 ∷ 12 ∷ 11 ∷ 10 ∷ 9 ∷ 8 ∷ 7 ∷ 6 ∷ 5 ∷ 4 ∷ 3 ∷ 2 ∷ 1 ∷ 0 ∷ []) $
+            by ! (body l0 l1 l2 l3 l4 l5 l6 l7 l8 l9 l10 l11 l12 l13 l14 l15 l16 l17 l18 l19 l20 l21 l22 l23 l24 l25 l26 l27 l28 l29 l30 l31 l32 l33 l34 l35 l36 l37)))))))))))))))))))))))))))))))))))))))
 
-        walk : ent 𝓤 (onEntry 𝓤 H A f.signature (κ-b0, (κ-b1, (κ-entries, (κ-dat, tt)))) (q-b0, (q-b1, (q-entries, (q-dat, tt)))) x at) (WpFn 𝓤 H C Λ code.function (v-g ∷ s-b0 ∷ s-b1 ∷ v-n0 ∷ v-n1 ∷ v-blockcount ∷ v-seed ∷ v-rules ∷ s-entries ∷ s-dat ∷ v-stores ∷ []) Post)
-        walk = apart (WpFn 𝓤 H C Λ code.function (v-g ∷ s-b0 ∷ s-b1 ∷ v-n0 ∷ v-n1 ∷ v-blockcount ∷ v-seed ∷ v-rules ∷ s-entries ∷ s-dat ∷ v-stores ∷ []) Post) begins
+        walk : ent 𝓤 (onEntry 𝓤 H A f.signature (κ-b0, (κ-b1, (κ-entries, (κ-dat, tt)))) (q-b0, (q-b1, (q-entries, (q-dat, tt)))) x at) (WpFn 𝓤 H C Λ code.function (v-g ∷ s-b0 ∷ s-b1 ∷ v-n0 ∷ v-n1 ∷ v-blockcount ∷ v-seed ∷ v-rules ∷ v-erased ∷ s-entries ∷ s-dat ∷ v-stores ∷ []) Post)
+        walk = apart (WpFn 𝓤 H C Λ code.function (v-g ∷ s-b0 ∷ s-b1 ∷ v-n0 ∷ v-n1 ∷ v-blockcount ∷ v-seed ∷ v-rules ∷ v-erased ∷ s-entries ∷ s-dat ∷ v-stores ∷ []) Post) begins
 
   walks : (𝓣 : Tables 𝓤 H) → FmC 𝓤 H (W .laws) (𝓣 .C) → Triple 𝓤 (𝓣 .C #begin) K-begin → Triple 𝓤 (𝓣 .C #each) K-each → Triple 𝓤 (𝓣 .C #decide) K-decide → Triple 𝓤 (𝓣 .C #seal) K-seal → Walks 𝓤 H A f.ended stayed (WpFn 𝓤 H (𝓣 .C) (𝓣 .Λ) code.function) (f.clauses 𝓤 H A at-mem run)
-  walks 𝓣 fm known-begin known-each known-decide known-seal = walked 𝓤 H A f.ended stayed (f.clauses 𝓤 H A at-mem run) (WpFn 𝓤 H (𝓣 .C) (𝓣 .Λ) code.function) (λ κs. (LL.vals Geometry-ty.the-type Geometry-laws.the-laws, (slice-vals, (slice-vals, (uint-vals w32, (uint-vals w32, (uint-vals w32, (uint-vals w32, (uint-vals w32, (slice-vals, (slice-vals, (uint-vals w32, tt))))))))))))
-      (λ κs. (LL.tells Geometry-ty.the-type Geometry-laws.the-laws, (mut-slice-tells (named 0) (κs .0) u8, (mut-slice-tells (named 1) (κs .1 .0) u8, (uint-tells w32, (uint-tells w32, (uint-tells w32, (uint-tells w32, (uint-tells w32, (shr-slice-tells (named 2) (κs .1 .1 .0) Entry-ty.the-row, (shr-slice-tells (named 3) (κs .1 .1 .1 .0) u8, (uint-tells w32, tt))))))))))))
-      (λ κs qs bounds a g are. via 𝓤 _ (fst∗ 𝓤 _ (emp 𝓤)) (walk (κs .0) (κs .1 .0) (κs .1 .1 .0) (κs .1 .1 .1 .0) (qs .0) (qs .1 .0) (qs .1 .1 .0) (qs .1 .1 .1 .0) (a .0) (mach-Geometry (a .0)) (a .1 .0 .ptr .0) (a .1 .0 .ptr .1) (a .1 .0 .name) (a .1 .0 .now) (a .1 .1 .0 .ptr .0) (a .1 .1 .0 .ptr .1) (a .1 .1 .0 .name) (a .1 .1 .0 .now) (a .1 .1 .1 .0) (vint w32 (a .1 .1 .1 .0)) (a .1 .1 .1 .1 .0) (vint w32 (a .1 .1 .1 .1 .0)) (a .1 .1 .1 .1 .1 .0) (vint w32 (a .1 .1 .1 .1 .1 .0)) (a .1 .1 .1 .1 .1 .1 .0) (vint w32 (a .1 .1 .1 .1 .1 .1 .0)) (a .1 .1 .1 .1 .1 .1 .1 .0) (vint w32 (a .1 .1 .1 .1 .1 .1 .1 .0)) (a .1 .1 .1 .1 .1 .1 .1 .1 .0 .ptr .0) (a .1 .1 .1 .1 .1 .1 .1 .1 .0 .ptr .1) (a .1 .1 .1 .1 .1 .1 .1 .1 .0 .name) (a .1 .1 .1 .1 .1 .1 .1 .1 .0 .now) (a .1 .1 .1 .1 .1 .1 .1 .1 .1 .0 .ptr .0) (a .1 .1 .1 .1 .1 .1 .1 .1 .1 .0 .ptr .1) (a .1 .1 .1 .1 .1 .1 .1 .1 .1 .0 .name) (a .1 .1 .1 .1 .1 .1 .1 .1 .1 .0 .now) (a .1 .1 .1 .1 .1 .1 .1 .1 .1 .1 .0) (vint w32 (a .1 .1 .1 .1 .1 .1 .1 .1 .1 .1 .0)) (are .0) (are .1 .0 .0 .1) (are .1 .1 .0 .0 .1) (are .1 .1 .1 .0) (are .1 .1 .1 .1 .0) (are .1 .1 .1 .1 .1 .0) (are .1 .1 .1 .1 .1 .1 .0) (are .1 .1 .1 .1 .1 .1 .1 .0) (are .1 .1 .1 .1 .1 .1 .1 .1 .0 .0 .1) (are .1 .1 .1 .1 .1 .1 .1 .1 .1 .0 .0 .1) (are .1 .1 .1 .1 .1 .1 .1 .1 .1 .1 .0) 𝓣 fm known-begin known-each known-decide known-seal))
+  walks 𝓣 fm known-begin known-each known-decide known-seal = walked 𝓤 H A f.ended stayed (f.clauses 𝓤 H A at-mem run) (WpFn 𝓤 H (𝓣 .C) (𝓣 .Λ) code.function) (λ κs. (LL.vals Geometry-ty.the-type Geometry-laws.the-laws, (slice-vals, (slice-vals, (uint-vals w32, (uint-vals w32, (uint-vals w32, (uint-vals w32, (uint-vals w32, (uint-vals w8, (slice-vals, (slice-vals, (uint-vals w32, tt)))))))))))))
+      (λ κs. (LL.tells Geometry-ty.the-type Geometry-laws.the-laws, (mut-slice-tells (named 0) (κs .0) u8, (mut-slice-tells (named 1) (κs .1 .0) u8, (uint-tells w32, (uint-tells w32, (uint-tells w32, (uint-tells w32, (uint-tells w32, (uint-tells w8, (shr-slice-tells (named 2) (κs .1 .1 .0) Entry-ty.the-row, (shr-slice-tells (named 3) (κs .1 .1 .1 .0) u8, (uint-tells w32, tt)))))))))))))
+      (λ κs qs bounds a g are. via 𝓤 _ (fst∗ 𝓤 _ (emp 𝓤)) (walk (κs .0) (κs .1 .0) (κs .1 .1 .0) (κs .1 .1 .1 .0) (qs .0) (qs .1 .0) (qs .1 .1 .0) (qs .1 .1 .1 .0) (a .0) (mach-Geometry (a .0)) (a .1 .0 .ptr .0) (a .1 .0 .ptr .1) (a .1 .0 .name) (a .1 .0 .now) (a .1 .1 .0 .ptr .0) (a .1 .1 .0 .ptr .1) (a .1 .1 .0 .name) (a .1 .1 .0 .now) (a .1 .1 .1 .0) (vint w32 (a .1 .1 .1 .0)) (a .1 .1 .1 .1 .0) (vint w32 (a .1 .1 .1 .1 .0)) (a .1 .1 .1 .1 .1 .0) (vint w32 (a .1 .1 .1 .1 .1 .0)) (a .1 .1 .1 .1 .1 .1 .0) (vint w32 (a .1 .1 .1 .1 .1 .1 .0)) (a .1 .1 .1 .1 .1 .1 .1 .0) (vint w32 (a .1 .1 .1 .1 .1 .1 .1 .0)) (a .1 .1 .1 .1 .1 .1 .1 .1 .0) (vint w8 (a .1 .1 .1 .1 .1 .1 .1 .1 .0)) (a .1 .1 .1 .1 .1 .1 .1 .1 .1 .0 .ptr .0) (a .1 .1 .1 .1 .1 .1 .1 .1 .1 .0 .ptr .1) (a .1 .1 .1 .1 .1 .1 .1 .1 .1 .0 .name) (a .1 .1 .1 .1 .1 .1 .1 .1 .1 .0 .now) (a .1 .1 .1 .1 .1 .1 .1 .1 .1 .1 .0 .ptr .0) (a .1 .1 .1 .1 .1 .1 .1 .1 .1 .1 .0 .ptr .1) (a .1 .1 .1 .1 .1 .1 .1 .1 .1 .1 .0 .name) (a .1 .1 .1 .1 .1 .1 .1 .1 .1 .1 .0 .now) (a .1 .1 .1 .1 .1 .1 .1 .1 .1 .1 .1 .0) (vint w32 (a .1 .1 .1 .1 .1 .1 .1 .1 .1 .1 .1 .0)) (are .0) (are .1 .0 .0 .1) (are .1 .1 .0 .0 .1) (are .1 .1 .1 .0) (are .1 .1 .1 .1 .0) (are .1 .1 .1 .1 .1 .0) (are .1 .1 .1 .1 .1 .1 .0) (are .1 .1 .1 .1 .1 .1 .1 .0) (are .1 .1 .1 .1 .1 .1 .1 .1 .0) (are .1 .1 .1 .1 .1 .1 .1 .1 .1 .0 .0 .1) (are .1 .1 .1 .1 .1 .1 .1 .1 .1 .1 .0 .0 .1) (are .1 .1 .1 .1 .1 .1 .1 .1 .1 .1 .1 .0) 𝓣 fm known-begin known-each known-decide known-seal))
 
 meets : {M : Type 1} (𝓤 : URA M) (H : Heap 𝓤) (A : Atoms 𝓤) (W : Given 𝓤 H A) (mem : Memory → SProp 𝓤) (run : Routine → Fun 𝓤) (𝓣 : Tables 𝓤 H) → Triple 𝓤 (𝓣 .C #begin) (K-begin 𝓤 H A W mem run) → Triple 𝓤 (𝓣 .C #each) (K-each 𝓤 H A W mem run) → Triple 𝓤 (𝓣 .C #decide) (K-decide 𝓤 H A W mem run) → Triple 𝓤 (𝓣 .C #seal) (K-seal 𝓤 H A W mem run)
     → Meets 𝓤 H A f.signature (WpFn 𝓤 H (𝓣 .C) (𝓣 .Λ) code.function) (f.spec 𝓤 H A mem run)
 meets 𝓤 H A W mem run 𝓣 known-begin known-each known-decide known-seal =
-    walk-meets 𝓤 H A f.ended stayed W (goes-none 𝓤 H A W 4 (λ _. Geometry-ty.the-row) yes (λ κs x f. refl), (goes-slice 𝓤 H A W 4 0 tt (plain (λ _. u8)), (goes-slice 𝓤 H A W 4 1 tt (plain (λ _. u8)), (goes-none 𝓤 H A W 4 (λ _. u32) yes (λ κs x f. refl), (goes-none 𝓤 H A W 4 (λ _. u32) yes (λ κs x f. refl), (goes-none 𝓤 H A W 4 (λ _. u32) yes (λ κs x f. refl), (goes-none 𝓤 H A W 4 (λ _. u32) yes (λ κs x f. refl), (goes-none 𝓤 H A W 4 (λ _. u32) yes (λ κs x f. refl), (goes-none-slice 𝓤 H A W 4 (2 ∷ []) tt (plain (λ _. Entry-ty.the-row)) yes, (goes-none-slice 𝓤 H A W 4 (3 ∷ []) tt (plain (λ _. u8)) yes, (goes-none 𝓤 H A W 4 (λ _. u32) yes (λ κs x f. refl), tt))))))))))) (f.clauses 𝓤 H A mem run)
+    walk-meets 𝓤 H A f.ended stayed W (goes-none 𝓤 H A W 4 (λ _. Geometry-ty.the-row) yes (λ κs x f. refl), (goes-slice 𝓤 H A W 4 0 tt (plain (λ _. u8)), (goes-slice 𝓤 H A W 4 1 tt (plain (λ _. u8)), (goes-none 𝓤 H A W 4 (λ _. u32) yes (λ κs x f. refl), (goes-none 𝓤 H A W 4 (λ _. u32) yes (λ κs x f. refl), (goes-none 𝓤 H A W 4 (λ _. u32) yes (λ κs x f. refl), (goes-none 𝓤 H A W 4 (λ _. u32) yes (λ κs x f. refl), (goes-none 𝓤 H A W 4 (λ _. u32) yes (λ κs x f. refl), (goes-none 𝓤 H A W 4 (λ _. u8) yes (λ κs x f. refl), (goes-none-slice 𝓤 H A W 4 (2 ∷ []) tt (plain (λ _. Entry-ty.the-row)) yes, (goes-none-slice 𝓤 H A W 4 (3 ∷ []) tt (plain (λ _. u8)) yes, (goes-none 𝓤 H A W 4 (λ _. u32) yes (λ κs x f. refl), tt)))))))))))) (f.clauses 𝓤 H A mem run)
     (WpFn 𝓤 H (𝓣 .C) (𝓣 .Λ) code.function) (WpFn-mono 𝓤 H (W .laws) 𝓣 code.function) (walks 𝓤 H A W mem run 𝓣 (fmOf 𝓤 H (W .laws) 𝓣) known-begin known-each known-decide known-seal)
 
 pub run-spec : {M : Type 1} → stated.statement M

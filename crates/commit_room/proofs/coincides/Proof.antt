@@ -1,4 +1,5 @@
 -- `commit_room::coincides` meets its contract: the three lists are what is put of the tag, filled up. Assumes nothing.
+use native.Mathlib.Omega.{arith}
 use borrow.Author.Needs.{needs}
 use Rattle.commit_room.proofs.Cleared.{three}
 use Rattle.commit_room.proofs.coincides.Statement.{statement}
@@ -13,6 +14,6 @@ returns c = three _ (c .before .before .before .before .before .before .before .
 
 pub coincides-spec : {M : Type 1} → statement M
 coincides-spec = tie.close (tie.spec (λ c κs. search needs) (λ c. search needs) (λ c. search needs)
-    (λ c. search needs) (λ c. search needs) (λ c. search needs) (λ c. search needs) (λ c. search needs)
-    (λ c κs. search needs) (λ c. search needs) (λ c κs. search needs) (λ c. search needs) (λ c κs. search needs)
-    returns)
+    (λ c. search needs) (λ c. search needs) (λ c. search needs) (λ c. search needs) (λ c. omega arith)
+    (λ c. search needs) (λ c κs. search needs) (λ c. search needs) (λ c κs. search needs) (λ c. search needs)
+    (λ c κs. search needs) returns)

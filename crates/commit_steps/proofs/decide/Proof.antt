@@ -9,7 +9,7 @@ use Rattle.commit_steps.proofs.decide.Statement.{statement}
 use Rattle.commit_steps.proofs.decide.Tie as tie
 
 returns : tie.Need-returns
-returns c = decide-broken _ _ _ _ _ _ (c .before .before .before .before .phase .given .1) _
+returns c = decide-broken _ _ _ _ _ _ _ (c .before .before .before .before .phase .given .1) _
     (c .before .before .images-fit .ensures) _ (c .before .if1 .taken) (c .refused .ensures)
 
 place-requires : tie.Need-place-requires
@@ -18,7 +18,7 @@ place-requires c κs =
     (s .geometry .prog-low, (s .geometry .prog-high, omega (arith, s .second, s .geometry .block-high)))
 
 returns-2 : tie.Need-returns-2
-returns-2 c = decide-second _ _ _ _ _ _ (c .before .before .before .before .before .phase .given .1) _
+returns-2 c = decide-second _ _ _ _ _ _ _ (c .before .before .before .before .before .phase .given .1) _
     (c .before .before .before .images-fit .ensures) _ (c .before .before .if1 .left) (c .before .if2 .taken)
     (c .place .ensures)
 
@@ -28,13 +28,13 @@ place-requires-2 c κs =
     (s .geometry .prog-low, (s .geometry .prog-high, omega (arith, s .first, s .geometry .block-high)))
 
 returns-3 : tie.Need-returns-3
-returns-3 c = decide-refused _ _ _ _ _ _ (c .enum-told .given .1)
+returns-3 c = decide-refused _ _ _ _ _ _ _ (c .enum-told .given .1)
 
 returns-4 : tie.Need-returns-4
-returns-4 c = decide-laid _ _ _ _ _ _ (c .enum-told2 .given .1)
+returns-4 c = decide-laid _ _ _ _ _ _ _ (c .enum-told2 .given .1)
 
 returns-5 : tie.Need-returns-5
-returns-5 c = decide-first _ _ _ _ _ _ (c .before .before .before .before .before .phase .given .1) _
+returns-5 c = decide-first _ _ _ _ _ _ _ (c .before .before .before .before .before .phase .given .1) _
     (c .before .before .before .images-fit .ensures) _ (c .before .before .if1 .left) (c .before .if2 .left)
     (c .place2 .ensures)
 

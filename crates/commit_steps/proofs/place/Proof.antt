@@ -14,7 +14,7 @@ test-requires : tie.Need-test-requires
 test-requires c κs = c .before .before .before .before .before .pre
 
 returns : tie.Need-returns
-returns c = placed-tested _ _ _ _ _ _ _ (c .before .before .forward .ensures) (c .before .sum-forward .ensures)
+returns c = placed-tested _ _ _ _ _ _ _ _ (c .before .before .forward .ensures) (c .before .sum-forward .ensures)
     (c .test .ensures)
 
 pub place-spec : {M : Type 1} → statement M

@@ -11,7 +11,7 @@ rounded-end-requires c κs =
     record { low = pre .0; high = pre .1 .0; near = omega arith }
 
 returns : tie.Need-returns
-returns c = tested-full _ _ _ _ _ _ (c .before .rounded-end .ensures) (c .if1 .taken)
+returns c = tested-full _ _ _ _ _ _ _ (c .before .rounded-end .ensures) (c .if1 .taken)
 
 room-requires : tie.Need-room-requires
 room-requires c κs = let pre = c .before .before .before .before .before .before .pre in (pre .0, pre .1 .1)
@@ -24,20 +24,20 @@ check-tag-requires c κs =
 returns-2 : tie.Need-returns-2
 returns-2 c =
     let tested = c .before .before .before .before .before .before .before in
-    tested-coincides _ _ _ _ _ _ (tested .before .rounded-end .ensures) (tested .if1 .left) _
+    tested-coincides _ _ _ _ _ _ _ (tested .before .rounded-end .ensures) (tested .if1 .left) _
     (c .before .before .before .before .before .before .room .ensures)
     (c .before .before .before .before .enum-told .given .1) _ (c .before .before .before .check-tag .ensures) _
     (c .before .coincides .ensures) (c .if2 .taken)
 
 returns-3 : tie.Need-returns-3
-returns-3 c = tested-no-room _ _ _ _ _ _ (c .before .before .before .before .before .rounded-end .ensures)
+returns-3 c = tested-no-room _ _ _ _ _ _ _ (c .before .before .before .before .before .rounded-end .ensures)
     (c .before .before .before .before .if1 .left) _ (c .before .before .before .room .ensures) _
     (c .before .r .given .1)
 
 returns-4 : tie.Need-returns-4
 returns-4 c =
     let tested = c .before .before .before .before .before .before .before .before in
-    tested-lays _ _ _ _ _ _ (tested .before .rounded-end .ensures) (tested .if1 .left) _
+    tested-lays _ _ _ _ _ _ _ (tested .before .rounded-end .ensures) (tested .if1 .left) _
     (c .before .before .before .before .before .before .before .room .ensures)
     (c .before .before .before .before .before .enum-told .given .1) _
     (c .before .before .before .before .check-tag .ensures) _ (c .before .before .coincides .ensures) _

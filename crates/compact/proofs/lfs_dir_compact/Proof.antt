@@ -10,7 +10,7 @@ use Rattle.compact.proofs.lfs_dir_compact.Tie as tie
 returns : tie.Need-returns
 returns c =
     let stored = c .before .before .before .before .before .before .before .lfs-dir-compact-stores .ensures in
-    answered-refused _ _ _ _ _ _ _ _ _ _
+    answered-refused _ _ _ _ _ _ _ _ _ _ _
     (λ i. omega (
       arith,
       c .before .before .before .before .before .before .before .before .before .before .before
@@ -27,7 +27,7 @@ returns-2 : tie.Need-returns-2
 returns-2 c =
     let stored = c .before .before .before .before .before .before .before .before .before .before .before .before
     .lfs-dir-compact-stores .ensures in
-    answered-made _ _ _ _ _ _ _ _ _ _
+    answered-made _ _ _ _ _ _ _ _ _ _ _
     (λ i. omega (
       arith,
       c .before .before .before .before .before .before .before .before .before .before .before
@@ -45,7 +45,7 @@ returns-3 : tie.Need-returns-3
 returns-3 c =
     let stored = c .before .before .before .before .before .before .before .before .before .before .before .before
     .lfs-dir-compact-stores .ensures in
-    answered-made _ _ _ _ _ _ _ _ _ _
+    answered-made _ _ _ _ _ _ _ _ _ _ _
     (λ i. omega (
       arith,
       c .before .before .before .before .before .before .before .before .before .before .before

@@ -16,7 +16,7 @@ log-regular-requires c κs =
 
 returns : tie.Need-returns
 returns c =
-    renew-irregular _ _ _ _ _ (c .before .before .before .before .before .before .pre)
+    renew-irregular _ _ _ _ _ _ (c .before .before .before .before .before .before .pre)
     (c .before .before .before .before .before .before .args .rules) _ (c .before .before .rules-of .ensures) _
     (c .before .log-regular .ensures)
     (c .if1 .taken)
@@ -31,7 +31,7 @@ entries-requires c κs =
 
 rounded-end-requires : tie.Need-rounded-end-requires
 rounded-end-requires c κs =
-    renew-prog _ _ _ _ 0 (c .before .before .before .before .before .before .before .before .before .before
+    renew-prog _ _ _ _ _ 0 (c .before .before .before .before .before .before .before .before .before .before
     .before .before .pre)
     (c .before .before .before .before .before .before .before .before .before .before .before .before .args .rules) _
     (c .before .before .before .before .before .before .before .before .rules-of .ensures) _ (c .before .before .before
@@ -42,7 +42,7 @@ rounded-end-requires c κs =
 
 returns-2 : tie.Need-returns-2
 returns-2 c =
-    renew-full _ _ _ _ _
+    renew-full _ _ _ _ _ _
     (c .before .before .before .before .before .before .before .before .before .before .before .before .before .before
     .pre) (c .before .before .before .before .before .before .before .before .before .before .before .before .before
     .before .args .rules) _ (c .before .before .before .before .before .before .before .before .before .before
@@ -54,7 +54,7 @@ returns-2 c =
 
 check-tag-requires : tie.Need-check-tag-requires
 check-tag-requires c κs =
-    renew-prog _ _ _ _ 0
+    renew-prog _ _ _ _ _ 0
     (c .before .before .before .before .before .before .before .before .before .before .before .before .before .before
     .pre) (c .before .before .before .before .before .before .before .before .before .before .before .before .before
     .before .args .rules) _ (c .before .before .before .before .before .before .before .before .before .before
@@ -65,7 +65,7 @@ check-tag-requires c κs =
 
 returns-3 : tie.Need-returns-3
 returns-3 c =
-    renew-coincides _ _ _ _ _ (c .before .before .before .before .before .before .before .before .before .before .before
+    renew-coincides _ _ _ _ _ _ (c .before .before .before .before .before .before .before .before .before .before .before
     .before .before .before .before .before .before .before .pre)
     (c .before .before .before .before .before .before .before .before .before .before .before .before .before .before
     .before .before .before .before .args .rules) _ (c .before .before .before .before .before .before .before .before
@@ -80,7 +80,7 @@ returns-3 c =
 
 write-requires : tie.Need-write-requires
 write-requires c κs =
-    renew-writes _ _ _ _ 0 (c .before .before .before .before .before .before .before .before .before .before .before
+    renew-writes _ _ _ _ _ 0 (c .before .before .before .before .before .before .before .before .before .before .before
     .before .before .before .before .before .before .before .before .pre)
     (c .before .before .before .before .before .before .before .before .before .before .before .before .before .before
     .before .before .before .before .before .args .rules) _ (c .before .before .before .before .before .before .before
@@ -97,7 +97,7 @@ write-requires c κs =
 
 returns-4 : tie.Need-returns-4
 returns-4 c =
-    renew-made _ _ _ _ _ (c .before .before .before .before .before .before .before .before .before .before .before
+    renew-made _ _ _ _ _ _ (c .before .before .before .before .before .before .before .before .before .before .before
     .before .before .before .before .before .before .before .before .before .before .before .pre)
     (c .before .before .before .before .before .before .before .before .before .before .before .before .before .before
     .before .before .before .before .before .before .before .before .args .rules) _

@@ -7,7 +7,7 @@ use Rattle.compact_block.proofs.write.Statement.{statement}
 use Rattle.compact_block.proofs.write.Tie as tie
 
 returns : tie.Need-returns
-returns c = pass-none (c .before .before .before .args .prog) (c .before .before .before .args .old .now) _ _
+returns c = pass-none (c .before .before .before .args .erased) (c .before .before .before .args .prog) (c .before .before .before .args .old .now) _ _
     (c .before .before .before .args .tag) _ (c .if1 .taken)
 
 entries-requires : tie.Need-entries-requires
@@ -19,7 +19,7 @@ entries-requires c κs =
 cast-result : tie.Need-cast-result
 cast-result c = omega (
   arith,
-  pass-made _ _ _ _ (c .before .before .before .before .before .before .before .before .before
+  pass-made _ _ _ _ _ (c .before .before .before .before .before .before .before .before .before
       .before .before .before .before .before .before .before .before .before .before .before .before .pre) _ _ _
       (c .before .before .before .before .before .before .before .before .before .before .before .before .before .before
       .before .before .before .before .if1 .left) _ (c .before .before .before .before .before .before .before .before
@@ -36,7 +36,7 @@ cast-result c = omega (
 add-result : tie.Need-add-result
 add-result c = omega (
   arith,
-  pass-made _ _ _ _ (c .before .before .before .before .before .before .before .before .before
+  pass-made _ _ _ _ _ (c .before .before .before .before .before .before .before .before .before
       .before .before .before .before .before .before .before .before .before .before .before .before .pre) _ _ _
       (c .before .before .before .before .before .before .before .before .before .before .before .before .before .before
       .before .before .before .before .if1 .left) _ (c .before .before .before .before .before .before .before .before
@@ -52,7 +52,7 @@ add-result c = omega (
 
 returns-2 : tie.Need-returns-2
 returns-2 c = (
-  pass-made _ _ _ _ (c .before .before .before .before .before .before .before .before .before .before
+  pass-made _ _ _ _ _ (c .before .before .before .before .before .before .before .before .before .before
       .before .before .before .before .before .before .before .before .before .before .before .pre) _ _ _
       (c .before .before .before .before .before .before .before .before .before .before .before .before .before .before
       .before .before .before .before .if1 .left) _ (c .before .before .before .before .before .before .before .before
@@ -61,7 +61,7 @@ returns-2 c = (
       .ensures) _ _ (c .before .before .before .before .before .before .before .before .begin .ensures) _
       (c .before .before .before .before .before .before .before .entries .ensures) _
       (c .before .before .before .check .ensures),
-  pass-block _ _ _ _
+  pass-block _ _ _ _ _
       (c .before .before .before .before .before .before .before .before .before .before .before .before .before .before
       .before .before .before .before .before .before .before .pre) _ _ _
       (c .before .before .before .before .before .before .before .before .before .before .before .before .before .before

@@ -72,10 +72,10 @@ use Rattle.lanolin.proofs.lanolin_commit_stores.Code as code
 use Rattle.lanolin.proofs.lanolin_commit_stores.Code.Mir.{t-1, t-6, t-7}
 
 -- the law that it cites (proofs/Rules.antt):
---   pub stores-glue : (xs-b0 : List ℕ) (xs-b1 : List ℕ) (xs-entries : List Entry) (xs-dat : List ℕ) (x-g : Geometry) (x-n0 : ℕ) (x-n1 : ℕ) (x-blockcount : ℕ) (x-seed : ℕ) (x-rules : ℕ) (x-stores : ℕ) (r0 : Stored) (y0b0 : List ℕ) (y0b1 : List ℕ) (r1 : StoredOut)
---       → (r0 ≡ commitStoresOf x-g xs-b0 xs-b1 x-n0 x-n1 x-blockcount x-seed x-rules xs-entries xs-dat x-stores) × CommitStoresLeaves x-g xs-b0 xs-b1 x-n0 x-n1 x-blockcount x-seed x-rules xs-entries xs-dat x-stores y0b0 y0b1
+--   pub stores-glue : (xs-b0 : List ℕ) (xs-b1 : List ℕ) (xs-entries : List Entry) (xs-dat : List ℕ) (x-g : Geometry) (x-n0 : ℕ) (x-n1 : ℕ) (x-blockcount : ℕ) (x-seed : ℕ) (x-rules : ℕ) (x-erased : ℕ) (x-stores : ℕ) (r0 : Stored) (y0b0 : List ℕ) (y0b1 : List ℕ) (r1 : StoredOut)
+--       → (r0 ≡ commitStoresOf x-g xs-b0 xs-b1 x-n0 x-n1 x-blockcount x-seed x-rules x-erased xs-entries xs-dat x-stores) × CommitStoresLeaves x-g xs-b0 xs-b1 x-n0 x-n1 x-blockcount x-seed x-rules x-erased xs-entries xs-dat x-stores y0b0 y0b1
 --       → r1 ≡ storedOut r0
---       → (r1 ≡ storedOut (commitStoresOf x-g xs-b0 xs-b1 x-n0 x-n1 x-blockcount x-seed x-rules xs-entries xs-dat x-stores)) × CommitStoresLeaves x-g xs-b0 xs-b1 x-n0 x-n1 x-blockcount x-seed x-rules xs-entries xs-dat x-stores y0b0 y0b1
+--       → (r1 ≡ storedOut (commitStoresOf x-g xs-b0 xs-b1 x-n0 x-n1 x-blockcount x-seed x-rules x-erased xs-entries xs-dat x-stores)) × CommitStoresLeaves x-g xs-b0 xs-b1 x-n0 x-n1 x-blockcount x-seed x-rules x-erased xs-entries xs-dat x-stores y0b0 y0b1
 
 abbrev mach-Entry : Entry → Val
 mach-Entry h = LL.tuple-val Entry-ty.the-type Entry-laws.the-laws (Entry-ty.the-type .to h)
@@ -103,10 +103,10 @@ vals-StoredOut = LL.vals StoredOut-ty.the-type StoredOut-laws.the-laws
 
 -- the function with its locals' types spelled out: it is `code.function` by computation, which is compared once
 abbrev plainly : Fn
-plainly = record { lifetimes = 4; outlives = []; params = 11; locals = local StoredOut-laws.mir valueLocal ∷ local Geometry-laws.mir valueLocal ∷ local (sliceTy (tyRef (named 0) mut (tyInt w8))) valueLocal ∷ local (sliceTy (tyRef (named 1) mut (tyInt w8))) valueLocal ∷ local (tyInt w32) valueLocal ∷ local (tyInt w32) valueLocal ∷ local (tyInt w32) valueLocal ∷ local (tyInt w32) valueLocal ∷ local (tyInt w32) valueLocal ∷ local (sliceTy (tyRef (named 2) imm (pointee (Entry-ty.the-row .written)))) valueLocal ∷ local (sliceTy (tyRef (named 3) imm (tyInt w8))) valueLocal ∷ local (tyInt w32) valueLocal ∷ local Stored-laws.mir valueLocal ∷ local (tyRef erased mut (tyInt w8)) valueLocal ∷ local (sliceTy (tyRef erased mut (tyInt w8))) valueLocal ∷ local (tyRef erased mut (tyInt w8)) valueLocal ∷ local (sliceTy (tyRef erased mut (tyInt w8))) valueLocal ∷ []; body = t-1 }
+plainly = record { lifetimes = 4; outlives = []; params = 12; locals = local StoredOut-laws.mir valueLocal ∷ local Geometry-laws.mir valueLocal ∷ local (sliceTy (tyRef (named 0) mut (tyInt w8))) valueLocal ∷ local (sliceTy (tyRef (named 1) mut (tyInt w8))) valueLocal ∷ local (tyInt w32) valueLocal ∷ local (tyInt w32) valueLocal ∷ local (tyInt w32) valueLocal ∷ local (tyInt w32) valueLocal ∷ local (tyInt w32) valueLocal ∷ local (tyInt w8) valueLocal ∷ local (sliceTy (tyRef (named 2) imm (pointee (Entry-ty.the-row .written)))) valueLocal ∷ local (sliceTy (tyRef (named 3) imm (tyInt w8))) valueLocal ∷ local (tyInt w32) valueLocal ∷ local Stored-laws.mir valueLocal ∷ local (tyRef erased mut (tyInt w8)) valueLocal ∷ local (sliceTy (tyRef erased mut (tyInt w8))) valueLocal ∷ local (tyRef erased mut (tyInt w8)) valueLocal ∷ local (sliceTy (tyRef erased mut (tyInt w8))) valueLocal ∷ []; body = t-1 }
 
 abbrev stayed : Stays (f.ended .signature .params) (f.ended .kept)
-stayed = (stay-none (λ _. Geometry-ty.the-row) yes, (stay-slice (0 ∷ []) tt (plain (λ _. u8)), (stay-slice (1 ∷ []) tt (plain (λ _. u8)), (stay-none (λ _. u32) yes, (stay-none (λ _. u32) yes, (stay-none (λ _. u32) yes, (stay-none (λ _. u32) yes, (stay-none (λ _. u32) yes, (stay-none-slice (2 ∷ []) tt (plain (λ _. Entry-ty.the-row)) yes, (stay-none-slice (3 ∷ []) tt (plain (λ _. u8)) yes, (stay-none (λ _. u32) yes, tt)))))))))))
+stayed = (stay-none (λ _. Geometry-ty.the-row) yes, (stay-slice (0 ∷ []) tt (plain (λ _. u8)), (stay-slice (1 ∷ []) tt (plain (λ _. u8)), (stay-none (λ _. u32) yes, (stay-none (λ _. u32) yes, (stay-none (λ _. u32) yes, (stay-none (λ _. u32) yes, (stay-none (λ _. u32) yes, (stay-none (λ _. u8) yes, (stay-none-slice (2 ∷ []) tt (plain (λ _. Entry-ty.the-row)) yes, (stay-none-slice (3 ∷ []) tt (plain (λ _. u8)) yes, (stay-none (λ _. u32) yes, tt))))))))))))
 
 module _ {M : Type 1} (𝓤 : URA M) (H : Heap 𝓤) (A : Atoms 𝓤) (W : Given 𝓤 H A) (at-mem : Memory → SProp 𝓤) (run : Routine → Fun 𝓤) where
   abbrev K-lfs_dir_commit_stores : Contract 𝓤
@@ -127,7 +127,7 @@ module _ {M : Type 1} (𝓤 : URA M) (H : Heap 𝓤) (A : Atoms 𝓤) (W : Given
   typed-StoredOut : (h : StoredOut) (v : Val) → Is StoredOut-ty.the-row h (v ∷ []) → Holds (hasTy StoredOut-laws.mir v) × WT v
   typed-StoredOut h v g = LL.lawful StoredOut-ty.the-type StoredOut-laws.the-laws 𝓤 H A W .typed h _ g .0
 
-  module _ (κ-b0 κ-b1 κ-entries κ-dat : Lft) (q-b0 q-b1 q-entries q-dat : Share) (x-g : Geometry) (v-g : Val) (b-b0 o-b0 : ℕ) (γ-b0 : GName) (xs-b0 : List ℕ) (b-b1 o-b1 : ℕ) (γ-b1 : GName) (xs-b1 : List ℕ) (x-n0 : ℕ) (v-n0 : Val) (x-n1 : ℕ) (v-n1 : Val) (x-blockcount : ℕ) (v-blockcount : Val) (x-seed : ℕ) (v-seed : Val) (x-rules : ℕ) (v-rules : Val) (b-entries o-entries : ℕ) (γ-entries : GName) (xs-entries : List Entry) (b-dat o-dat : ℕ) (γ-dat : GName) (xs-dat : List ℕ) (x-stores : ℕ) (v-stores : Val) where
+  module _ (κ-b0 κ-b1 κ-entries κ-dat : Lft) (q-b0 q-b1 q-entries q-dat : Share) (x-g : Geometry) (v-g : Val) (b-b0 o-b0 : ℕ) (γ-b0 : GName) (xs-b0 : List ℕ) (b-b1 o-b1 : ℕ) (γ-b1 : GName) (xs-b1 : List ℕ) (x-n0 : ℕ) (v-n0 : Val) (x-n1 : ℕ) (v-n1 : Val) (x-blockcount : ℕ) (v-blockcount : Val) (x-seed : ℕ) (v-seed : Val) (x-rules : ℕ) (v-rules : Val) (x-erased : ℕ) (v-erased : Val) (b-entries o-entries : ℕ) (γ-entries : GName) (xs-entries : List Entry) (b-dat o-dat : ℕ) (γ-dat : GName) (xs-dat : List ℕ) (x-stores : ℕ) (v-stores : Val) where
     abbrev ref-b0 : GName → List ℕ → RefT (List ℕ)
     ref-b0 δ zs = record { ptr = (b-b0, o-b0); name = δ; now = zs }
 
@@ -164,11 +164,11 @@ module _ {M : Type 1} (𝓤 : URA M) (H : Heap 𝓤) (A : Atoms 𝓤) (W : Given
     abbrev Own-dat : Fml
     Own-dat = ShrSlice (named 3) κ-dat u8 .own (ref-dat γ-dat xs-dat) (s-dat ∷ [])
 
-    abbrev x : Geometry × (RefT (List ℕ) × (RefT (List ℕ) × (ℕ × (ℕ × (ℕ × (ℕ × (ℕ × (RefT (List Entry) × (RefT (List ℕ) × (ℕ × Unit {0}))))))))))
-    x = (x-g, ((ref-b0 γ-b0 xs-b0), ((ref-b1 γ-b1 xs-b1), (x-n0, (x-n1, (x-blockcount, (x-seed, (x-rules, ((ref-entries γ-entries xs-entries), ((ref-dat γ-dat xs-dat), (x-stores, tt)))))))))))
+    abbrev x : Geometry × (RefT (List ℕ) × (RefT (List ℕ) × (ℕ × (ℕ × (ℕ × (ℕ × (ℕ × (ℕ × (RefT (List Entry) × (RefT (List ℕ) × (ℕ × Unit {0})))))))))))
+    x = (x-g, ((ref-b0 γ-b0 xs-b0), ((ref-b1 γ-b1 xs-b1), (x-n0, (x-n1, (x-blockcount, (x-seed, (x-rules, (x-erased, ((ref-entries γ-entries xs-entries), ((ref-dat γ-dat xs-dat), (x-stores, tt))))))))))))
 
-    abbrev at : List Val × (List Val × (List Val × (List Val × (List Val × (List Val × (List Val × (List Val × (List Val × (List Val × (List Val × Unit {0}))))))))))
-    at = (v-g ∷ [], (s-b0 ∷ [], (s-b1 ∷ [], (v-n0 ∷ [], (v-n1 ∷ [], (v-blockcount ∷ [], (v-seed ∷ [], (v-rules ∷ [], (s-entries ∷ [], (s-dat ∷ [], (v-stores ∷ [], tt)))))))))))
+    abbrev at : List Val × (List Val × (List Val × (List Val × (List Val × (List Val × (List Val × (List Val × (List Val × (List Val × (List Val × (List Val × Unit {0})))))))))))
+    at = (v-g ∷ [], (s-b0 ∷ [], (s-b1 ∷ [], (v-n0 ∷ [], (v-n1 ∷ [], (v-blockcount ∷ [], (v-seed ∷ [], (v-rules ∷ [], (v-erased ∷ [], (s-entries ∷ [], (s-dat ∷ [], (v-stores ∷ [], tt))))))))))))
 
     abbrev bound : walkOf 𝓤 H A f.ended stayed (f.clauses 𝓤 H A at-mem run) .Ghost
     bound = (((κ-b0, (κ-b1, (κ-entries, (κ-dat, tt)))), (q-b0, (q-b1, (q-entries, (q-dat, tt)))), tt, x, at), tt)
@@ -191,20 +191,20 @@ module _ {M : Type 1} (𝓤 : URA M) (H : Heap 𝓤) (A : Atoms 𝓤) (W : Given
 
     apart : (Q : SProp 𝓤) → ent 𝓤 (⋆ 𝓤 H A Had) Q → ent 𝓤 (onEntry 𝓤 H A f.signature (κ-b0, (κ-b1, (κ-entries, (κ-dat, tt)))) (q-b0, (q-b1, (q-entries, (q-dat, tt)))) x at) Q
     apart Q next =
-        qed W ((‵ (flft κ-b0 q-b0) ⊛ ‵ (flft κ-b1 q-b1) ⊛ ‵ (flft κ-entries q-entries) ⊛ ‵ (flft κ-dat q-dat) ⊛ ‵ ftrue) ∷ ‵ (owns (Geometry-ty.the-row ∷ MutSlice (named 0) κ-b0 u8 ∷ MutSlice (named 1) κ-b1 u8 ∷ u32 ∷ u32 ∷ u32 ∷ u32 ∷ u32 ∷ ShrSlice (named 2) κ-entries Entry-ty.the-row ∷ ShrSlice (named 3) κ-dat u8 ∷ u32 ∷ []) x at) ∷ []) ∵ move ! (1 ∷ []) $ fsplit ! $ move ! (1 ∷ []) $ fsplit ! $ move ! (1 ∷ []) $ fsplit ! $ move ! (1 ∷ []) $ fsplit ! $ move ! (1 ∷ []) $ fsplit ! $ move ! (1 ∷ []) $ fsplit ! $ move ! (1 ∷ []) $ fsplit ! $ move ! (1 ∷ []) $ fsplit ! $ move ! (1 ∷ []) $ fsplit ! $ move ! (1 ∷ []) $ fsplit ! $ move ! (1 ∷ []) $ fsplit ! $ move ! (12 ∷ []) $ split ! $ move ! (1 ∷ []) $ split ! $ move ! (1 ∷ []) $ split ! $ move ! (1 ∷ []) $ split ! $ keep ! (15 ∷ 14 ∷ 8 ∷ 7 ∷ 4 ∷ 3 ∷ 2 ∷ 0 ∷ []) $ by ! next
+        qed W ((‵ (flft κ-b0 q-b0) ⊛ ‵ (flft κ-b1 q-b1) ⊛ ‵ (flft κ-entries q-entries) ⊛ ‵ (flft κ-dat q-dat) ⊛ ‵ ftrue) ∷ ‵ (owns (Geometry-ty.the-row ∷ MutSlice (named 0) κ-b0 u8 ∷ MutSlice (named 1) κ-b1 u8 ∷ u32 ∷ u32 ∷ u32 ∷ u32 ∷ u32 ∷ u8 ∷ ShrSlice (named 2) κ-entries Entry-ty.the-row ∷ ShrSlice (named 3) κ-dat u8 ∷ u32 ∷ []) x at) ∷ []) ∵ move ! (1 ∷ []) $ fsplit ! $ move ! (1 ∷ []) $ fsplit ! $ move ! (1 ∷ []) $ fsplit ! $ move ! (1 ∷ []) $ fsplit ! $ move ! (1 ∷ []) $ fsplit ! $ move ! (1 ∷ []) $ fsplit ! $ move ! (1 ∷ []) $ fsplit ! $ move ! (1 ∷ []) $ fsplit ! $ move ! (1 ∷ []) $ fsplit ! $ move ! (1 ∷ []) $ fsplit ! $ move ! (1 ∷ []) $ fsplit ! $ move ! (1 ∷ []) $ fsplit ! $ move ! (13 ∷ []) $ split ! $ move ! (1 ∷ []) $ split ! $ move ! (1 ∷ []) $ split ! $ move ! (1 ∷ []) $ split ! $ keep ! (16 ∷ 15 ∷ 8 ∷ 7 ∷ 4 ∷ 3 ∷ 2 ∷ 0 ∷ []) $ by ! next
 
-    module _ (g-g : Is Geometry-ty.the-row x-g (v-g ∷ [])) (g-b0 : Room u8 (length xs-b0)) (g-b1 : Room u8 (length xs-b1)) (g-n0 : Is u32 x-n0 (v-n0 ∷ [])) (g-n1 : Is u32 x-n1 (v-n1 ∷ [])) (g-blockcount : Is u32 x-blockcount (v-blockcount ∷ [])) (g-seed : Is u32 x-seed (v-seed ∷ [])) (g-rules : Is u32 x-rules (v-rules ∷ [])) (g-entries : Room Entry-ty.the-row (length xs-entries)) (g-dat : Room u8 (length xs-dat)) (g-stores : Is u32 x-stores (v-stores ∷ [])) where
-      exits : (r : StoredOut) (v : Val) (z-b0 z-b1 : List ℕ) → length z-b0 ≡ length xs-b0 → length z-b1 ≡ length xs-b1 → Is StoredOut-ty.the-row r (v ∷ []) → (r ≡ storedOut (commitStoresOf x-g xs-b0 xs-b1 x-n0 x-n1 x-blockcount x-seed x-rules xs-entries xs-dat x-stores)) × CommitStoresLeaves x-g xs-b0 xs-b1 x-n0 x-n1 x-blockcount x-seed x-rules xs-entries xs-dat x-stores z-b0 z-b1
+    module _ (g-g : Is Geometry-ty.the-row x-g (v-g ∷ [])) (g-b0 : Room u8 (length xs-b0)) (g-b1 : Room u8 (length xs-b1)) (g-n0 : Is u32 x-n0 (v-n0 ∷ [])) (g-n1 : Is u32 x-n1 (v-n1 ∷ [])) (g-blockcount : Is u32 x-blockcount (v-blockcount ∷ [])) (g-seed : Is u32 x-seed (v-seed ∷ [])) (g-rules : Is u32 x-rules (v-rules ∷ [])) (g-erased : Is u8 x-erased (v-erased ∷ [])) (g-entries : Room Entry-ty.the-row (length xs-entries)) (g-dat : Room u8 (length xs-dat)) (g-stores : Is u32 x-stores (v-stores ∷ [])) where
+      exits : (r : StoredOut) (v : Val) (z-b0 z-b1 : List ℕ) → length z-b0 ≡ length xs-b0 → length z-b1 ≡ length xs-b1 → Is StoredOut-ty.the-row r (v ∷ []) → (r ≡ storedOut (commitStoresOf x-g xs-b0 xs-b1 x-n0 x-n1 x-blockcount x-seed x-rules x-erased xs-entries xs-dat x-stores)) × CommitStoresLeaves x-g xs-b0 xs-b1 x-n0 x-n1 x-blockcount x-seed x-rules x-erased xs-entries xs-dat x-stores z-b0 z-b1
           → ent 𝓤 (⋆ 𝓤 H A (‵ (Own-b0 z-b0) ∷ ‵ (Own-b1 z-b1) ∷ ‵ Own-entries ∷ ‵ Own-dat ∷ ‵ (flft κ-b0 q-b0) ∷ ‵ (flft κ-b1 q-b1) ∷ ‵ (flft κ-entries q-entries) ∷ ‵ (flft κ-dat q-dat) ∷ [])) (Post v)
       exits r v z-b0 z-b1 l-b0 l-b1 is said =
-          qed W (‵ (Own-b0 z-b0) ∷ ‵ (Own-b1 z-b1) ∷ ‵ Own-entries ∷ ‵ Own-dat ∷ ‵ (flft κ-b0 q-b0) ∷ ‵ (flft κ-b1 q-b1) ∷ ‵ (flft κ-entries q-entries) ∷ ‵ (flft κ-dat q-dat) ∷ []) ∵ suffices ! _ (ends-at 𝓤 H A f.ended stayed (f.clauses 𝓤 H A at-mem run) W bound v r (tt, (z-b0, (z-b1, (tt, (tt, (tt, (tt, (tt, (tt, (tt, (tt, tt))))))))))) (tt, (l-b0, (l-b1, (tt, (tt, (tt, (tt, (tt, (tt, (tt, (tt, tt)))))))))))) $ says ! said $
+          qed W (‵ (Own-b0 z-b0) ∷ ‵ (Own-b1 z-b1) ∷ ‵ Own-entries ∷ ‵ Own-dat ∷ ‵ (flft κ-b0 q-b0) ∷ ‵ (flft κ-b1 q-b1) ∷ ‵ (flft κ-entries q-entries) ∷ ‵ (flft κ-dat q-dat) ∷ []) ∵ suffices ! _ (ends-at 𝓤 H A f.ended stayed (f.clauses 𝓤 H A at-mem run) W bound v r (tt, (z-b0, (z-b1, (tt, (tt, (tt, (tt, (tt, (tt, (tt, (tt, (tt, tt)))))))))))) (tt, (l-b0, (l-b1, (tt, (tt, (tt, (tt, (tt, (tt, (tt, (tt, (tt, tt))))))))))))) $ says ! said $
           nothing ! $ move ! (8 ∷ 0 ∷ []) $ join ! $ move ! (7 ∷ 0 ∷ []) $ join ! $ move ! (6 ∷ 0 ∷ []) $ join ! $ move ! (5 ∷ 0 ∷ []) $ join ! $ frame ! $
-          nothing ! $ owned ! u32 (Is u32) (uint-makes 𝓤 H A W w32) x-stores _ g-stores $ fjoin ! $ move ! (4 ∷ 0 ∷ []) $ fjoin ! $ move ! (3 ∷ 0 ∷ []) $ fjoin ! $ owned ! u32 (Is u32) (uint-makes 𝓤 H A W w32) x-rules _ g-rules $ fjoin ! $ owned ! u32 (Is u32) (uint-makes 𝓤 H A W w32) x-seed _ g-seed $ fjoin ! $ owned ! u32 (Is u32) (uint-makes 𝓤 H A W w32) x-blockcount _ g-blockcount $ fjoin ! $ owned ! u32 (Is u32) (uint-makes 𝓤 H A W w32) x-n1 _ g-n1 $ fjoin ! $ owned ! u32 (Is u32) (uint-makes 𝓤 H A W w32) x-n0 _ g-n0 $ fjoin ! $ move ! (2 ∷ 0 ∷ []) $ fjoin ! $ move ! (1 ∷ 0 ∷ []) $ fjoin ! $ owned ! Geometry-ty.the-row (Is Geometry-ty.the-row) (LL.makes Geometry-ty.the-type Geometry-laws.the-plain 𝓤 H A) x-g _ g-g $ fjoin ! $ frame ! $ owned ! StoredOut-ty.the-row (Is StoredOut-ty.the-row) (LL.makes StoredOut-ty.the-type StoredOut-laws.the-plain 𝓤 H A) r (v ∷ []) is $ done !
+          nothing ! $ owned ! u32 (Is u32) (uint-makes 𝓤 H A W w32) x-stores _ g-stores $ fjoin ! $ move ! (4 ∷ 0 ∷ []) $ fjoin ! $ move ! (3 ∷ 0 ∷ []) $ fjoin ! $ owned ! u8 (Is u8) (uint-makes 𝓤 H A W w8) x-erased _ g-erased $ fjoin ! $ owned ! u32 (Is u32) (uint-makes 𝓤 H A W w32) x-rules _ g-rules $ fjoin ! $ owned ! u32 (Is u32) (uint-makes 𝓤 H A W w32) x-seed _ g-seed $ fjoin ! $ owned ! u32 (Is u32) (uint-makes 𝓤 H A W w32) x-blockcount _ g-blockcount $ fjoin ! $ owned ! u32 (Is u32) (uint-makes 𝓤 H A W w32) x-n1 _ g-n1 $ fjoin ! $ owned ! u32 (Is u32) (uint-makes 𝓤 H A W w32) x-n0 _ g-n0 $ fjoin ! $ move ! (2 ∷ 0 ∷ []) $ fjoin ! $ move ! (1 ∷ 0 ∷ []) $ fjoin ! $ owned ! Geometry-ty.the-row (Is Geometry-ty.the-row) (LL.makes Geometry-ty.the-type Geometry-laws.the-plain 𝓤 H A) x-g _ g-g $ fjoin ! $ frame ! $ owned ! StoredOut-ty.the-row (Is StoredOut-ty.the-row) (LL.makes StoredOut-ty.the-type StoredOut-laws.the-plain 𝓤 H A) r (v ∷ []) is $ done !
 
       -- what call 0, of `lfs_dir_commit_stores`, is passed
-      goes-0 : (x-g : Geometry) (v-g : Val) (i-g : Is Geometry-ty.the-row x-g (v-g ∷ [])) (ν-b0 : ℕ) (δ-b0 : GName) (z-b0 : List ℕ) (ν-b1 : ℕ) (δ-b1 : GName) (z-b1 : List ℕ) (x-n0 : ℕ) (v-n0 : Val) (i-n0 : Is u32 x-n0 (v-n0 ∷ [])) (x-n1 : ℕ) (v-n1 : Val) (i-n1 : Is u32 x-n1 (v-n1 ∷ [])) (x-blockcount : ℕ) (v-blockcount : Val) (i-blockcount : Is u32 x-blockcount (v-blockcount ∷ [])) (x-seed : ℕ) (v-seed : Val) (i-seed : Is u32 x-seed (v-seed ∷ [])) (x-rules : ℕ) (v-rules : Val) (i-rules : Is u32 x-rules (v-rules ∷ [])) (x-stores : ℕ) (v-stores : Val) (i-stores : Is u32 x-stores (v-stores ∷ [])) → ent 𝓤 (⋆ 𝓤 H A ((‵ (flft (ν-b0 ∷ []) fullShare) ⊛ ‵ (flft (ν-b1 ∷ []) fullShare) ⊛ ‵ (flft κ-entries q-entries) ⊛ ‵ (flft κ-dat q-dat) ⊛ ‵ (MutSlice (named 0) (ν-b0 ∷ []) u8 .own (ref-b0 δ-b0 z-b0) (s-b0 ∷ [])) ⊛ ‵ (MutSlice (named 1) (ν-b1 ∷ []) u8 .own (ref-b1 δ-b1 z-b1) (s-b1 ∷ [])) ⊛ ‵ Own-entries ⊛ ‵ Own-dat) ∷ [])) (K-lfs_dir_commit_stores .pre ((((ν-b0 ∷ [], (ν-b1 ∷ [], (κ-entries, (κ-dat, tt))))), ((fullShare, (fullShare, (q-entries, (q-dat, tt))))), tt, (x-g, ((ref-b0 δ-b0 z-b0), ((ref-b1 δ-b1 z-b1), (x-n0, (x-n1, (x-blockcount, (x-seed, (x-rules, ((ref-entries γ-entries xs-entries), ((ref-dat γ-dat xs-dat), (x-stores, tt))))))))))), (v-g ∷ [], (s-b0 ∷ [], (s-b1 ∷ [], (v-n0 ∷ [], (v-n1 ∷ [], (v-blockcount ∷ [], (v-seed ∷ [], (v-rules ∷ [], (s-entries ∷ [], (s-dat ∷ [], (v-stores ∷ [], tt)))))))))))), tt))
-      goes-0 x-g v-g i-g ν-b0 δ-b0 z-b0 ν-b1 δ-b1 z-b1 x-n0 v-n0 i-n0 x-n1 v-n1 i-n1 x-blockcount v-blockcount i-blockcount x-seed v-seed i-seed x-rules v-rules i-rules x-stores v-stores i-stores =
-          qed W ((‵ (flft (ν-b0 ∷ []) fullShare) ⊛ ‵ (flft (ν-b1 ∷ []) fullShare) ⊛ ‵ (flft κ-entries q-entries) ⊛ ‵ (flft κ-dat q-dat) ⊛ ‵ (MutSlice (named 0) (ν-b0 ∷ []) u8 .own (ref-b0 δ-b0 z-b0) (s-b0 ∷ [])) ⊛ ‵ (MutSlice (named 1) (ν-b1 ∷ []) u8 .own (ref-b1 δ-b1 z-b1) (s-b1 ∷ [])) ⊛ ‵ Own-entries ⊛ ‵ Own-dat) ∷ []) ∵ split ! $ move ! (1 ∷ []) $ split ! $ move ! (1 ∷ []) $ split ! $ move ! (1 ∷ []) $ split ! $ move ! (1 ∷ []) $ split ! $ move ! (1 ∷ []) $ split ! $ move ! (1 ∷ []) $ split ! $ move ! (1 ∷ []) $ nothing ! $ move ! (5 ∷ 0 ∷ []) $ join ! $ move ! (5 ∷ 0 ∷ []) $ join ! $ move ! (5 ∷ 0 ∷ []) $ join ! $ move ! (5 ∷ 0 ∷ []) $ join ! $ nothing ! $ owned ! u32 (Is u32) (uint-makes 𝓤 H A W w32) x-stores _ i-stores $ fjoin ! $ move ! (2 ∷ 0 ∷ []) $ fjoin ! $ move ! (2 ∷ 0 ∷ []) $ fjoin ! $ owned ! u32 (Is u32) (uint-makes 𝓤 H A W w32) x-rules _ i-rules $ fjoin ! $ owned ! u32 (Is u32) (uint-makes 𝓤 H A W w32) x-seed _ i-seed $ fjoin ! $ owned ! u32 (Is u32) (uint-makes 𝓤 H A W w32) x-blockcount _ i-blockcount $ fjoin ! $ owned ! u32 (Is u32) (uint-makes 𝓤 H A W w32) x-n1 _ i-n1 $ fjoin ! $ owned ! u32 (Is u32) (uint-makes 𝓤 H A W w32) x-n0 _ i-n0 $ fjoin ! $ move ! (2 ∷ 0 ∷ []) $ fjoin ! $ move ! (2 ∷ 0 ∷ []) $ fjoin ! $ owned ! Geometry-ty.the-row (Is Geometry-ty.the-row) (LL.makes Geometry-ty.the-type Geometry-laws.the-plain 𝓤 H A) x-g _ i-g $ fjoin ! $ move ! (1 ∷ 0 ∷ []) $ join ! $ frame ! $ done !
+      goes-0 : (x-g : Geometry) (v-g : Val) (i-g : Is Geometry-ty.the-row x-g (v-g ∷ [])) (ν-b0 : ℕ) (δ-b0 : GName) (z-b0 : List ℕ) (ν-b1 : ℕ) (δ-b1 : GName) (z-b1 : List ℕ) (x-n0 : ℕ) (v-n0 : Val) (i-n0 : Is u32 x-n0 (v-n0 ∷ [])) (x-n1 : ℕ) (v-n1 : Val) (i-n1 : Is u32 x-n1 (v-n1 ∷ [])) (x-blockcount : ℕ) (v-blockcount : Val) (i-blockcount : Is u32 x-blockcount (v-blockcount ∷ [])) (x-seed : ℕ) (v-seed : Val) (i-seed : Is u32 x-seed (v-seed ∷ [])) (x-rules : ℕ) (v-rules : Val) (i-rules : Is u32 x-rules (v-rules ∷ [])) (x-erased : ℕ) (v-erased : Val) (i-erased : Is u8 x-erased (v-erased ∷ [])) (x-stores : ℕ) (v-stores : Val) (i-stores : Is u32 x-stores (v-stores ∷ [])) → ent 𝓤 (⋆ 𝓤 H A ((‵ (flft (ν-b0 ∷ []) fullShare) ⊛ ‵ (flft (ν-b1 ∷ []) fullShare) ⊛ ‵ (flft κ-entries q-entries) ⊛ ‵ (flft κ-dat q-dat) ⊛ ‵ (MutSlice (named 0) (ν-b0 ∷ []) u8 .own (ref-b0 δ-b0 z-b0) (s-b0 ∷ [])) ⊛ ‵ (MutSlice (named 1) (ν-b1 ∷ []) u8 .own (ref-b1 δ-b1 z-b1) (s-b1 ∷ [])) ⊛ ‵ Own-entries ⊛ ‵ Own-dat) ∷ [])) (K-lfs_dir_commit_stores .pre ((((ν-b0 ∷ [], (ν-b1 ∷ [], (κ-entries, (κ-dat, tt))))), ((fullShare, (fullShare, (q-entries, (q-dat, tt))))), tt, (x-g, ((ref-b0 δ-b0 z-b0), ((ref-b1 δ-b1 z-b1), (x-n0, (x-n1, (x-blockcount, (x-seed, (x-rules, (x-erased, ((ref-entries γ-entries xs-entries), ((ref-dat γ-dat xs-dat), (x-stores, tt)))))))))))), (v-g ∷ [], (s-b0 ∷ [], (s-b1 ∷ [], (v-n0 ∷ [], (v-n1 ∷ [], (v-blockcount ∷ [], (v-seed ∷ [], (v-rules ∷ [], (v-erased ∷ [], (s-entries ∷ [], (s-dat ∷ [], (v-stores ∷ [], tt))))))))))))), tt))
+      goes-0 x-g v-g i-g ν-b0 δ-b0 z-b0 ν-b1 δ-b1 z-b1 x-n0 v-n0 i-n0 x-n1 v-n1 i-n1 x-blockcount v-blockcount i-blockcount x-seed v-seed i-seed x-rules v-rules i-rules x-erased v-erased i-erased x-stores v-stores i-stores =
+          qed W ((‵ (flft (ν-b0 ∷ []) fullShare) ⊛ ‵ (flft (ν-b1 ∷ []) fullShare) ⊛ ‵ (flft κ-entries q-entries) ⊛ ‵ (flft κ-dat q-dat) ⊛ ‵ (MutSlice (named 0) (ν-b0 ∷ []) u8 .own (ref-b0 δ-b0 z-b0) (s-b0 ∷ [])) ⊛ ‵ (MutSlice (named 1) (ν-b1 ∷ []) u8 .own (ref-b1 δ-b1 z-b1) (s-b1 ∷ [])) ⊛ ‵ Own-entries ⊛ ‵ Own-dat) ∷ []) ∵ split ! $ move ! (1 ∷ []) $ split ! $ move ! (1 ∷ []) $ split ! $ move ! (1 ∷ []) $ split ! $ move ! (1 ∷ []) $ split ! $ move ! (1 ∷ []) $ split ! $ move ! (1 ∷ []) $ split ! $ move ! (1 ∷ []) $ nothing ! $ move ! (5 ∷ 0 ∷ []) $ join ! $ move ! (5 ∷ 0 ∷ []) $ join ! $ move ! (5 ∷ 0 ∷ []) $ join ! $ move ! (5 ∷ 0 ∷ []) $ join ! $ nothing ! $ owned ! u32 (Is u32) (uint-makes 𝓤 H A W w32) x-stores _ i-stores $ fjoin ! $ move ! (2 ∷ 0 ∷ []) $ fjoin ! $ move ! (2 ∷ 0 ∷ []) $ fjoin ! $ owned ! u8 (Is u8) (uint-makes 𝓤 H A W w8) x-erased _ i-erased $ fjoin ! $ owned ! u32 (Is u32) (uint-makes 𝓤 H A W w32) x-rules _ i-rules $ fjoin ! $ owned ! u32 (Is u32) (uint-makes 𝓤 H A W w32) x-seed _ i-seed $ fjoin ! $ owned ! u32 (Is u32) (uint-makes 𝓤 H A W w32) x-blockcount _ i-blockcount $ fjoin ! $ owned ! u32 (Is u32) (uint-makes 𝓤 H A W w32) x-n1 _ i-n1 $ fjoin ! $ owned ! u32 (Is u32) (uint-makes 𝓤 H A W w32) x-n0 _ i-n0 $ fjoin ! $ move ! (2 ∷ 0 ∷ []) $ fjoin ! $ move ! (2 ∷ 0 ∷ []) $ fjoin ! $ owned ! Geometry-ty.the-row (Is Geometry-ty.the-row) (LL.makes Geometry-ty.the-type Geometry-laws.the-plain 𝓤 H A) x-g _ i-g $ fjoin ! $ move ! (1 ∷ 0 ∷ []) $ join ! $ frame ! $ done !
 
       -- what call 1, of `stored_out`, is passed
       goes-1 : (x-s : Stored) (v-s : Val) (i-s : Is Stored-ty.the-row x-s (v-s ∷ [])) → ent 𝓤 (⋆ 𝓤 H A ([])) (K-stored_out .pre (((tt), (tt), tt, (x-s, tt), (v-s ∷ [], tt)), tt))
@@ -218,87 +218,87 @@ module _ {M : Type 1} (𝓤 : URA M) (H : Heap 𝓤) (A : Atoms 𝓤) (W : Given
         abbrev Λ : Loops 𝓤 H
         Λ = 𝓣 .Λ
 
-        module _ (l0 l1 l2 l3 l4 l5 l6 l7 l8 l9 l10 l11 l12 l13 l14 l15 l16 : ℕ) where
+        module _ (l0 l1 l2 l3 l4 l5 l6 l7 l8 l9 l10 l11 l12 l13 l14 l15 l16 l17 : ℕ) where
           abbrev En : Env 𝓤 H
-          En = (StoredOut-laws.mir, l0) ∷ (Geometry-laws.mir, l1) ∷ ((sliceTy (tyRef (named 0) mut (tyInt w8))), l2) ∷ ((sliceTy (tyRef (named 1) mut (tyInt w8))), l3) ∷ ((tyInt w32), l4) ∷ ((tyInt w32), l5) ∷ ((tyInt w32), l6) ∷ ((tyInt w32), l7) ∷ ((tyInt w32), l8) ∷ ((sliceTy (tyRef (named 2) imm (pointee (Entry-ty.the-row .written)))), l9) ∷ ((sliceTy (tyRef (named 3) imm (tyInt w8))), l10) ∷ ((tyInt w32), l11) ∷ (Stored-laws.mir, l12) ∷ ((tyRef erased mut (tyInt w8)), l13) ∷ ((sliceTy (tyRef erased mut (tyInt w8))), l14) ∷ ((tyRef erased mut (tyInt w8)), l15) ∷ ((sliceTy (tyRef erased mut (tyInt w8))), l16) ∷ []
+          En = (StoredOut-laws.mir, l0) ∷ (Geometry-laws.mir, l1) ∷ ((sliceTy (tyRef (named 0) mut (tyInt w8))), l2) ∷ ((sliceTy (tyRef (named 1) mut (tyInt w8))), l3) ∷ ((tyInt w32), l4) ∷ ((tyInt w32), l5) ∷ ((tyInt w32), l6) ∷ ((tyInt w32), l7) ∷ ((tyInt w32), l8) ∷ ((tyInt w8), l9) ∷ ((sliceTy (tyRef (named 2) imm (pointee (Entry-ty.the-row .written)))), l10) ∷ ((sliceTy (tyRef (named 3) imm (tyInt w8))), l11) ∷ ((tyInt w32), l12) ∷ (Stored-laws.mir, l13) ∷ ((tyRef erased mut (tyInt w8)), l14) ∷ ((sliceTy (tyRef erased mut (tyInt w8))), l15) ∷ ((tyRef erased mut (tyInt w8)), l16) ∷ ((sliceTy (tyRef erased mut (tyInt w8))), l17) ∷ []
 
           abbrev Dies : Item 𝓤
-          Dies = ‵ (fdies StoredOut-laws.mir l0) ⊛ ‵ (fdies Geometry-laws.mir l1) ⊛ ‵ (fdies (sliceTy (tyRef (named 0) mut (tyInt w8))) l2) ⊛ ‵ (fdies (sliceTy (tyRef (named 1) mut (tyInt w8))) l3) ⊛ ‵ (fdies (tyInt w32) l4) ⊛ ‵ (fdies (tyInt w32) l5) ⊛ ‵ (fdies (tyInt w32) l6) ⊛ ‵ (fdies (tyInt w32) l7) ⊛ ‵ (fdies (tyInt w32) l8) ⊛ ‵ (fdies (sliceTy (tyRef (named 2) imm (pointee (Entry-ty.the-row .written)))) l9) ⊛ ‵ (fdies (sliceTy (tyRef (named 3) imm (tyInt w8))) l10) ⊛ ‵ (fdies (tyInt w32) l11) ⊛ ‵ (fdies Stored-laws.mir l12) ⊛ ‵ (fdies (tyRef erased mut (tyInt w8)) l13) ⊛ ‵ (fdies (sliceTy (tyRef erased mut (tyInt w8))) l14) ⊛ ‵ (fdies (tyRef erased mut (tyInt w8)) l15) ⊛ ‵ (fdies (sliceTy (tyRef erased mut (tyInt w8))) l16)
+          Dies = ‵ (fdies StoredOut-laws.mir l0) ⊛ ‵ (fdies Geometry-laws.mir l1) ⊛ ‵ (fdies (sliceTy (tyRef (named 0) mut (tyInt w8))) l2) ⊛ ‵ (fdies (sliceTy (tyRef (named 1) mut (tyInt w8))) l3) ⊛ ‵ (fdies (tyInt w32) l4) ⊛ ‵ (fdies (tyInt w32) l5) ⊛ ‵ (fdies (tyInt w32) l6) ⊛ ‵ (fdies (tyInt w32) l7) ⊛ ‵ (fdies (tyInt w32) l8) ⊛ ‵ (fdies (tyInt w8) l9) ⊛ ‵ (fdies (sliceTy (tyRef (named 2) imm (pointee (Entry-ty.the-row .written)))) l10) ⊛ ‵ (fdies (sliceTy (tyRef (named 3) imm (tyInt w8))) l11) ⊛ ‵ (fdies (tyInt w32) l12) ⊛ ‵ (fdies Stored-laws.mir l13) ⊛ ‵ (fdies (tyRef erased mut (tyInt w8)) l14) ⊛ ‵ (fdies (sliceTy (tyRef erased mut (tyInt w8))) l15) ⊛ ‵ (fdies (tyRef erased mut (tyInt w8)) l16) ⊛ ‵ (fdies (sliceTy (tyRef erased mut (tyInt w8))) l17)
 
           -- what is had: the slices at their lists, the locals that calls set
           abbrev At : List ℕ → List ℕ → Item 𝓤 → Item 𝓤 → List (Item 𝓤)
-          At z-b0 z-b1 c0 c12 =
+          At z-b0 z-b1 c0 c13 =
               ‵ (Own-b0 z-b0) ∷ ‵ (Own-b1 z-b1) ∷ ‵ Own-entries ∷ ‵ Own-dat
               ∷ ‵ (flft κ-b0 q-b0) ∷ ‵ (flft κ-b1 q-b1) ∷ ‵ (flft κ-entries q-entries) ∷ ‵ (flft κ-dat q-dat)
               ∷ c0 ∷ ‵ (fat fullShare Geometry-laws.mir l1 0 v-g) ∷ ‵ (fat fullShare (sliceTy (tyRef (named 0) mut (tyInt w8))) l2 0 s-b0) ∷ ‵ (fat fullShare (sliceTy (tyRef (named 1) mut (tyInt w8))) l3 0 s-b1)
               ∷ ‵ (fat fullShare (tyInt w32) l4 0 v-n0) ∷ ‵ (fat fullShare (tyInt w32) l5 0 v-n1) ∷ ‵ (fat fullShare (tyInt w32) l6 0 v-blockcount) ∷ ‵ (fat fullShare (tyInt w32) l7 0 v-seed)
-              ∷ ‵ (fat fullShare (tyInt w32) l8 0 v-rules) ∷ ‵ (fat fullShare (sliceTy (tyRef (named 2) imm (pointee (Entry-ty.the-row .written)))) l9 0 s-entries) ∷ ‵ (fat fullShare (sliceTy (tyRef (named 3) imm (tyInt w8))) l10 0 s-dat) ∷ ‵ (fat fullShare (tyInt w32) l11 0 v-stores)
-              ∷ c12 ∷ ‵ (froom (tyRef erased mut (tyInt w8)) l13 0) ∷ ‵ (froom (sliceTy (tyRef erased mut (tyInt w8))) l14 0) ∷ ‵ (froom (tyRef erased mut (tyInt w8)) l15 0)
-              ∷ ‵ (froom (sliceTy (tyRef erased mut (tyInt w8))) l16 0) ∷ Dies ∷ []
+              ∷ ‵ (fat fullShare (tyInt w32) l8 0 v-rules) ∷ ‵ (fat fullShare (tyInt w8) l9 0 v-erased) ∷ ‵ (fat fullShare (sliceTy (tyRef (named 2) imm (pointee (Entry-ty.the-row .written)))) l10 0 s-entries) ∷ ‵ (fat fullShare (sliceTy (tyRef (named 3) imm (tyInt w8))) l11 0 s-dat)
+              ∷ ‵ (fat fullShare (tyInt w32) l12 0 v-stores) ∷ c13 ∷ ‵ (froom (tyRef erased mut (tyInt w8)) l14 0) ∷ ‵ (froom (sliceTy (tyRef erased mut (tyInt w8))) l15 0)
+              ∷ ‵ (froom (tyRef erased mut (tyInt w8)) l16 0) ∷ ‵ (froom (sliceTy (tyRef erased mut (tyInt w8))) l17 0) ∷ Dies ∷ []
 
           abbrev Start : List (Item 𝓤)
-          Start = At xs-b0 xs-b1 (‵ (froom StoredOut-laws.mir l0 0)) (‵ (froom Stored-laws.mir l12 0))
+          Start = At xs-b0 xs-b1 (‵ (froom StoredOut-laws.mir l0 0)) (‵ (froom Stored-laws.mir l13 0))
 
-          part-2 : (r0 : Stored) (v0 : Val) (is0 : Is Stored-ty.the-row r0 (v0 ∷ [])) (y0b0 : List ℕ) (m0b0 : length y0b0 ≡ length xs-b0) (y0b1 : List ℕ) (m0b1 : length y0b1 ≡ length xs-b1) (said0 : (r0 ≡ commitStoresOf x-g xs-b0 xs-b1 x-n0 x-n1 x-blockcount x-seed x-rules xs-entries xs-dat x-stores) × CommitStoresLeaves x-g xs-b0 xs-b1 x-n0 x-n1 x-blockcount x-seed x-rules xs-entries xs-dat x-stores y0b0 y0b1) (r1 : StoredOut) (v1 : Val) (is1 : Is StoredOut-ty.the-row r1 (v1 ∷ [])) (said1 : r1 ≡ storedOut r0) → ent 𝓤 (⋆ 𝓤 H A (At y0b0 y0b1 (‵ (fat fullShare StoredOut-laws.mir l0 0 v1)) (‵ (fat fullShare Stored-laws.mir l12 0 v0)))) (Wp 𝓤 H C Λ En t-7 (atReturn 𝓤 H En Post))
+          part-2 : (r0 : Stored) (v0 : Val) (is0 : Is Stored-ty.the-row r0 (v0 ∷ [])) (y0b0 : List ℕ) (m0b0 : length y0b0 ≡ length xs-b0) (y0b1 : List ℕ) (m0b1 : length y0b1 ≡ length xs-b1) (said0 : (r0 ≡ commitStoresOf x-g xs-b0 xs-b1 x-n0 x-n1 x-blockcount x-seed x-rules x-erased xs-entries xs-dat x-stores) × CommitStoresLeaves x-g xs-b0 xs-b1 x-n0 x-n1 x-blockcount x-seed x-rules x-erased xs-entries xs-dat x-stores y0b0 y0b1) (r1 : StoredOut) (v1 : Val) (is1 : Is StoredOut-ty.the-row r1 (v1 ∷ [])) (said1 : r1 ≡ storedOut r0) → ent 𝓤 (⋆ 𝓤 H A (At y0b0 y0b1 (‵ (fat fullShare StoredOut-laws.mir l0 0 v1)) (‵ (fat fullShare Stored-laws.mir l13 0 v0)))) (Wp 𝓤 H C Λ En t-7 (atReturn 𝓤 H En Post))
           part-2 r0 v0 is0 y0b0 m0b0 y0b1 m0b1 said0 r1 v1 is1 said1 =
-              qed W (At y0b0 y0b1 (‵ (fat fullShare StoredOut-laws.mir l0 0 v1)) (‵ (fat fullShare Stored-laws.mir l12 0 v0))) ∵ exec ! C Λ En t-7 (atRet En Post) $
+              qed W (At y0b0 y0b1 (‵ (fat fullShare StoredOut-laws.mir l0 0 v1)) (‵ (fat fullShare Stored-laws.mir l13 0 v0))) ∵ exec ! C Λ En t-7 (atRet En Post) $
               returns ! (look ! 8 refl) $
-              forget ! 8 refl $ forget ! 9 refl $ forget ! 10 refl $ forget ! 11 refl $ forget ! 12 refl $ forget ! 13 refl $ forget ! 14 refl $ forget ! 15 refl $ forget ! 16 refl $ forget ! 17 refl $ forget ! 18 refl $ forget ! 19 refl $ forget ! 20 refl $
-              move ! (25 ∷ []) $ split ! $ move ! (10 ∷ 0 ∷ []) $ free1 ! $ split ! $ move ! (10 ∷ 0 ∷ []) $ free1 ! $ split ! $ move ! (10 ∷ 0 ∷ []) $ free1 ! $ split ! $ move ! (10 ∷ 0 ∷ []) $ free1 ! $ split ! $ move ! (10 ∷ 0 ∷ []) $ free1 ! $ split ! $ move ! (10 ∷ 0 ∷ []) $ free1 ! $ split ! $ move ! (10 ∷ 0 ∷ []) $ free1 ! $ split ! $ move ! (10 ∷ 0 ∷ []) $ free1 ! $ split ! $ move ! (10 ∷ 0 ∷ []) $ free1 ! $ split ! $ move ! (10 ∷ 0 ∷ []) $ free1 ! $ split ! $ move ! (10 ∷ 0 ∷ []) $ free1 ! $ split ! $ move ! (10 ∷ 0 ∷ []) $ free1 ! $ split ! $ move ! (10 ∷ 0 ∷ []) $ free1 ! $ split ! $ move ! (10 ∷ 0 ∷ []) $ free1 ! $ split ! $ move ! (10 ∷ 0 ∷ []) $ free1 ! $ split ! $ move ! (10 ∷ 0 ∷ []) $ free1 ! $ move ! (9 ∷ 0 ∷ []) $ free1 ! $ free0 ! $
-              by ! (exits r1 v1 y0b0 y0b1 m0b0 m0b1 is1 (stores-glue xs-b0 xs-b1 xs-entries xs-dat x-g x-n0 x-n1 x-blockcount x-seed x-rules x-stores r0 y0b0 y0b1 r1 said0 said1))
+              forget ! 8 refl $ forget ! 9 refl $ forget ! 10 refl $ forget ! 11 refl $ forget ! 12 refl $ forget ! 13 refl $ forget ! 14 refl $ forget ! 15 refl $ forget ! 16 refl $ forget ! 17 refl $ forget ! 18 refl $ forget ! 19 refl $ forget ! 20 refl $ forget ! 21 refl $
+              move ! (26 ∷ []) $ split ! $ move ! (10 ∷ 0 ∷ []) $ free1 ! $ split ! $ move ! (10 ∷ 0 ∷ []) $ free1 ! $ split ! $ move ! (10 ∷ 0 ∷ []) $ free1 ! $ split ! $ move ! (10 ∷ 0 ∷ []) $ free1 ! $ split ! $ move ! (10 ∷ 0 ∷ []) $ free1 ! $ split ! $ move ! (10 ∷ 0 ∷ []) $ free1 ! $ split ! $ move ! (10 ∷ 0 ∷ []) $ free1 ! $ split ! $ move ! (10 ∷ 0 ∷ []) $ free1 ! $ split ! $ move ! (10 ∷ 0 ∷ []) $ free1 ! $ split ! $ move ! (10 ∷ 0 ∷ []) $ free1 ! $ split ! $ move ! (10 ∷ 0 ∷ []) $ free1 ! $ split ! $ move ! (10 ∷ 0 ∷ []) $ free1 ! $ split ! $ move ! (10 ∷ 0 ∷ []) $ free1 ! $ split ! $ move ! (10 ∷ 0 ∷ []) $ free1 ! $ split ! $ move ! (10 ∷ 0 ∷ []) $ free1 ! $ split ! $ move ! (10 ∷ 0 ∷ []) $ free1 ! $ split ! $ move ! (10 ∷ 0 ∷ []) $ free1 ! $ move ! (9 ∷ 0 ∷ []) $ free1 ! $ free0 ! $
+              by ! (exits r1 v1 y0b0 y0b1 m0b0 m0b1 is1 (stores-glue xs-b0 xs-b1 xs-entries xs-dat x-g x-n0 x-n1 x-blockcount x-seed x-rules x-erased x-stores r0 y0b0 y0b1 r1 said0 said1))
 
-          part-1 : (r0 : Stored) (v0 : Val) (is0 : Is Stored-ty.the-row r0 (v0 ∷ [])) (y0b0 : List ℕ) (m0b0 : length y0b0 ≡ length xs-b0) (y0b1 : List ℕ) (m0b1 : length y0b1 ≡ length xs-b1) (said0 : (r0 ≡ commitStoresOf x-g xs-b0 xs-b1 x-n0 x-n1 x-blockcount x-seed x-rules xs-entries xs-dat x-stores) × CommitStoresLeaves x-g xs-b0 xs-b1 x-n0 x-n1 x-blockcount x-seed x-rules xs-entries xs-dat x-stores y0b0 y0b1) → ent 𝓤 (⋆ 𝓤 H A (At y0b0 y0b1 (‵ (froom StoredOut-laws.mir l0 0)) (‵ (fat fullShare Stored-laws.mir l12 0 v0)))) (Wp 𝓤 H C Λ En t-6 (atReturn 𝓤 H En Post))
+          part-1 : (r0 : Stored) (v0 : Val) (is0 : Is Stored-ty.the-row r0 (v0 ∷ [])) (y0b0 : List ℕ) (m0b0 : length y0b0 ≡ length xs-b0) (y0b1 : List ℕ) (m0b1 : length y0b1 ≡ length xs-b1) (said0 : (r0 ≡ commitStoresOf x-g xs-b0 xs-b1 x-n0 x-n1 x-blockcount x-seed x-rules x-erased xs-entries xs-dat x-stores) × CommitStoresLeaves x-g xs-b0 xs-b1 x-n0 x-n1 x-blockcount x-seed x-rules x-erased xs-entries xs-dat x-stores y0b0 y0b1) → ent 𝓤 (⋆ 𝓤 H A (At y0b0 y0b1 (‵ (froom StoredOut-laws.mir l0 0)) (‵ (fat fullShare Stored-laws.mir l13 0 v0)))) (Wp 𝓤 H C Λ En t-6 (atReturn 𝓤 H En Post))
           part-1 r0 v0 is0 y0b0 m0b0 y0b1 m0b1 said0 =
-              qed W (At y0b0 y0b1 (‵ (froom StoredOut-laws.mir l0 0)) (‵ (fat fullShare Stored-laws.mir l12 0 v0))) ∵ exec ! C Λ En t-6 (atRet En Post) $
+              qed W (At y0b0 y0b1 (‵ (froom StoredOut-laws.mir l0 0)) (‵ (fat fullShare Stored-laws.mir l13 0 v0))) ∵ exec ! C Λ En t-6 (atRet En Post) $
               use0 W (raw (K-stored_out .pre (((tt), (tt), tt, (r0, tt), (v0 ∷ [], tt)), tt))) (goes-1 r0 v0 is0) $
-              calls-at ! fm K-stored_out known-stored_out (((tt), (tt), tt, (r0, tt), (v0 ∷ [], tt)), tt) (and-then ! (load ! (from ! (stop !)) (look ! 21 refl)) (no-more !)) (λ v1.
+              calls-at ! fm K-stored_out known-stored_out (((tt), (tt), tt, (r0, tt), (v0 ∷ [], tt)), tt) (and-then ! (load ! (from ! (stop !)) (look ! 22 refl)) (no-more !)) (λ v1.
               use1 W (later (some (λ (r1 : StoredOut). ((‵ ftrue) ⊛ ‵ (StoredOut-ty.the-row .own r1 (v1 ∷ []))) ⊛ raw (ensured 𝓤 H A stored_out-fn.ended (stored_out-fn.clauses 𝓤 H A at-mem run) tt (r0, tt) tt r1)))) (id⊢ 𝓤 _) $ await ! tt $ pick ! (λ r1. split ! $ move ! (1 ∷ []) $
               use1 W (some (λ (ws1 : Unit {0} × Unit {0}). ‵ (lasts stored_out-fn.ended tt (r0, tt) ws1) ⊛ raw (fact 𝓤 (r1 ≡ storedOut r0)))) (id⊢ 𝓤 _) $ pick ! (λ ws1. split ! $ move ! (1 ∷ []) $ heard ! (r1 ≡ storedOut r0) (λ said1.
               fsplit ! $ move ! (2 ∷ []) $ split ! $ move ! (1 ∷ []) $ facts ! StoredOut-ty.the-row (Is StoredOut-ty.the-row) (shows 𝓤 H A StoredOut-ty.the-row) r1 (v1 ∷ []) (λ is1. land ! (from ! (stop !)) (init ! 11 refl (typed-StoredOut r1 v1 is1)) $
-              keep ! (3 ∷ 4 ∷ 5 ∷ 6 ∷ 7 ∷ 8 ∷ 9 ∷ 10 ∷ 11 ∷ 12 ∷ 13 ∷ 14 ∷ 15 ∷ 16 ∷ 17 ∷ 18 ∷ 19 ∷ 20 ∷ 21 ∷ 22 ∷ 23 ∷ 24 ∷ 25 ∷ 26 ∷ 27 ∷ 28 ∷ []) $
+              keep ! (3 ∷ 4 ∷ 5 ∷ 6 ∷ 7 ∷ 8 ∷ 9 ∷ 10 ∷ 11 ∷ 12 ∷ 13 ∷ 14 ∷ 15 ∷ 16 ∷ 17 ∷ 18 ∷ 19 ∷ 20 ∷ 21 ∷ 22 ∷ 23 ∷ 24 ∷ 25 ∷ 26 ∷ 27 ∷ 28 ∷ 29 ∷ []) $
               by ! (part-2 r0 v0 is0 y0b0 m0b0 y0b1 m0b1 said0 r1 v1 is1 said1))))))
 
           body : ent 𝓤 (⋆ 𝓤 H A Start) (Wp 𝓤 H C Λ En t-1 (atReturn 𝓤 H En Post))
           body =
               qed W Start ∵ exec ! C Λ En t-1 (atRet En Post) $
-              assigns ! (addr ! (from ! (fld ! refl (hop ! (look-in ! 10 (sub ! 0 refl (whole !))) (stop !))))) (from ! (stop !)) (init ! 21 refl (tt, tt)) $
-              assigns ! (agg ! (and-then ! (load ! (from ! (stop !)) (look ! 21 refl)) (and-then ! (load ! (from ! (fld ! refl (stop !))) (look-in ! 10 (sub ! 1 refl (whole !)))) (no-more !)))) (from ! (stop !)) (init ! 22 refl (tt, (tt, (record { fits = g-b0 .0 }, tt)))) $
-              assigns ! (addr ! (from ! (fld ! refl (hop ! (look-in ! 11 (sub ! 0 refl (whole !))) (stop !))))) (from ! (stop !)) (init ! 23 refl (tt, tt)) $
-              assigns ! (agg ! (and-then ! (load ! (from ! (stop !)) (look ! 23 refl)) (and-then ! (load ! (from ! (fld ! refl (stop !))) (look-in ! 11 (sub ! 1 refl (whole !)))) (no-more !)))) (from ! (stop !)) (init ! 24 refl (tt, (tt, (record { fits = g-b1 .0 }, tt)))) $
+              assigns ! (addr ! (from ! (fld ! refl (hop ! (look-in ! 10 (sub ! 0 refl (whole !))) (stop !))))) (from ! (stop !)) (init ! 22 refl (tt, tt)) $
+              assigns ! (agg ! (and-then ! (load ! (from ! (stop !)) (look ! 22 refl)) (and-then ! (load ! (from ! (fld ! refl (stop !))) (look-in ! 10 (sub ! 1 refl (whole !)))) (no-more !)))) (from ! (stop !)) (init ! 23 refl (tt, (tt, (record { fits = g-b0 .0 }, tt)))) $
+              assigns ! (addr ! (from ! (fld ! refl (hop ! (look-in ! 11 (sub ! 0 refl (whole !))) (stop !))))) (from ! (stop !)) (init ! 24 refl (tt, tt)) $
+              assigns ! (agg ! (and-then ! (load ! (from ! (stop !)) (look ! 24 refl)) (and-then ! (load ! (from ! (fld ! refl (stop !))) (look-in ! 11 (sub ! 1 refl (whole !)))) (no-more !)))) (from ! (stop !)) (init ! 25 refl (tt, (tt, (record { fits = g-b1 .0 }, tt)))) $
               lft-new ! tt (λ ν0b0. move ! (1 ∷ 5 ∷ []) $ use2 W (later (some (λ (δ : GName). ‵ (MutSlice (named 0) (ν0b0 ∷ []) u8 .own (ref-b0 δ xs-b0) (s-b0 ∷ [])) ⊛ ‵ (LentAgain u8 κ-b0 (ν0b0 ∷ []) q-b0 γ-b0 b-b0 o-b0 δ xs-b0)))) (lends-at u8 κ-b0 (ν0b0 ∷ []) q-b0 γ-b0 b-b0 o-b0 𝓤 H A W (named 0) (named 0) xs-b0 (length xs-b0) refl) $ await ! tt $ pick ! (λ δ0b0. split ! $
               lft-new ! tt (λ ν0b1. move ! (4 ∷ 7 ∷ []) $ use2 W (later (some (λ (δ : GName). ‵ (MutSlice (named 1) (ν0b1 ∷ []) u8 .own (ref-b1 δ xs-b1) (s-b1 ∷ [])) ⊛ ‵ (LentAgain u8 κ-b1 (ν0b1 ∷ []) q-b1 γ-b1 b-b1 o-b1 δ xs-b1)))) (lends-at u8 κ-b1 (ν0b1 ∷ []) q-b1 γ-b1 b-b1 o-b1 𝓤 H A W (named 1) (named 1) xs-b1 (length xs-b1) refl) $ await ! tt $ pick ! (λ δ0b1. split ! $
               move ! (6 ∷ []) $ use1 W (‵ Own-entries ⊛ ‵ Own-entries) (shr-slice-copy 𝓤 H A W (named 2) κ-entries Entry-ty.the-row .twice (ref-entries γ-entries xs-entries) (s-entries ∷ [])) $ split ! $
               move ! (8 ∷ []) $ use1 W (‵ Own-dat ⊛ ‵ Own-dat) (shr-slice-copy 𝓤 H A W (named 3) κ-dat u8 .twice (ref-dat γ-dat xs-dat) (s-dat ∷ [])) $ split ! $
-              move ! (9 ∷ 6 ∷ 10 ∷ 11 ∷ 7 ∷ 4 ∷ 2 ∷ 0 ∷ []) $ group ! 8 $ use1 W (raw (K-lfs_dir_commit_stores .pre (((((ν0b0 ∷ []), ((ν0b1 ∷ []), (κ-entries, (κ-dat, tt))))), ((fullShare, (fullShare, (q-entries, (q-dat, tt))))), tt, (x-g, ((ref-b0 δ0b0 xs-b0), ((ref-b1 δ0b1 xs-b1), (x-n0, (x-n1, (x-blockcount, (x-seed, (x-rules, ((ref-entries γ-entries xs-entries), ((ref-dat γ-dat xs-dat), (x-stores, tt))))))))))), (v-g ∷ [], (s-b0 ∷ [], (s-b1 ∷ [], (v-n0 ∷ [], (v-n1 ∷ [], (v-blockcount ∷ [], (v-seed ∷ [], (v-rules ∷ [], (s-entries ∷ [], (s-dat ∷ [], (v-stores ∷ [], tt)))))))))))), tt))) (goes-0 x-g v-g g-g ν0b0 δ0b0 xs-b0 ν0b1 δ0b1 xs-b1 x-n0 v-n0 g-n0 x-n1 v-n1 g-n1 x-blockcount v-blockcount g-blockcount x-seed v-seed g-seed x-rules v-rules g-rules x-stores v-stores g-stores) $
-              calls-at ! fm K-lfs_dir_commit_stores known-lfs_dir_commit_stores (((((ν0b0 ∷ []), ((ν0b1 ∷ []), (κ-entries, (κ-dat, tt))))), ((fullShare, (fullShare, (q-entries, (q-dat, tt))))), tt, (x-g, ((ref-b0 δ0b0 xs-b0), ((ref-b1 δ0b1 xs-b1), (x-n0, (x-n1, (x-blockcount, (x-seed, (x-rules, ((ref-entries γ-entries xs-entries), ((ref-dat γ-dat xs-dat), (x-stores, tt))))))))))), (v-g ∷ [], (s-b0 ∷ [], (s-b1 ∷ [], (v-n0 ∷ [], (v-n1 ∷ [], (v-blockcount ∷ [], (v-seed ∷ [], (v-rules ∷ [], (s-entries ∷ [], (s-dat ∷ [], (v-stores ∷ [], tt)))))))))))), tt) (and-then ! (load ! (from ! (stop !)) (look ! 6 refl)) (and-then ! (load ! (from ! (stop !)) (look ! 19 refl)) (and-then ! (load ! (from ! (stop !)) (look ! 21 refl)) (and-then ! (load ! (from ! (stop !)) (look ! 9 refl)) (and-then ! (load ! (from ! (stop !)) (look ! 10 refl)) (and-then ! (load ! (from ! (stop !)) (look ! 11 refl)) (and-then ! (load ! (from ! (stop !)) (look ! 12 refl)) (and-then ! (load ! (from ! (stop !)) (look ! 13 refl)) (and-then ! (load ! (from ! (stop !)) (look ! 14 refl)) (and-then ! (load ! (from ! (stop !)) (look ! 15 refl)) (and-then ! (load ! (from ! (stop !)) (look ! 16 refl)) (no-more !)))))))))))) (λ v0.
-              use1 W (later (some (λ (r0 : Stored). ((‵ (flft (ν0b0 ∷ []) fullShare) ⊛ ‵ (flft (ν0b1 ∷ []) fullShare) ⊛ ‵ (flft κ-entries q-entries) ⊛ ‵ (flft κ-dat q-dat) ⊛ ‵ ftrue) ⊛ ‵ (Stored-ty.the-row .own r0 (v0 ∷ []))) ⊛ raw (ensured 𝓤 H A lfs_dir_commit_stores-fn.ended (lfs_dir_commit_stores-fn.clauses 𝓤 H A at-mem run) ((ν0b0 ∷ []), ((ν0b1 ∷ []), (κ-entries, (κ-dat, tt)))) (x-g, ((ref-b0 δ0b0 xs-b0), ((ref-b1 δ0b1 xs-b1), (x-n0, (x-n1, (x-blockcount, (x-seed, (x-rules, ((ref-entries γ-entries xs-entries), ((ref-dat γ-dat xs-dat), (x-stores, tt))))))))))) tt r0)))) (id⊢ 𝓤 _) $ await ! tt $ pick ! (λ r0. split ! $ move ! (1 ∷ []) $
-              use1 W (some (λ (ws0 : Unit {0} × (List ℕ × (List ℕ × (Unit {0} × (Unit {0} × (Unit {0} × (Unit {0} × (Unit {0} × (Unit {0} × (Unit {0} × (Unit {0} × Unit {0}))))))))))). ‵ (lasts lfs_dir_commit_stores-fn.ended ((ν0b0 ∷ []), ((ν0b1 ∷ []), (κ-entries, (κ-dat, tt)))) (x-g, ((ref-b0 δ0b0 xs-b0), ((ref-b1 δ0b1 xs-b1), (x-n0, (x-n1, (x-blockcount, (x-seed, (x-rules, ((ref-entries γ-entries xs-entries), ((ref-dat γ-dat xs-dat), (x-stores, tt))))))))))) ws0) ⊛ raw (fact 𝓤 ((r0 ≡ commitStoresOf x-g xs-b0 xs-b1 x-n0 x-n1 x-blockcount x-seed x-rules xs-entries xs-dat x-stores) × CommitStoresLeaves x-g xs-b0 xs-b1 x-n0 x-n1 x-blockcount x-seed x-rules xs-entries xs-dat x-stores (ws0 .1 .0) (ws0 .1 .1 .0))))) (id⊢ 𝓤 _) $ pick ! (λ ws0. split ! $ move ! (1 ∷ []) $ heard ! ((r0 ≡ commitStoresOf x-g xs-b0 xs-b1 x-n0 x-n1 x-blockcount x-seed x-rules xs-entries xs-dat x-stores) × CommitStoresLeaves x-g xs-b0 xs-b1 x-n0 x-n1 x-blockcount x-seed x-rules xs-entries xs-dat x-stores (ws0 .1 .0) (ws0 .1 .1 .0)) (λ said0.
-              fsplit ! $ move ! (1 ∷ []) $ fsplit ! $ fsplit ! $ move ! (1 ∷ []) $ feqL ! (λ l0b0. move ! (1 ∷ []) $ fsplit ! $ fsplit ! $ move ! (1 ∷ []) $ feqL ! (λ l0b1. move ! (1 ∷ []) $ fsplit ! $ move ! (1 ∷ []) $ fsplit ! $ move ! (1 ∷ []) $ fsplit ! $ move ! (1 ∷ []) $ fsplit ! $ move ! (1 ∷ []) $ fsplit ! $ move ! (1 ∷ []) $ fsplit ! $ move ! (1 ∷ []) $ fsplit ! $ move ! (1 ∷ []) $ fsplit ! $ move ! (12 ∷ []) $ split ! $ move ! (1 ∷ []) $ facts ! Stored-ty.the-row (Is Stored-ty.the-row) (shows 𝓤 H A Stored-ty.the-row) r0 (v0 ∷ []) (λ is0. land ! (from ! (stop !)) (init ! 29 refl (typed-Stored r0 v0 is0)) $
-              split ! $ move ! (1 ∷ []) $ split ! $ move ! (1 ∷ []) $ split ! $ move ! (1 ∷ []) $ split ! $ move ! (4 ∷ []) $ lft-end ! tt $ move ! (0 ∷ 20 ∷ 15 ∷ []) $ use3 W (later (‵ (Own-b0 (ws0 .1 .0)) ⊛ ‵ (flft κ-b0 q-b0))) (comes-at u8 κ-b0 (ν0b0 ∷ []) q-b0 γ-b0 b-b0 o-b0 𝓤 H A W (named 0) (named 0) xs-b0 (length xs-b0) refl δ0b0 (ws0 .1 .0) g-b0 l0b0) $ await ! tt $ split ! $
-              move ! (5 ∷ []) $ lft-end ! tt $ move ! (0 ∷ 19 ∷ 15 ∷ []) $ use3 W (later (‵ (Own-b1 (ws0 .1 .1 .0)) ⊛ ‵ (flft κ-b1 q-b1))) (comes-at u8 κ-b1 (ν0b1 ∷ []) q-b1 γ-b1 b-b1 o-b1 𝓤 H A W (named 1) (named 1) xs-b1 (length xs-b1) refl δ0b1 (ws0 .1 .1 .0) g-b1 l0b1) $ await ! tt $ split ! $
-              keep ! (2 ∷ 0 ∷ 18 ∷ 17 ∷ 3 ∷ 1 ∷ 6 ∷ 4 ∷ 19 ∷ 20 ∷ 21 ∷ 22 ∷ 23 ∷ 24 ∷ 25 ∷ 26 ∷ 27 ∷ 28 ∷ 29 ∷ 30 ∷ 31 ∷ 32 ∷ 33 ∷ 34 ∷ 35 ∷ 36 ∷ []) $
-              forget ! 21 refl $ forget ! 22 refl $ forget ! 23 refl $ forget ! 24 refl $ by ! (part-1 r0 v0 is0 (ws0 .1 .0) l0b0 (ws0 .1 .1 .0) l0b1 said0))))))))))))
+              move ! (9 ∷ 6 ∷ 10 ∷ 11 ∷ 7 ∷ 4 ∷ 2 ∷ 0 ∷ []) $ group ! 8 $ use1 W (raw (K-lfs_dir_commit_stores .pre (((((ν0b0 ∷ []), ((ν0b1 ∷ []), (κ-entries, (κ-dat, tt))))), ((fullShare, (fullShare, (q-entries, (q-dat, tt))))), tt, (x-g, ((ref-b0 δ0b0 xs-b0), ((ref-b1 δ0b1 xs-b1), (x-n0, (x-n1, (x-blockcount, (x-seed, (x-rules, (x-erased, ((ref-entries γ-entries xs-entries), ((ref-dat γ-dat xs-dat), (x-stores, tt)))))))))))), (v-g ∷ [], (s-b0 ∷ [], (s-b1 ∷ [], (v-n0 ∷ [], (v-n1 ∷ [], (v-blockcount ∷ [], (v-seed ∷ [], (v-rules ∷ [], (v-erased ∷ [], (s-entries ∷ [], (s-dat ∷ [], (v-stores ∷ [], tt))))))))))))), tt))) (goes-0 x-g v-g g-g ν0b0 δ0b0 xs-b0 ν0b1 δ0b1 xs-b1 x-n0 v-n0 g-n0 x-n1 v-n1 g-n1 x-blockcount v-blockcount g-blockcount x-seed v-seed g-seed x-rules v-rules g-rules x-erased v-erased g-erased x-stores v-stores g-stores) $
+              calls-at ! fm K-lfs_dir_commit_stores known-lfs_dir_commit_stores (((((ν0b0 ∷ []), ((ν0b1 ∷ []), (κ-entries, (κ-dat, tt))))), ((fullShare, (fullShare, (q-entries, (q-dat, tt))))), tt, (x-g, ((ref-b0 δ0b0 xs-b0), ((ref-b1 δ0b1 xs-b1), (x-n0, (x-n1, (x-blockcount, (x-seed, (x-rules, (x-erased, ((ref-entries γ-entries xs-entries), ((ref-dat γ-dat xs-dat), (x-stores, tt)))))))))))), (v-g ∷ [], (s-b0 ∷ [], (s-b1 ∷ [], (v-n0 ∷ [], (v-n1 ∷ [], (v-blockcount ∷ [], (v-seed ∷ [], (v-rules ∷ [], (v-erased ∷ [], (s-entries ∷ [], (s-dat ∷ [], (v-stores ∷ [], tt))))))))))))), tt) (and-then ! (load ! (from ! (stop !)) (look ! 6 refl)) (and-then ! (load ! (from ! (stop !)) (look ! 20 refl)) (and-then ! (load ! (from ! (stop !)) (look ! 22 refl)) (and-then ! (load ! (from ! (stop !)) (look ! 9 refl)) (and-then ! (load ! (from ! (stop !)) (look ! 10 refl)) (and-then ! (load ! (from ! (stop !)) (look ! 11 refl)) (and-then ! (load ! (from ! (stop !)) (look ! 12 refl)) (and-then ! (load ! (from ! (stop !)) (look ! 13 refl)) (and-then ! (load ! (from ! (stop !)) (look ! 14 refl)) (and-then ! (load ! (from ! (stop !)) (look ! 15 refl)) (and-then ! (load ! (from ! (stop !)) (look ! 16 refl)) (and-then ! (load ! (from ! (stop !)) (look ! 17 refl)) (no-more !))))))))))))) (λ v0.
+              use1 W (later (some (λ (r0 : Stored). ((‵ (flft (ν0b0 ∷ []) fullShare) ⊛ ‵ (flft (ν0b1 ∷ []) fullShare) ⊛ ‵ (flft κ-entries q-entries) ⊛ ‵ (flft κ-dat q-dat) ⊛ ‵ ftrue) ⊛ ‵ (Stored-ty.the-row .own r0 (v0 ∷ []))) ⊛ raw (ensured 𝓤 H A lfs_dir_commit_stores-fn.ended (lfs_dir_commit_stores-fn.clauses 𝓤 H A at-mem run) ((ν0b0 ∷ []), ((ν0b1 ∷ []), (κ-entries, (κ-dat, tt)))) (x-g, ((ref-b0 δ0b0 xs-b0), ((ref-b1 δ0b1 xs-b1), (x-n0, (x-n1, (x-blockcount, (x-seed, (x-rules, (x-erased, ((ref-entries γ-entries xs-entries), ((ref-dat γ-dat xs-dat), (x-stores, tt)))))))))))) tt r0)))) (id⊢ 𝓤 _) $ await ! tt $ pick ! (λ r0. split ! $ move ! (1 ∷ []) $
+              use1 W (some (λ (ws0 : Unit {0} × (List ℕ × (List ℕ × (Unit {0} × (Unit {0} × (Unit {0} × (Unit {0} × (Unit {0} × (Unit {0} × (Unit {0} × (Unit {0} × (Unit {0} × Unit {0})))))))))))). ‵ (lasts lfs_dir_commit_stores-fn.ended ((ν0b0 ∷ []), ((ν0b1 ∷ []), (κ-entries, (κ-dat, tt)))) (x-g, ((ref-b0 δ0b0 xs-b0), ((ref-b1 δ0b1 xs-b1), (x-n0, (x-n1, (x-blockcount, (x-seed, (x-rules, (x-erased, ((ref-entries γ-entries xs-entries), ((ref-dat γ-dat xs-dat), (x-stores, tt)))))))))))) ws0) ⊛ raw (fact 𝓤 ((r0 ≡ commitStoresOf x-g xs-b0 xs-b1 x-n0 x-n1 x-blockcount x-seed x-rules x-erased xs-entries xs-dat x-stores) × CommitStoresLeaves x-g xs-b0 xs-b1 x-n0 x-n1 x-blockcount x-seed x-rules x-erased xs-entries xs-dat x-stores (ws0 .1 .0) (ws0 .1 .1 .0))))) (id⊢ 𝓤 _) $ pick ! (λ ws0. split ! $ move ! (1 ∷ []) $ heard ! ((r0 ≡ commitStoresOf x-g xs-b0 xs-b1 x-n0 x-n1 x-blockcount x-seed x-rules x-erased xs-entries xs-dat x-stores) × CommitStoresLeaves x-g xs-b0 xs-b1 x-n0 x-n1 x-blockcount x-seed x-rules x-erased xs-entries xs-dat x-stores (ws0 .1 .0) (ws0 .1 .1 .0)) (λ said0.
+              fsplit ! $ move ! (1 ∷ []) $ fsplit ! $ fsplit ! $ move ! (1 ∷ []) $ feqL ! (λ l0b0. move ! (1 ∷ []) $ fsplit ! $ fsplit ! $ move ! (1 ∷ []) $ feqL ! (λ l0b1. move ! (1 ∷ []) $ fsplit ! $ move ! (1 ∷ []) $ fsplit ! $ move ! (1 ∷ []) $ fsplit ! $ move ! (1 ∷ []) $ fsplit ! $ move ! (1 ∷ []) $ fsplit ! $ move ! (1 ∷ []) $ fsplit ! $ move ! (1 ∷ []) $ fsplit ! $ move ! (1 ∷ []) $ fsplit ! $ move ! (1 ∷ []) $ fsplit ! $ move ! (13 ∷ []) $ split ! $ move ! (1 ∷ []) $ facts ! Stored-ty.the-row (Is Stored-ty.the-row) (shows 𝓤 H A Stored-ty.the-row) r0 (v0 ∷ []) (λ is0. land ! (from ! (stop !)) (init ! 31 refl (typed-Stored r0 v0 is0)) $
+              split ! $ move ! (1 ∷ []) $ split ! $ move ! (1 ∷ []) $ split ! $ move ! (1 ∷ []) $ split ! $ move ! (4 ∷ []) $ lft-end ! tt $ move ! (0 ∷ 21 ∷ 16 ∷ []) $ use3 W (later (‵ (Own-b0 (ws0 .1 .0)) ⊛ ‵ (flft κ-b0 q-b0))) (comes-at u8 κ-b0 (ν0b0 ∷ []) q-b0 γ-b0 b-b0 o-b0 𝓤 H A W (named 0) (named 0) xs-b0 (length xs-b0) refl δ0b0 (ws0 .1 .0) g-b0 l0b0) $ await ! tt $ split ! $
+              move ! (5 ∷ []) $ lft-end ! tt $ move ! (0 ∷ 20 ∷ 16 ∷ []) $ use3 W (later (‵ (Own-b1 (ws0 .1 .1 .0)) ⊛ ‵ (flft κ-b1 q-b1))) (comes-at u8 κ-b1 (ν0b1 ∷ []) q-b1 γ-b1 b-b1 o-b1 𝓤 H A W (named 1) (named 1) xs-b1 (length xs-b1) refl δ0b1 (ws0 .1 .1 .0) g-b1 l0b1) $ await ! tt $ split ! $
+              keep ! (2 ∷ 0 ∷ 19 ∷ 18 ∷ 3 ∷ 1 ∷ 6 ∷ 4 ∷ 20 ∷ 21 ∷ 22 ∷ 23 ∷ 24 ∷ 25 ∷ 26 ∷ 27 ∷ 28 ∷ 29 ∷ 30 ∷ 31 ∷ 32 ∷ 33 ∷ 34 ∷ 35 ∷ 36 ∷ 37 ∷ 38 ∷ []) $
+              forget ! 22 refl $ forget ! 23 refl $ forget ! 24 refl $ forget ! 25 refl $ by ! (part-1 r0 v0 is0 (ws0 .1 .0) l0b0 (ws0 .1 .1 .0) l0b1 said0))))))))))))
 
-        begins : ent 𝓤 (⋆ 𝓤 H A Had) (WpFn 𝓤 H C Λ plainly (v-g ∷ s-b0 ∷ s-b1 ∷ v-n0 ∷ v-n1 ∷ v-blockcount ∷ v-seed ∷ v-rules ∷ s-entries ∷ s-dat ∷ v-stores ∷ []) Post)
+        begins : ent 𝓤 (⋆ 𝓤 H A Had) (WpFn 𝓤 H C Λ plainly (v-g ∷ s-b0 ∷ s-b1 ∷ v-n0 ∷ v-n1 ∷ v-blockcount ∷ v-seed ∷ v-rules ∷ v-erased ∷ s-entries ∷ s-dat ∷ v-stores ∷ []) Post)
         begins =
-            qed W Had ∵ enter ! C Λ plainly (v-g ∷ s-b0 ∷ s-b1 ∷ v-n0 ∷ v-n1 ∷ v-blockcount ∷ v-seed ∷ v-rules ∷ s-entries ∷ s-dat ∷ v-stores ∷ []) _ $
-            alloc1 ! (λ l0. alloc1 ! (λ l1. alloc1 ! (λ l2. alloc1 ! (λ l3. alloc1 ! (λ l4. alloc1 ! (λ l5. alloc1 ! (λ l6. alloc1 ! (λ l7. alloc1 ! (λ l8. alloc1 ! (λ l9. alloc1 ! (λ l10. alloc1 ! (λ l11. alloc1 ! (λ l12. alloc1 ! (λ l13. alloc1 ! (λ l14. alloc1 ! (λ l15. alloc1 ! (λ l16. alloc0 ! $ params1 ! $
-            pass1 ! (init ! 30 refl (typed-Geometry x-g v-g g-g)) $ pass1 ! (init ! 28 refl (tt, (tt, (record { fits = g-b0 .0 }, tt)))) $ pass1 ! (init ! 26 refl (tt, (tt, (record { fits = g-b1 .0 }, tt)))) $ pass1 ! (init ! 24 refl (uint-lawful 𝓤 H A W w32 .typed x-n0 _ g-n0 .0)) $ pass1 ! (init ! 22 refl (uint-lawful 𝓤 H A W w32 .typed x-n1 _ g-n1 .0)) $ pass1 ! (init ! 20 refl (uint-lawful 𝓤 H A W w32 .typed x-blockcount _ g-blockcount .0)) $ pass1 ! (init ! 18 refl (uint-lawful 𝓤 H A W w32 .typed x-seed _ g-seed .0)) $ pass1 ! (init ! 16 refl (uint-lawful 𝓤 H A W w32 .typed x-rules _ g-rules .0)) $ pass1 ! (init ! 14 refl (tt, (tt, (record { fits = g-entries .0 }, tt)))) $ pass1 ! (init ! 12 refl (tt, (tt, (record { fits = g-dat .0 }, tt)))) $ pass1 ! (init ! 10 refl (uint-lawful 𝓤 H A W w32 .typed x-stores _ g-stores .0)) $ pass0 ! $
-            move ! (33 ∷ 31 ∷ 29 ∷ 27 ∷ 25 ∷ 23 ∷ 21 ∷ 19 ∷ 17 ∷ 15 ∷ 13 ∷ 11 ∷ 9 ∷ 7 ∷ 5 ∷ 3 ∷ 1 ∷ []) $ group ! 17 $ keep ! (18 ∷ 19 ∷ 20 ∷ 21 ∷ 22 ∷ 23 ∷ 24 ∷ 25 ∷ 17 ∷ 16 ∷ 15 ∷ 14 ∷ 13 ∷ 12 ∷ 11 ∷ 10 ∷ 9 ∷ 8 ∷ 7 ∷ 6 ∷ 5 ∷ 4 ∷ 3 ∷ 2 ∷ 1 ∷ 0 ∷ []) $
-            by ! (body l0 l1 l2 l3 l4 l5 l6 l7 l8 l9 l10 l11 l12 l13 l14 l15 l16))))))))))))))))))
+            qed W Had ∵ enter ! C Λ plainly (v-g ∷ s-b0 ∷ s-b1 ∷ v-n0 ∷ v-n1 ∷ v-blockcount ∷ v-seed ∷ v-rules ∷ v-erased ∷ s-entries ∷ s-dat ∷ v-stores ∷ []) _ $
+            alloc1 ! (λ l0. alloc1 ! (λ l1. alloc1 ! (λ l2. alloc1 ! (λ l3. alloc1 ! (λ l4. alloc1 ! (λ l5. alloc1 ! (λ l6. alloc1 ! (λ l7. alloc1 ! (λ l8. alloc1 ! (λ l9. alloc1 ! (λ l10. alloc1 ! (λ l11. alloc1 ! (λ l12. alloc1 ! (λ l13. alloc1 ! (λ l14. alloc1 ! (λ l15. alloc1 ! (λ l16. alloc1 ! (λ l17. alloc0 ! $ params1 ! $
+            pass1 ! (init ! 32 refl (typed-Geometry x-g v-g g-g)) $ pass1 ! (init ! 30 refl (tt, (tt, (record { fits = g-b0 .0 }, tt)))) $ pass1 ! (init ! 28 refl (tt, (tt, (record { fits = g-b1 .0 }, tt)))) $ pass1 ! (init ! 26 refl (uint-lawful 𝓤 H A W w32 .typed x-n0 _ g-n0 .0)) $ pass1 ! (init ! 24 refl (uint-lawful 𝓤 H A W w32 .typed x-n1 _ g-n1 .0)) $ pass1 ! (init ! 22 refl (uint-lawful 𝓤 H A W w32 .typed x-blockcount _ g-blockcount .0)) $ pass1 ! (init ! 20 refl (uint-lawful 𝓤 H A W w32 .typed x-seed _ g-seed .0)) $ pass1 ! (init ! 18 refl (uint-lawful 𝓤 H A W w32 .typed x-rules _ g-rules .0)) $ pass1 ! (init ! 16 refl (uint-lawful 𝓤 H A W w8 .typed x-erased _ g-erased .0)) $ pass1 ! (init ! 14 refl (tt, (tt, (record { fits = g-entries .0 }, tt)))) $ pass1 ! (init ! 12 refl (tt, (tt, (record { fits = g-dat .0 }, tt)))) $ pass1 ! (init ! 10 refl (uint-lawful 𝓤 H A W w32 .typed x-stores _ g-stores .0)) $ pass0 ! $
+            move ! (35 ∷ 33 ∷ 31 ∷ 29 ∷ 27 ∷ 25 ∷ 23 ∷ 21 ∷ 19 ∷ 17 ∷ 15 ∷ 13 ∷ 11 ∷ 9 ∷ 7 ∷ 5 ∷ 3 ∷ 1 ∷ []) $ group ! 18 $ keep ! (19 ∷ 20 ∷ 21 ∷ 22 ∷ 23 ∷ 24 ∷ 25 ∷ 26 ∷ 18 ∷ 17 ∷ 16 ∷ 15 ∷ 14 ∷ 13 ∷ 12 ∷ 11 ∷ 10 ∷ 9 ∷ 8 ∷ 7 ∷ 6 ∷ 5 ∷ 4 ∷ 3 ∷ 2 ∷ 1 ∷ 0 ∷ []) $
+            by ! (body l0 l1 l2 l3 l4 l5 l6 l7 l8 l9 l10 l11 l12 l13 l14 l15 l16 l17)))))))))))))))))))
 
-        walk : ent 𝓤 (onEntry 𝓤 H A f.signature (κ-b0, (κ-b1, (κ-entries, (κ-dat, tt)))) (q-b0, (q-b1, (q-entries, (q-dat, tt)))) x at) (WpFn 𝓤 H C Λ code.function (v-g ∷ s-b0 ∷ s-b1 ∷ v-n0 ∷ v-n1 ∷ v-blockcount ∷ v-seed ∷ v-rules ∷ s-entries ∷ s-dat ∷ v-stores ∷ []) Post)
-        walk = apart (WpFn 𝓤 H C Λ code.function (v-g ∷ s-b0 ∷ s-b1 ∷ v-n0 ∷ v-n1 ∷ v-blockcount ∷ v-seed ∷ v-rules ∷ s-entries ∷ s-dat ∷ v-stores ∷ []) Post) begins
+        walk : ent 𝓤 (onEntry 𝓤 H A f.signature (κ-b0, (κ-b1, (κ-entries, (κ-dat, tt)))) (q-b0, (q-b1, (q-entries, (q-dat, tt)))) x at) (WpFn 𝓤 H C Λ code.function (v-g ∷ s-b0 ∷ s-b1 ∷ v-n0 ∷ v-n1 ∷ v-blockcount ∷ v-seed ∷ v-rules ∷ v-erased ∷ s-entries ∷ s-dat ∷ v-stores ∷ []) Post)
+        walk = apart (WpFn 𝓤 H C Λ code.function (v-g ∷ s-b0 ∷ s-b1 ∷ v-n0 ∷ v-n1 ∷ v-blockcount ∷ v-seed ∷ v-rules ∷ v-erased ∷ s-entries ∷ s-dat ∷ v-stores ∷ []) Post) begins
 
   walks : (𝓣 : Tables 𝓤 H) → FmC 𝓤 H (W .laws) (𝓣 .C) → Triple 𝓤 (𝓣 .C #lfs_dir_commit_stores) K-lfs_dir_commit_stores → Triple 𝓤 (𝓣 .C #stored_out) K-stored_out → Walks 𝓤 H A f.ended stayed (WpFn 𝓤 H (𝓣 .C) (𝓣 .Λ) code.function) (f.clauses 𝓤 H A at-mem run)
-  walks 𝓣 fm known-lfs_dir_commit_stores known-stored_out = walked 𝓤 H A f.ended stayed (f.clauses 𝓤 H A at-mem run) (WpFn 𝓤 H (𝓣 .C) (𝓣 .Λ) code.function) (λ κs. (LL.vals Geometry-ty.the-type Geometry-laws.the-laws, (slice-vals, (slice-vals, (uint-vals w32, (uint-vals w32, (uint-vals w32, (uint-vals w32, (uint-vals w32, (slice-vals, (slice-vals, (uint-vals w32, tt))))))))))))
-      (λ κs. (LL.tells Geometry-ty.the-type Geometry-laws.the-laws, (mut-slice-tells (named 0) (κs .0) u8, (mut-slice-tells (named 1) (κs .1 .0) u8, (uint-tells w32, (uint-tells w32, (uint-tells w32, (uint-tells w32, (uint-tells w32, (shr-slice-tells (named 2) (κs .1 .1 .0) Entry-ty.the-row, (shr-slice-tells (named 3) (κs .1 .1 .1 .0) u8, (uint-tells w32, tt))))))))))))
-      (λ κs qs bounds a g are. via 𝓤 _ (fst∗ 𝓤 _ (emp 𝓤)) (walk (κs .0) (κs .1 .0) (κs .1 .1 .0) (κs .1 .1 .1 .0) (qs .0) (qs .1 .0) (qs .1 .1 .0) (qs .1 .1 .1 .0) (a .0) (mach-Geometry (a .0)) (a .1 .0 .ptr .0) (a .1 .0 .ptr .1) (a .1 .0 .name) (a .1 .0 .now) (a .1 .1 .0 .ptr .0) (a .1 .1 .0 .ptr .1) (a .1 .1 .0 .name) (a .1 .1 .0 .now) (a .1 .1 .1 .0) (vint w32 (a .1 .1 .1 .0)) (a .1 .1 .1 .1 .0) (vint w32 (a .1 .1 .1 .1 .0)) (a .1 .1 .1 .1 .1 .0) (vint w32 (a .1 .1 .1 .1 .1 .0)) (a .1 .1 .1 .1 .1 .1 .0) (vint w32 (a .1 .1 .1 .1 .1 .1 .0)) (a .1 .1 .1 .1 .1 .1 .1 .0) (vint w32 (a .1 .1 .1 .1 .1 .1 .1 .0)) (a .1 .1 .1 .1 .1 .1 .1 .1 .0 .ptr .0) (a .1 .1 .1 .1 .1 .1 .1 .1 .0 .ptr .1) (a .1 .1 .1 .1 .1 .1 .1 .1 .0 .name) (a .1 .1 .1 .1 .1 .1 .1 .1 .0 .now) (a .1 .1 .1 .1 .1 .1 .1 .1 .1 .0 .ptr .0) (a .1 .1 .1 .1 .1 .1 .1 .1 .1 .0 .ptr .1) (a .1 .1 .1 .1 .1 .1 .1 .1 .1 .0 .name) (a .1 .1 .1 .1 .1 .1 .1 .1 .1 .0 .now) (a .1 .1 .1 .1 .1 .1 .1 .1 .1 .1 .0) (vint w32 (a .1 .1 .1 .1 .1 .1 .1 .1 .1 .1 .0)) (are .0) (are .1 .0 .0 .1) (are .1 .1 .0 .0 .1) (are .1 .1 .1 .0) (are .1 .1 .1 .1 .0) (are .1 .1 .1 .1 .1 .0) (are .1 .1 .1 .1 .1 .1 .0) (are .1 .1 .1 .1 .1 .1 .1 .0) (are .1 .1 .1 .1 .1 .1 .1 .1 .0 .0 .1) (are .1 .1 .1 .1 .1 .1 .1 .1 .1 .0 .0 .1) (are .1 .1 .1 .1 .1 .1 .1 .1 .1 .1 .0) 𝓣 fm known-lfs_dir_commit_stores known-stored_out))
+  walks 𝓣 fm known-lfs_dir_commit_stores known-stored_out = walked 𝓤 H A f.ended stayed (f.clauses 𝓤 H A at-mem run) (WpFn 𝓤 H (𝓣 .C) (𝓣 .Λ) code.function) (λ κs. (LL.vals Geometry-ty.the-type Geometry-laws.the-laws, (slice-vals, (slice-vals, (uint-vals w32, (uint-vals w32, (uint-vals w32, (uint-vals w32, (uint-vals w32, (uint-vals w8, (slice-vals, (slice-vals, (uint-vals w32, tt)))))))))))))
+      (λ κs. (LL.tells Geometry-ty.the-type Geometry-laws.the-laws, (mut-slice-tells (named 0) (κs .0) u8, (mut-slice-tells (named 1) (κs .1 .0) u8, (uint-tells w32, (uint-tells w32, (uint-tells w32, (uint-tells w32, (uint-tells w32, (uint-tells w8, (shr-slice-tells (named 2) (κs .1 .1 .0) Entry-ty.the-row, (shr-slice-tells (named 3) (κs .1 .1 .1 .0) u8, (uint-tells w32, tt)))))))))))))
+      (λ κs qs bounds a g are. via 𝓤 _ (fst∗ 𝓤 _ (emp 𝓤)) (walk (κs .0) (κs .1 .0) (κs .1 .1 .0) (κs .1 .1 .1 .0) (qs .0) (qs .1 .0) (qs .1 .1 .0) (qs .1 .1 .1 .0) (a .0) (mach-Geometry (a .0)) (a .1 .0 .ptr .0) (a .1 .0 .ptr .1) (a .1 .0 .name) (a .1 .0 .now) (a .1 .1 .0 .ptr .0) (a .1 .1 .0 .ptr .1) (a .1 .1 .0 .name) (a .1 .1 .0 .now) (a .1 .1 .1 .0) (vint w32 (a .1 .1 .1 .0)) (a .1 .1 .1 .1 .0) (vint w32 (a .1 .1 .1 .1 .0)) (a .1 .1 .1 .1 .1 .0) (vint w32 (a .1 .1 .1 .1 .1 .0)) (a .1 .1 .1 .1 .1 .1 .0) (vint w32 (a .1 .1 .1 .1 .1 .1 .0)) (a .1 .1 .1 .1 .1 .1 .1 .0) (vint w32 (a .1 .1 .1 .1 .1 .1 .1 .0)) (a .1 .1 .1 .1 .1 .1 .1 .1 .0) (vint w8 (a .1 .1 .1 .1 .1 .1 .1 .1 .0)) (a .1 .1 .1 .1 .1 .1 .1 .1 .1 .0 .ptr .0) (a .1 .1 .1 .1 .1 .1 .1 .1 .1 .0 .ptr .1) (a .1 .1 .1 .1 .1 .1 .1 .1 .1 .0 .name) (a .1 .1 .1 .1 .1 .1 .1 .1 .1 .0 .now) (a .1 .1 .1 .1 .1 .1 .1 .1 .1 .1 .0 .ptr .0) (a .1 .1 .1 .1 .1 .1 .1 .1 .1 .1 .0 .ptr .1) (a .1 .1 .1 .1 .1 .1 .1 .1 .1 .1 .0 .name) (a .1 .1 .1 .1 .1 .1 .1 .1 .1 .1 .0 .now) (a .1 .1 .1 .1 .1 .1 .1 .1 .1 .1 .1 .0) (vint w32 (a .1 .1 .1 .1 .1 .1 .1 .1 .1 .1 .1 .0)) (are .0) (are .1 .0 .0 .1) (are .1 .1 .0 .0 .1) (are .1 .1 .1 .0) (are .1 .1 .1 .1 .0) (are .1 .1 .1 .1 .1 .0) (are .1 .1 .1 .1 .1 .1 .0) (are .1 .1 .1 .1 .1 .1 .1 .0) (are .1 .1 .1 .1 .1 .1 .1 .1 .0) (are .1 .1 .1 .1 .1 .1 .1 .1 .1 .0 .0 .1) (are .1 .1 .1 .1 .1 .1 .1 .1 .1 .1 .0 .0 .1) (are .1 .1 .1 .1 .1 .1 .1 .1 .1 .1 .1 .0) 𝓣 fm known-lfs_dir_commit_stores known-stored_out))
 
 meets : {M : Type 1} (𝓤 : URA M) (H : Heap 𝓤) (A : Atoms 𝓤) (W : Given 𝓤 H A) (mem : Memory → SProp 𝓤) (run : Routine → Fun 𝓤) (𝓣 : Tables 𝓤 H) → Triple 𝓤 (𝓣 .C #lfs_dir_commit_stores) (K-lfs_dir_commit_stores 𝓤 H A W mem run) → Triple 𝓤 (𝓣 .C #stored_out) (K-stored_out 𝓤 H A W mem run)
     → Meets 𝓤 H A f.signature (WpFn 𝓤 H (𝓣 .C) (𝓣 .Λ) code.function) (f.spec 𝓤 H A mem run)
 meets 𝓤 H A W mem run 𝓣 known-lfs_dir_commit_stores known-stored_out =
-    walk-meets 𝓤 H A f.ended stayed W (goes-none 𝓤 H A W 4 (λ _. Geometry-ty.the-row) yes (λ κs x f. refl), (goes-slice 𝓤 H A W 4 0 tt (plain (λ _. u8)), (goes-slice 𝓤 H A W 4 1 tt (plain (λ _. u8)), (goes-none 𝓤 H A W 4 (λ _. u32) yes (λ κs x f. refl), (goes-none 𝓤 H A W 4 (λ _. u32) yes (λ κs x f. refl), (goes-none 𝓤 H A W 4 (λ _. u32) yes (λ κs x f. refl), (goes-none 𝓤 H A W 4 (λ _. u32) yes (λ κs x f. refl), (goes-none 𝓤 H A W 4 (λ _. u32) yes (λ κs x f. refl), (goes-none-slice 𝓤 H A W 4 (2 ∷ []) tt (plain (λ _. Entry-ty.the-row)) yes, (goes-none-slice 𝓤 H A W 4 (3 ∷ []) tt (plain (λ _. u8)) yes, (goes-none 𝓤 H A W 4 (λ _. u32) yes (λ κs x f. refl), tt))))))))))) (f.clauses 𝓤 H A mem run)
+    walk-meets 𝓤 H A f.ended stayed W (goes-none 𝓤 H A W 4 (λ _. Geometry-ty.the-row) yes (λ κs x f. refl), (goes-slice 𝓤 H A W 4 0 tt (plain (λ _. u8)), (goes-slice 𝓤 H A W 4 1 tt (plain (λ _. u8)), (goes-none 𝓤 H A W 4 (λ _. u32) yes (λ κs x f. refl), (goes-none 𝓤 H A W 4 (λ _. u32) yes (λ κs x f. refl), (goes-none 𝓤 H A W 4 (λ _. u32) yes (λ κs x f. refl), (goes-none 𝓤 H A W 4 (λ _. u32) yes (λ κs x f. refl), (goes-none 𝓤 H A W 4 (λ _. u32) yes (λ κs x f. refl), (goes-none 𝓤 H A W 4 (λ _. u8) yes (λ κs x f. refl), (goes-none-slice 𝓤 H A W 4 (2 ∷ []) tt (plain (λ _. Entry-ty.the-row)) yes, (goes-none-slice 𝓤 H A W 4 (3 ∷ []) tt (plain (λ _. u8)) yes, (goes-none 𝓤 H A W 4 (λ _. u32) yes (λ κs x f. refl), tt)))))))))))) (f.clauses 𝓤 H A mem run)
     (WpFn 𝓤 H (𝓣 .C) (𝓣 .Λ) code.function) (WpFn-mono 𝓤 H (W .laws) 𝓣 code.function) (walks 𝓤 H A W mem run 𝓣 (fmOf 𝓤 H (W .laws) 𝓣) known-lfs_dir_commit_stores known-stored_out)
 
 pub lanolin-commit-stores-spec : {M : Type 1} → stated.statement M
