@@ -30,10 +30,13 @@ def fnv1a(image):
 
 
 def case(name, op, size, prog, images, entries, data, answer, after, numbers=(0, 1), count=0, seed=7,
-         rules=DOCUMENT_01, limit=None):
-    """`answer` is what is printed behind the name; `after` the two images."""
-    CASES.append(" ".join(map(str, (name, op, size, prog, *numbers, count, seed, rules, "-" if limit is None else limit,
-                                    runs(images[0]), runs(images[1]), entry_text(entries), runs(data)))))
+         rules=DOCUMENT_01, erased=0xFF, limit=None):
+    """`answer` is what is printed behind the name; `after` the two images. A case that is made for another erased byte
+    too has that at the end of its name."""
+    name += "" if erased == 0xFF else f"-erased-{erased:02x}"
+    CASES.append(" ".join(map(str, (name, op, size, prog, *numbers, count, seed, rules, f"{erased:02x}",
+                                    "-" if limit is None else limit, runs(images[0]), runs(images[1]),
+                                    entry_text(entries), runs(data)))))
     EXPECTED.append(f"{name}: {answer} images {fnv1a(after[0]):08x} {fnv1a(after[1]):08x}")
 
 
