@@ -22,11 +22,12 @@ extern "C" {
 
 /* ---- names: the results, the types of entries, the masks of a lookup, and the limits */
 
-/* The version, as littlefs has its own: the major number in the upper half, the minor in the lower. 0.7 adds
- * lanolin_refetch. With 0.6 lanolin_mdir has the forward check at its end: callers of 0.5 and before are compiled
- * again. */
+/* The version, as littlefs has its own: the major number in the upper half, the minor in the lower. With 0.8 the
+ * writing calls take the erased byte, right behind `rules`, and LANOLIN_ERR_TOPBIT is LANOLIN_ERR_VALIDITY: callers of
+ * 0.7 and before are altered there. 0.7 adds lanolin_refetch. With 0.6 lanolin_mdir has the forward check at its end:
+ * callers of 0.5 and before are compiled again. */
 #define LANOLIN_VERSION_MAJOR 0
-#define LANOLIN_VERSION_MINOR 7
+#define LANOLIN_VERSION_MINOR 8
 #define LANOLIN_VERSION (LANOLIN_VERSION_MAJOR << 16 | LANOLIN_VERSION_MINOR)
 
 /* Results. The first four refusals are littlefs's LFS_ERR_ numbers, the others are this project's own. */
@@ -38,13 +39,13 @@ extern "C" {
 #define LANOLIN_ERR_BADENTRY (-201)    /* commit: an entry is bad; `index` says which */
 #define LANOLIN_ERR_IRREGULAR (-202)   /* writing, and finding by name: the log isn't regular by the rules given */
 #define LANOLIN_ERR_MISALIGNED (-211)  /* commit: the log's end is no multiple of the program size: compact */
-#define LANOLIN_ERR_TOPBIT (-212)      /* commit: the end tag's top bit is set: compact */
+#define LANOLIN_ERR_VALIDITY (-212)    /* commit: the end tag has the wrong validity bit for the erased byte: compact */
 #define LANOLIN_ERR_NOTERASED (-213)   /* commit: a byte behind the end isn't erased; `index` is its offset: compact */
 #define LANOLIN_ERR_COINCIDENCE (-204) /* writing: cut short, this very commit could be taken for a whole one */
 
 /* Whether a refused commit is one that a compaction makes room for: compact, and commit once more. */
 #define LANOLIN_NEEDS_COMPACTION(result) \
-    ((result) == LANOLIN_ERR_NOSPC || (result) == LANOLIN_ERR_MISALIGNED || (result) == LANOLIN_ERR_TOPBIT || \
+    ((result) == LANOLIN_ERR_NOSPC || (result) == LANOLIN_ERR_MISALIGNED || (result) == LANOLIN_ERR_VALIDITY || \
      (result) == LANOLIN_ERR_NOTERASED)
 
 /* Types of entries, littlefs's LFS_TYPE_ names: what lanolin_tag_type3 answers, and what lanolin_mktag and an entry of
@@ -76,6 +77,10 @@ extern "C" {
  * made by creates. littlefs's own compaction writes no creates: there a name makes its slot. */
 #define LANOLIN_RULES_DOCUMENT 0 /* document 01's: for pairs that this library wrote */
 #define LANOLIN_RULES_LITTLEFS 1 /* littlefs's too: also for pairs that littlefs itself compacted */
+
+/* The erased byte, which a writing call takes: what the flash reads as after an erase. */
+#define LANOLIN_ERASED_ONES 0xff  /* most flash */
+#define LANOLIN_ERASED_ZEROS 0x00 /* flash that erases to zeros */
 
 /* Marks. */
 #define LANOLIN_NO_SLOT 0x3ff          /* the id of what belongs to no slot: tails, the move state, the root */
@@ -225,6 +230,14 @@ lanolin_named lanolin_find(lanolin_geometry g, const uint8_t *b0, size_t b0_len,
  * with the same answers and bytes, and pairs that littlefs itself compacted. The entries of a commit are judged by
  * lanolin_entry alone, and what a compaction writes is regular by both.
  *
+ * `erased` is the byte that the flash reads as after an erase: LANOLIN_ERASED_ONES or LANOLIN_ERASED_ZEROS; any other
+ * is LANOLIN_ERR_INVAL. A commit goes where the block still reads as that byte, and a compaction erases to it. The
+ * check that closes a commit says which of the two it was (LANOLIN_TYPE_CCRC for ones, plus 1 for zeros), so that the
+ * bytes behind it are no valid tag. Reading does not ask: a log may have commits of both kinds. A pair that was moved
+ * between boards is read and compacted as any other; but a commit to it, with the byte of the new board, is
+ * LANOLIN_ERR_VALIDITY, or LANOLIN_ERR_NOTERASED where only the room is of the other byte. A compaction with the new
+ * byte heals it.
+ *
  * Behind its entries a commit, and so a compaction, carries a forward check of the program unit behind its new end: by
  * it littlefs sees that this is erased, and appends there. It takes 12 bytes, and is left out where with them no unit
  * would follow in the block; so it never makes the difference to LANOLIN_ERR_NOSPC. */
@@ -234,25 +247,26 @@ lanolin_named lanolin_find(lanolin_geometry g, const uint8_t *b0, size_t b0_len,
  * serves. */
 lanolin_committed lanolin_commit(lanolin_geometry g, uint8_t *b0, size_t b0_len, uint8_t *b1, size_t b1_len,
                                  uint32_t n0, uint32_t n1, uint32_t block_count, uint32_t seed, uint32_t rules,
-                                 const lanolin_entry *entries, size_t entries_len,
+                                 uint8_t erased, const lanolin_entry *entries, size_t entries_len,
                                  const uint8_t *data, size_t data_len);
 
 /* The same, stopped after so many single-byte stores. */
 lanolin_stored lanolin_commit_stores(lanolin_geometry g, uint8_t *b0, size_t b0_len, uint8_t *b1, size_t b1_len,
                                      uint32_t n0, uint32_t n1, uint32_t block_count, uint32_t seed, uint32_t rules,
-                                     const lanolin_entry *entries, size_t entries_len,
+                                     uint8_t erased, const lanolin_entry *entries, size_t entries_len,
                                      const uint8_t *data, size_t data_len, uint32_t stores);
 
 /* All that the pair holds as one commit in the other block, which is erased first, under the next revision: of each
  * slot a create, its name, its struct and its user attributes. A full block that littlefs compacted has no creates, and
  * may have no room for them: LANOLIN_ERR_NOSPC. */
 lanolin_committed lanolin_compact(lanolin_geometry g, uint8_t *b0, size_t b0_len, uint8_t *b1, size_t b1_len,
-                                  uint32_t n0, uint32_t n1, uint32_t block_count, uint32_t seed, uint32_t rules);
+                                  uint32_t n0, uint32_t n1, uint32_t block_count, uint32_t seed, uint32_t rules,
+                                  uint8_t erased);
 
 /* The same, stopped after so many stores; the erase is the first. */
 lanolin_stored lanolin_compact_stores(lanolin_geometry g, uint8_t *b0, size_t b0_len, uint8_t *b1, size_t b1_len,
                                       uint32_t n0, uint32_t n1, uint32_t block_count, uint32_t seed, uint32_t rules,
-                                      uint32_t stores);
+                                      uint8_t erased, uint32_t stores);
 
 /* ---- the leaves; a test answers exactly 0 or 1. lanolin_x is littlefs's lfs_x, but where another name is said */
 

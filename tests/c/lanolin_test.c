@@ -16,6 +16,7 @@ static const uint8_t LISTED[39] = {0x01, 0x00, 0x00, 0x00, 0xbf, 0xef, 0xff, 0xf
                                    0x07, 0x90, 0x5f, 0x01, 0x00, 0x67, 0x4f, 0xfc, 0x09, 0x47, 0x38, 0xe4, 0x4d};
 
 enum { DOCUMENT = LANOLIN_RULES_DOCUMENT, LITTLEFS = LANOLIN_RULES_LITTLEFS };
+enum { ONES = LANOLIN_ERASED_ONES, ZEROS = LANOLIN_ERASED_ZEROS };
 
 static const lanolin_geometry G = {128, 16};
 static const lanolin_gstate STILL = {0, {0, 0}};
@@ -148,7 +149,7 @@ static void test_lengths(void) {
         uint8_t read[4] = {9, 9, 9, 9};
         lanolin_entry entry = {0x374, 0, 0, SIZES[i]};
         lanolin_mdir dir =
-            lanolin_commit(g, c0, 4096, c1, 4096, 0, 1, 0, 0, DOCUMENT, &entry, 1, data, sizeof data).dir;
+            lanolin_commit(g, c0, 4096, c1, 4096, 0, 1, 0, 0, DOCUMENT, ONES, &entry, 1, data, sizeof data).dir;
         lanolin_got got = lanolin_getslice(g, c0, 4096, c1, 4096, 0, 1, dir, STILL, 0x7ffffc00, 0x37400000, 0, read, 4);
         size_t n = SIZES[i] < 4 ? SIZES[i] : 4;
         /* the commit's only entry begins at the old end */
@@ -165,15 +166,15 @@ static void test_moved_places(void) {
     uint8_t c0[128], c1[128], read[4];
     memcpy(c0, b0, sizeof c0);
     memcpy(c1, b1, sizeof c1);
-    lanolin_mdir dir = lanolin_commit(G, c0, 128, c1, 128, 0, 1, 0, 0, DOCUMENT, &before, 1, NULL, 0).dir;
+    lanolin_mdir dir = lanolin_commit(G, c0, 128, c1, 128, 0, 1, 0, 0, DOCUMENT, ONES, &before, 1, NULL, 0).dir;
     lanolin_got got = lanolin_getslice(G, c0, 128, c1, 128, 0, 1, dir, STILL, mask, key, 0, read, 4);
     EXPECT(dir.count == 2 && is_found(got, 0x37400404, 8, 27) && !memcmp(read, c0 + 27, 4));
     /* compacted into the other block, behind one create more */
-    dir = lanolin_compact(G, c0, 128, c1, 128, 0, 1, 0, 0, DOCUMENT).dir;
+    dir = lanolin_compact(G, c0, 128, c1, 128, 0, 1, 0, 0, DOCUMENT, ONES).dir;
     got = lanolin_getslice(G, c0, 128, c1, 128, 0, 1, dir, STILL, mask, key, 0, read, 4);
     EXPECT(dir.pair[0] == 1 && is_found(got, 0x37400404, 8, 31) && !memcmp(read, c1 + 31, 4));
     /* a removal is never found */
-    dir = lanolin_commit(G, c0, 128, c1, 128, 0, 1, 0, 0, DOCUMENT, &gone, 1, NULL, 0).dir;
+    dir = lanolin_commit(G, c0, 128, c1, 128, 0, 1, 0, 0, DOCUMENT, ONES, &gone, 1, NULL, 0).dir;
     got = lanolin_getslice(G, c0, 128, c1, 128, 0, 1, dir, STILL, mask, key, 0, read, 4);
     EXPECT(dir.off == 96 && is_refused(got, -2));
 }
@@ -327,58 +328,93 @@ static void test_pairs_and_states(void) {
     EXPECT(lanolin_gstate_iszero(&STILL) == 1 && lanolin_gstate_hasmove(&STILL) == 0);
 }
 
-/* A commit behind the listing's log: the deadline 3,600 in place of 90,000. Tag chained to the check tag before, data;
- * the forward check, 0x5ffffc08, of 16 bytes, with the checksum of as many 0xff; check tag of size 8, checksum. The end
- * is 80, a multiple of 16, and four bytes of padding stand before it. */
-static const uint8_t MORE[28] = {0x67, 0x4f, 0xfc, 0x09, 0x10, 0x0e, 0x00, 0x00, 0x68, 0xbf, 0xfc, 0x0c, 0x10, 0x00,
-                                 0x00, 0x00, 0xe5, 0x39, 0x4c, 0xc0, 0x0f, 0xf0, 0x00, 0x00, 0x72, 0x6f, 0x0e, 0x8a};
-static const uint32_t UNIT_SUM = 0xc04c39e5;
+/* Flash of either kind: the erased byte; the listing's check on it, and a commit behind its log; the checksum of 16
+ * erased bytes; the end tag without its size.
+ *
+ * The commit is the deadline 3,600 in place of 90,000. Tag chained to the check tag before, data; the forward check,
+ * 0x5ffffc08, of 16 bytes, with the checksum of as many erased ones; check tag of size 8, checksum. The end is 80, a
+ * multiple of 16, and four bytes of padding stand before it. On zeros a check is of type 0x501, so that the end tag has
+ * its top bit, and so the next stored tag. */
+typedef struct { uint8_t byte, check[8], more[28]; uint32_t unit_sum, end_tag; } flash;
+static const flash FLASH[2] = {
+    {ONES,
+     {0x67, 0x4f, 0xfc, 0x09, 0x47, 0x38, 0xe4, 0x4d},
+     {0x67, 0x4f, 0xfc, 0x09, 0x10, 0x0e, 0x00, 0x00, 0x68, 0xbf, 0xfc, 0x0c, 0x10, 0x00,
+      0x00, 0x00, 0xe5, 0x39, 0x4c, 0xc0, 0x0f, 0xf0, 0x00, 0x00, 0x72, 0x6f, 0x0e, 0x8a},
+     0xc04c39e5,
+     0x500ffc00},
+    {ZEROS,
+     {0x67, 0x5f, 0xfc, 0x09, 0x37, 0x9b, 0xc2, 0x51},
+     {0xe7, 0x5f, 0xfc, 0x09, 0x10, 0x0e, 0x00, 0x00, 0x68, 0xbf, 0xfc, 0x0c, 0x10, 0x00,
+      0x00, 0x00, 0xaa, 0xb4, 0x44, 0x13, 0x0f, 0xe0, 0x00, 0x00, 0xb3, 0x63, 0x99, 0xe1},
+     0x1344b4aa,
+     0xd01ffc00},
+};
 
-static void test_commit(void) {
-    uint8_t c0[128], c1[128];
-    memcpy(c0, b0, sizeof c0);
-    memcpy(c1, b1, sizeof c1);
-    const uint8_t data[4] = {0x10, 0x0e, 0x00, 0x00};
+static const uint32_t UNIT_SUM = 0xc04c39e5; /* of ones */
+
+/* The listing as it is on such flash, in a block of so many bytes. */
+static void list_on(const flash *f, uint8_t *block, size_t size) {
+    memset(block, f->byte, size);
+    memcpy(block, LISTED, 31);
+    memcpy(block + 31, f->check, 8);
+}
+
+static int is_erased(const flash *f, const uint8_t *bytes, size_t n) {
+    while (n && bytes[n - 1] == f->byte) n--;
+    return n == 0;
+}
+
+static void test_commit(const flash *f) {
+    uint8_t listed[128], empty[128], c0[128], c1[128];
+    list_on(f, listed, 128);
+    memset(empty, f->byte, sizeof empty);
+    memcpy(c0, listed, sizeof c0);
+    memcpy(c1, empty, sizeof c1);
+    const uint8_t data[4] = {0x10, 0x0e, 0x00, 0x00}, erased = f->byte;
     lanolin_entry deadline = {0x374, 0, 0, 4}, bad[2] = {{0x401, 1, 0, 0}, {0x001, 1, 1, 4}};
-    lanolin_committed refused = lanolin_commit(G, c0, 128, c1, 128, 0, 1, 0, 7, DOCUMENT, bad, 2, data, 4);
+    lanolin_committed refused = lanolin_commit(G, c0, 128, c1, 128, 0, 1, 0, 7, DOCUMENT, erased, bad, 2, data, 4);
     EXPECT(refused.result == -201 && refused.index == 1 && refused.seed == 7 && is_no_dir(refused.dir));
-    EXPECT(lanolin_commit(G, c0, 128, c1, 128, 3, 3, 0, 7, DOCUMENT, &deadline, 1, data, 4).result == -22);
-    EXPECT(!memcmp(c0, b0, 128) && !memcmp(c1, b1, 128));
-    lanolin_stored stored = lanolin_commit_stores(G, c0, 128, c1, 128, 0, 1, 0, 0, DOCUMENT, &deadline, 1, data, 4, 5);
-    EXPECT(stored.result == 0 && stored.index == 0 && stored.stores == 5 && !memcmp(c0 + 48, MORE, 5) &&
-           c0[53] == 0xff);
+    EXPECT(lanolin_commit(G, c0, 128, c1, 128, 3, 3, 0, 7, DOCUMENT, erased, &deadline, 1, data, 4).result == -22);
+    EXPECT(!memcmp(c0, listed, 128) && !memcmp(c1, empty, 128));
+    lanolin_stored stored =
+        lanolin_commit_stores(G, c0, 128, c1, 128, 0, 1, 0, 0, DOCUMENT, erased, &deadline, 1, data, 4, 5);
+    EXPECT(stored.result == 0 && stored.index == 0 && stored.stores == 5 && !memcmp(c0 + 48, f->more, 5) &&
+           c0[53] == f->byte);
     EXPECT(lanolin_fetch(G, c0, 128, c1, 128, 0, 1, 0, 0).dir.off == 48);
-    memcpy(c0, b0, sizeof c0);
-    lanolin_committed done = lanolin_commit(G, c0, 128, c1, 128, 0, 1, 0, 0, DOCUMENT, &deadline, 1, data, 4);
-    EXPECT(done.result == 0 && done.index == 0 && done.dir.off == 80 && done.dir.etag == 0x500ffc08 &&
-           done.dir.count == 1 && done.dir.erased && has_forward(done.dir, 16, UNIT_SUM));
-    EXPECT(!memcmp(c0, b0, 48) && !memcmp(c0 + 48, MORE, 28) && !memcmp(c0 + 76, b1, 52) && !memcmp(c1, b1, 128));
+    memcpy(c0, listed, sizeof c0);
+    lanolin_committed done = lanolin_commit(G, c0, 128, c1, 128, 0, 1, 0, 0, DOCUMENT, erased, &deadline, 1, data, 4);
+    EXPECT(done.result == 0 && done.index == 0 && done.dir.off == 80 && done.dir.etag == f->end_tag + 8 &&
+           done.dir.count == 1 && done.dir.erased && has_forward(done.dir, 16, f->unit_sum));
+    EXPECT(!memcmp(c0, listed, 48) && !memcmp(c0 + 48, f->more, 28) && is_erased(f, c0 + 76, 52) &&
+           !memcmp(c1, empty, 128));
     uint8_t read[4];
     lanolin_got got = lanolin_getslice(G, c0, 128, c1, 128, 0, 1, done.dir, STILL, 0x7ffffc00, 0x37400000, 0, read, 4);
     EXPECT(is_found(got, 0x37400004, 8, 52) && !memcmp(read, data, 4));
 }
 
 /* The listing compacted: the same entries in the same order under revision 2, so that all but the revision is as it
- * was; then the forward check, and the check, of size 17. */
-static void test_compact(void) {
-    uint8_t c0[128], c1[128], expected[51];
-    memcpy(c0, b0, sizeof c0);
+ * was; then the forward check, and the check, of size 17. From flash of either kind. */
+static void test_compact(const flash *from, const flash *f) {
+    uint8_t listed[128], c0[128], c1[128], expected[51];
+    list_on(from, listed, 128);
+    memcpy(c0, listed, sizeof c0);
     memset(c1, 0x55, sizeof c1);
     memcpy(expected, LISTED, 31);
     expected[0] = 2;
-    memcpy(expected + 31, MORE + 8, 16); /* behind an attribute too */
+    memcpy(expected + 31, f->more + 8, 16); /* behind an attribute too */
     expected[46] = 0x08 ^ 17;
     EXPECT(lanolin_put_le32(expected, 51, 47, lanolin_crc(0xffffffff, expected, 47)) == 0);
-    lanolin_stored stored = lanolin_compact_stores(G, c0, 128, c1, 128, 0, 1, 0, 0, DOCUMENT, 1);
-    EXPECT(stored.result == 0 && stored.stores == 1 && !memcmp(c1, b1, 128) && !memcmp(c0, b0, 128));
-    stored = lanolin_compact_stores(G, c0, 128, c1, 128, 0, 1, 0, 0, DOCUMENT, 1000);
-    EXPECT(stored.result == 0 && stored.stores == 52 && !memcmp(c1, expected, 51) && !memcmp(c1 + 51, b1, 77));
+    lanolin_stored stored = lanolin_compact_stores(G, c0, 128, c1, 128, 0, 1, 0, 0, DOCUMENT, f->byte, 1);
+    EXPECT(stored.result == 0 && stored.stores == 1 && is_erased(f, c1, 128) && !memcmp(c0, listed, 128));
+    stored = lanolin_compact_stores(G, c0, 128, c1, 128, 0, 1, 0, 0, DOCUMENT, f->byte, 1000);
+    EXPECT(stored.result == 0 && stored.stores == 52 && !memcmp(c1, expected, 51) && is_erased(f, c1 + 51, 77));
     memset(c1, 0x55, sizeof c1);
-    lanolin_committed done = lanolin_compact(G, c0, 128, c1, 128, 0, 1, 0, 0, DOCUMENT);
+    lanolin_committed done = lanolin_compact(G, c0, 128, c1, 128, 0, 1, 0, 0, DOCUMENT, f->byte);
     EXPECT(done.result == 0 && done.dir.pair[0] == 1 && done.dir.rev == 2 && done.dir.off == 64 && done.dir.count == 1);
-    EXPECT(done.dir.erased && has_forward(done.dir, 16, UNIT_SUM));
-    EXPECT(!memcmp(c1, expected, 51) && !memcmp(c1 + 51, b1, 77) && !memcmp(c0, b0, 128));
-    EXPECT(lanolin_compact(G, b1, 128, c1, 64, 0, 1, 0, 7, DOCUMENT).result == -22);
+    EXPECT(done.dir.etag == f->end_tag + 17 && done.dir.erased && has_forward(done.dir, 16, f->unit_sum));
+    EXPECT(!memcmp(c1, expected, 51) && is_erased(f, c1 + 51, 77) && !memcmp(c0, listed, 128));
+    EXPECT(lanolin_compact(G, b1, 128, c1, 64, 0, 1, 0, 7, DOCUMENT, f->byte).result == -22);
 }
 
 /* One entry and its check, in an erased block. */
@@ -397,41 +433,60 @@ typedef struct { uint8_t b0[512], b1[512]; } images;
 static const lanolin_geometry WIDE = {512, 16};
 static const lanolin_entry DEADLINE = {LANOLIN_TYPE_USERATTR + 0x74, 0, 0, 4};
 
-static lanolin_committed commit_by(uint32_t rules, images *p) {
-    return lanolin_commit(WIDE, p->b0, 512, p->b1, 512, 0, 1, 0, 7, rules, &DEADLINE, 1, LISTED, 4);
+static lanolin_committed commit_on(uint8_t erased, uint32_t rules, images *p) {
+    return lanolin_commit(WIDE, p->b0, 512, p->b1, 512, 0, 1, 0, 7, rules, erased, &DEADLINE, 1, LISTED, 4);
 }
 
-static lanolin_committed compact_by(uint32_t rules, images *p) {
-    return lanolin_compact(WIDE, p->b0, 512, p->b1, 512, 0, 1, 0, 7, rules);
+static lanolin_committed compact_on(uint8_t erased, uint32_t rules, images *p) {
+    return lanolin_compact(WIDE, p->b0, 512, p->b1, 512, 0, 1, 0, 7, rules, erased);
 }
+
+static lanolin_stored commit_stores_on(uint8_t erased, uint32_t rules, images *p, uint32_t stores) {
+    return lanolin_commit_stores(WIDE, p->b0, 512, p->b1, 512, 0, 1, 0, 7, rules, erased, &DEADLINE, 1, LISTED, 4,
+                                 stores);
+}
+
+static lanolin_stored compact_stores_on(uint8_t erased, uint32_t rules, images *p, uint32_t stores) {
+    return lanolin_compact_stores(WIDE, p->b0, 512, p->b1, 512, 0, 1, 0, 7, rules, erased, stores);
+}
+
+static lanolin_committed commit_by(uint32_t rules, images *p) { return commit_on(ONES, rules, p); }
+
+static lanolin_committed compact_by(uint32_t rules, images *p) { return compact_on(ONES, rules, p); }
 
 static lanolin_stored commit_stores_by(uint32_t rules, images *p, uint32_t stores) {
-    return lanolin_commit_stores(WIDE, p->b0, 512, p->b1, 512, 0, 1, 0, 7, rules, &DEADLINE, 1, LISTED, 4, stores);
+    return commit_stores_on(ONES, rules, p, stores);
 }
 
 static lanolin_stored compact_stores_by(uint32_t rules, images *p, uint32_t stores) {
-    return lanolin_compact_stores(WIDE, p->b0, 512, p->b1, 512, 0, 1, 0, 7, rules, stores);
+    return compact_stores_on(ONES, rules, p, stores);
 }
 
 /* The listing in the first block, and nothing in the second. */
-static images listing(void) {
+static images listing_on(const flash *f) {
     images p;
-    memset(&p, 0xff, sizeof p);
-    memcpy(p.b0, LISTED, sizeof LISTED);
+    memset(&p, f->byte, sizeof p);
+    list_on(f, p.b0, sizeof p.b0);
     return p;
 }
 
+static images listing(void) { return listing_on(&FLASH[0]); }
+
 /* Refused so by all four calls: the record all zero, the seed as given, no store, no byte altered. */
-static int all_refuse(uint32_t rules, const images *given, int32_t result) {
+static int all_refuse_on(uint8_t erased, uint32_t rules, const images *given, int32_t result) {
     images p = *given;
-    lanolin_committed c[2] = {commit_by(rules, &p), compact_by(rules, &p)};
-    lanolin_stored s[2] = {commit_stores_by(rules, &p, 1000), compact_stores_by(rules, &p, 1000)};
+    lanolin_committed c[2] = {commit_on(erased, rules, &p), compact_on(erased, rules, &p)};
+    lanolin_stored s[2] = {commit_stores_on(erased, rules, &p, 1000), compact_stores_on(erased, rules, &p, 1000)};
     int all = !memcmp(&p, given, sizeof p);
     for (int i = 0; i < 2; i++) {
         all &= c[i].result == result && c[i].index == 0 && c[i].seed == 7 && is_no_dir(c[i].dir);
         all &= s[i].result == result && s[i].index == 0 && s[i].stores == 0;
     }
     return all;
+}
+
+static int all_refuse(uint32_t rules, const images *given, int32_t result) {
+    return all_refuse_on(ONES, rules, given, result);
 }
 
 /* A number that is no rule is -22, before fetch's own -84 and -2 and before -202. */
@@ -541,8 +596,8 @@ static void test_without_creates(void) {
     EXPECT(got.tag == lanolin_mktag(LANOLIN_TYPE_REG, 0, 1) && name == 'a');
     static const int32_t RESULTS[2] = {LANOLIN_ERR_IRREGULAR, LANOLIN_OK};
     for (uint32_t rules = DOCUMENT; rules <= LITTLEFS; rules++) {
-        EXPECT(lanolin_commit(g, x, 128, y, 128, 0, 1, 0, 0, rules, NULL, 0, NULL, 0).result == RESULTS[rules]);
-        EXPECT(lanolin_compact(g, x, 128, y, 128, 0, 1, 0, 0, rules).result == RESULTS[rules]);
+        EXPECT(lanolin_commit(g, x, 128, y, 128, 0, 1, 0, 0, rules, ONES, NULL, 0, NULL, 0).result == RESULTS[rules]);
+        EXPECT(lanolin_compact(g, x, 128, y, 128, 0, 1, 0, 0, rules, ONES).result == RESULTS[rules]);
     }
 }
 
@@ -577,7 +632,7 @@ static void test_no_room_for_creates(void) {
     EXPECT(compact_stores_by(LITTLEFS, &p, 1000).result == LANOLIN_ERR_NOSPC && !memcmp(&p, &copy, sizeof p));
     const lanolin_entry name = {LANOLIN_TYPE_REG, 1, 0, 4};
     p = logged(tags, 1);
-    refused = lanolin_commit(WIDE, p.b0, 512, p.b1, 512, 0, 1, 0, 7, LITTLEFS, &name, 1, LISTED, 4);
+    refused = lanolin_commit(WIDE, p.b0, 512, p.b1, 512, 0, 1, 0, 7, LITTLEFS, ONES, &name, 1, LISTED, 4);
     EXPECT(refused.result == LANOLIN_ERR_BADENTRY && refused.index == 0);
 }
 
@@ -619,8 +674,9 @@ static lanolin_named dir_named(const large *p, const char *name) {
 
 static void write_to(large *p, uint32_t rules, const lanolin_entry *entries, size_t count, const char *data) {
     const uint8_t *bytes = (const uint8_t *)data;
-    EXPECT(lanolin_commit(LARGE, p->b0, 8192, p->b1, 8192, 0, 1, 0, 7, rules, entries, count, bytes, strlen(data))
-               .result == LANOLIN_OK);
+    const size_t n = strlen(data);
+    EXPECT(lanolin_commit(LARGE, p->b0, 8192, p->b1, 8192, 0, 1, 0, 7, rules, ONES, entries, count, bytes, n).result ==
+           LANOLIN_OK);
 }
 
 /* These bytes at the beginning of the first block, and nothing behind them and in the second. */
@@ -665,7 +721,7 @@ static void test_find_lowest(void) {
             lanolin_named file = file_named(&p, "q213"), dir = dir_named(&p, "q213");
             EXPECT(FILES[i] < 0 ? is_none(file) : is_at(file, (uint32_t)FILES[i]));
             EXPECT(DIRS[i] < 0 ? is_none(dir) : is_at(dir, (uint32_t)DIRS[i]));
-            EXPECT(!lanolin_compact(LARGE, p.b0, 8192, p.b1, 8192, 0, 1, 0, 7, DOCUMENT).result);
+            EXPECT(!lanolin_compact(LARGE, p.b0, 8192, p.b1, 8192, 0, 1, 0, 7, DOCUMENT, ONES).result);
         }
     }
     EXPECT(is_at(file_named(&p, "q212"), 1));
@@ -676,7 +732,7 @@ static void test_find_renamed(void) {
     static const lanolin_entry FILE_NAME = {0x001, 0, 0, 4}, DIR_NAME = {0x002, 0, 0, 4};
     large p = enlarged(LISTED, sizeof LISTED), torn = p;
     /* tag, name, forward check, check tag, checksum: 28 bytes */
-    EXPECT(lanolin_commit_stores(LARGE, torn.b0, 8192, torn.b1, 8192, 0, 1, 0, 7, DOCUMENT, &FILE_NAME, 1,
+    EXPECT(lanolin_commit_stores(LARGE, torn.b0, 8192, torn.b1, 8192, 0, 1, 0, 7, DOCUMENT, ONES, &FILE_NAME, 1,
                                  (const uint8_t *)"q299", 4, 27).stores == 27);
     EXPECT(is_at(file_named(&torn, "q212"), 0) && is_none(file_named(&torn, "q299")));
     write_to(&p, DOCUMENT, &FILE_NAME, 1, "q299");
@@ -684,7 +740,7 @@ static void test_find_renamed(void) {
     write_to(&p, DOCUMENT, &DIR_NAME, 1, "q299");
     EXPECT(is_none(file_named(&p, "q299")) && is_at(dir_named(&p, "q299"), 0));
     /* the older block, which still has that name, is not read */
-    EXPECT(!lanolin_compact(LARGE, p.b0, 8192, p.b1, 8192, 0, 1, 0, 7, DOCUMENT).result);
+    EXPECT(!lanolin_compact(LARGE, p.b0, 8192, p.b1, 8192, 0, 1, 0, 7, DOCUMENT, ONES).result);
     write_to(&p, DOCUMENT, &FILE_NAME, 1, "q300");
     EXPECT(is_none(dir_named(&p, "q299")) && is_at(file_named(&p, "q300"), 0));
 }
@@ -784,45 +840,51 @@ static void test_find_sizes(void) {
 /* ---- the forward check */
 
 /* So many bytes of slot 0 behind the listing, tags and data, in blocks of these sizes: entries of one type. */
-static lanolin_committed commit_bytes(lanolin_geometry g, uint8_t *c0, uint8_t *c1, uint32_t length) {
+static lanolin_committed commit_bytes_on(const flash *f, lanolin_geometry g, uint8_t *c0, uint8_t *c1,
+                                         uint32_t length) {
     static const uint8_t DATA[LANOLIN_ATTR_MAX];
+    const uint32_t size = g.block_size;
     lanolin_entry entries[40];
     size_t n = 0;
     for (uint32_t taken; length; length -= taken, n++) {
         taken = length <= 1026 ? length : length - 4 < 1026 ? length - 4 : 1026;
         entries[n] = (lanolin_entry){LANOLIN_TYPE_USERATTR + 0x74, 0, 0, taken - 4};
     }
-    return lanolin_commit(g, c0, g.block_size, c1, g.block_size, 0, 1, 0, 7, DOCUMENT, entries, n, DATA, sizeof DATA);
+    return lanolin_commit(g, c0, size, c1, size, 0, 1, 0, 7, DOCUMENT, f->byte, entries, n, DATA, sizeof DATA);
+}
+
+static lanolin_committed commit_bytes(lanolin_geometry g, uint8_t *c0, uint8_t *c1, uint32_t length) {
+    return commit_bytes_on(&FLASH[0], g, c0, c1, length);
 }
 
 /* The listing in an erased block, its check up to a multiple of another program size. Answers where it ends. */
-static uint32_t lay_listing(lanolin_geometry g, uint8_t *block) {
-    const uint32_t end = lanolin_alignup(39, g.prog_size).value;
-    memset(block, 0xff, g.block_size);
-    memcpy(block, LISTED, sizeof LISTED);
-    EXPECT(lanolin_put_be32(block, 128, 31, 0x37400004 ^ lanolin_mktag(LANOLIN_TYPE_CCRC, 1023, end - 35)) == 0);
+static uint32_t lay_listing(const flash *f, lanolin_geometry g, uint8_t *block) {
+    const uint32_t end = lanolin_alignup(39, g.prog_size).value, check = (f->end_tag & 0x7fffffff) + end - 35;
+    list_on(f, block, g.block_size);
+    EXPECT(lanolin_put_be32(block, 128, 31, 0x37400004 ^ check) == 0);
     EXPECT(lanolin_put_le32(block, 128, 35, lanolin_crc(0xffffffff, block, 35)) == 0);
     return end;
 }
 
 /* Entries that just leave a unit behind forward check and check, to the byte; one byte more; and those that end at the
  * block's end, with no forward check, behind which one byte more is refused. */
-static void test_forward_just_fits(void) {
+static void test_forward_just_fits(const flash *f) {
     static const lanolin_geometry SIZES[6] = {{128, 4}, {130, 5}, {128, 16}, {765, 255}, {1536, 512}, {32768, 512}};
     static uint8_t c0[32768], c1[32768];
-    memset(c1, 0xff, sizeof c1);
+    memset(c1, f->byte, sizeof c1);
     for (int i = 0; i < 6; i++) {
         const lanolin_geometry g = SIZES[i];
-        const uint32_t size = g.block_size, prog = g.prog_size, end = lay_listing(g, c0);
+        const uint32_t size = g.block_size, prog = g.prog_size, end = lay_listing(f, g, c0);
         const uint32_t lengths[4] = {size - prog - end - 20, size - prog - end - 19, size - end - 8, size - end - 7};
         for (int more = 0; more < 4; more++) {
-            lay_listing(g, c0);
-            lanolin_committed c = commit_bytes(g, c0, c1, lengths[more]);
+            lay_listing(f, g, c0);
+            lanolin_committed c = commit_bytes_on(f, g, c0, c1, lengths[more]);
             EXPECT(c.result == (more < 3 ? LANOLIN_OK : LANOLIN_ERR_NOSPC));
             if (more == 3) continue;
             EXPECT(c.dir.off == (more ? lanolin_alignup(end + lengths[more] + 8, prog).value : size - prog));
             EXPECT(c.dir.erased == !more && c.dir.forward == !more && c.dir.forward_size == (more ? 0 : prog));
             EXPECT(c.dir.forward_sum == (more ? 0 : lanolin_crc(0xffffffff, c1, prog)));
+            EXPECT(c.dir.etag >> 31 == f->end_tag >> 31 && is_erased(f, c0 + c.dir.off, size - c.dir.off));
             EXPECT(same_dir(c.dir, lanolin_fetch(g, c0, size, c1, size, 0, 1, 0, 7).dir));
         }
     }
@@ -868,12 +930,12 @@ static void test_forward_of_others(void) {
                dir.forward_sum == sum);
         uint8_t copy[128];
         memcpy(copy, c0, sizeof copy);
-        dir = lanolin_commit(G, copy, 128, c1, 128, 0, 1, 0, 0, DOCUMENT, STATES, 1, LISTED, 12).dir;
+        dir = lanolin_commit(G, copy, 128, c1, 128, 0, 1, 0, 0, DOCUMENT, ONES, STATES, 1, LISTED, 12).dir;
         EXPECT(dir.off == 80 && dir.erased && has_forward(dir, 16, UNIT_SUM)); /* its own */
-        dir = lanolin_commit(G, c0, 128, c1, 128, 0, 1, 0, 0, DOCUMENT, STATES, 4, LISTED, 12).dir;
+        dir = lanolin_commit(G, c0, 128, c1, 128, 0, 1, 0, 0, DOCUMENT, ONES, STATES, 4, LISTED, 12).dir;
         EXPECT(dir.off == 112 && dir.erased == (i < 2) && dir.forward && dir.forward_size == SIZES[i] &&
                dir.forward_sum == sum); /* 17 bytes behind 112 pass the block */
-        dir = lanolin_compact(G, c0, 128, c1, 128, 0, 1, 0, 0, DOCUMENT).dir;
+        dir = lanolin_compact(G, c0, 128, c1, 128, 0, 1, 0, 0, DOCUMENT, ONES).dir;
         EXPECT(dir.pair[0] == 1 && dir.erased && has_forward(dir, 16, UNIT_SUM));
     }
 }
@@ -907,7 +969,7 @@ static void test_forward_of_too_many(void) {
     EXPECT(lanolin_put_le32(p.b0, 512, 0, 1) == 0);
     chain(p.b0, 4, 0xffffffff, name);
     chain(p.b0, 9, name, tag);
-    memcpy(p.b0 + 13, MORE + 12, 8);
+    memcpy(p.b0 + 13, FLASH[0].more + 12, 8);
     chain(p.b0, 21, tag, lanolin_mktag(LANOLIN_TYPE_CCRC, LANOLIN_NO_SLOT, 7));
     EXPECT(lanolin_put_le32(p.b0, 512, 25, lanolin_crc(0xffffffff, p.b0, 25)) == 0);
     lanolin_fetched f = lanolin_fetch(WIDE, p.b0, 512, p.b1, 512, 0, 1, 0, 7);
@@ -918,35 +980,40 @@ static void test_forward_of_too_many(void) {
 }
 
 /* Stopped after each number of stores, inside the 12 bytes too, a commit or a compaction reads as never begun: the
- * record has the forward check that it had, and only its erased mark may differ; behind the last as finished. */
-static void test_forward_stopped(void) {
+ * record has the forward check that it had, and only its erased mark may differ; behind the last as finished. Behind a
+ * commit that was cut short there is no room: its first byte is another than the erased one. */
+static void test_forward_stopped(const flash *f) {
     static const uint32_t ALL[2] = {8 + 12 + 8, 1 + 4 + 27 + 12 + 8}; /* the erase is a store */
-    images p = listing();
+    images p = listing_on(f);
     for (int old = 0; old < 2; old++) { /* a log without a forward check, and then one with */
         lanolin_mdir before = lanolin_fetch(WIDE, p.b0, 512, p.b1, 512, 0, 1, 0, 7).dir;
-        EXPECT(has_forward(before, old ? 16 : 0, old ? UNIT_SUM : 0));
+        EXPECT(has_forward(before, old ? 16 : 0, old ? f->unit_sum : 0));
         for (uint32_t stores = 0; stores < 60; stores++) {
             images left[2] = {p, p};
-            lanolin_stored s[2] = {commit_stores_by(DOCUMENT, &left[0], stores),
-                                   compact_stores_by(DOCUMENT, &left[1], stores)};
+            lanolin_stored s[2] = {commit_stores_on(f->byte, DOCUMENT, &left[0], stores),
+                                   compact_stores_on(f->byte, DOCUMENT, &left[1], stores)};
             for (int i = 0; i < 2; i++) {
                 lanolin_mdir dir = lanolin_fetch(WIDE, left[i].b0, 512, left[i].b1, 512, 0, 1, 0, 7).dir;
                 EXPECT(!s[i].result && s[i].stores == (stores < ALL[i] ? stores : ALL[i]));
                 if (stores < ALL[i]) dir.erased = before.erased;
-                EXPECT(stores < ALL[i] ? same_dir(dir, before) : dir.erased && has_forward(dir, 16, UNIT_SUM));
+                EXPECT(stores < ALL[i] ? same_dir(dir, before) : dir.erased && has_forward(dir, 16, f->unit_sum));
             }
+            lanolin_committed c = commit_on(f->byte, DOCUMENT, &left[0]);
+            if (stores && stores < ALL[0]) EXPECT(c.result == LANOLIN_ERR_NOTERASED && c.index == before.off);
+            else EXPECT(c.result == LANOLIN_OK);
+            EXPECT(commit_on(f->byte, DOCUMENT, &left[1]).result == LANOLIN_OK);
         }
-        EXPECT(commit_by(DOCUMENT, &p).result == LANOLIN_OK);
+        EXPECT(commit_on(f->byte, DOCUMENT, &p).result == LANOLIN_OK);
     }
 }
 
 static void test_forward(void) {
-    test_forward_just_fits();
+    for (int i = 0; i < 2; i++) test_forward_just_fits(&FLASH[i]);
     test_forward_of_an_earlier_commit();
     test_forward_of_others();
     test_forward_is_not_looked_at();
     test_forward_of_too_many();
-    test_forward_stopped();
+    for (int i = 0; i < 2; i++) test_forward_stopped(&FLASH[i]);
 }
 
 /* ---- document 02, L6: a fetch again, from the end of a record that is known */
@@ -1087,7 +1154,7 @@ static int32_t committed(const lanolin_entry *entries, size_t count, const uint8
     memset(c1, 0xff, sizeof c1);
     memcpy(c0, LISTED, sizeof LISTED);
     const lanolin_geometry g = {4096, 16};
-    return lanolin_commit(g, c0, 4096, c1, 4096, 0, 1, 0, 0, DOCUMENT, entries, count, data, size).result;
+    return lanolin_commit(g, c0, 4096, c1, 4096, 0, 1, 0, 0, DOCUMENT, ONES, entries, count, data, size).result;
 }
 
 static void test_names_of_refusals(void) {
@@ -1102,44 +1169,160 @@ static void test_names_of_refusals(void) {
     EXPECT(committed(&deadline, 1, LISTED, 4) == LANOLIN_OK && committed(&absent, 1, NULL, 0) == LANOLIN_ERR_BADENTRY);
     EXPECT(committed(&deadline, 1, COINCIDES, 4) == LANOLIN_ERR_COINCIDENCE);
     memcpy(c0, b0, sizeof c0);
-    EXPECT(lanolin_commit(G, c0, 128, b1, 128, 0, 1, 0, 0, DOCUMENT, &large, 1, b1, 69).result == LANOLIN_ERR_NOSPC);
+    EXPECT(lanolin_commit(G, c0, 128, b1, 128, 0, 1, 0, 0, DOCUMENT, ONES, &large, 1, b1, 69).result ==
+           LANOLIN_ERR_NOSPC);
     lay_one(block, lanolin_mktag(LANOLIN_TYPE_REG, 0, 4), LISTED + 12, 4); /* a name without its create */
     memset(erased, 0xff, sizeof erased);
-    EXPECT(lanolin_compact((lanolin_geometry){512, 16}, block, 512, erased, 512, 0, 1, 0, 0, DOCUMENT).result ==
+    EXPECT(lanolin_compact((lanolin_geometry){512, 16}, block, 512, erased, 512, 0, 1, 0, 0, DOCUMENT, ONES).result ==
            LANOLIN_ERR_IRREGULAR);
 }
 
 /* A commit of nothing, and its twin with a limit, which refuse alike. */
-static lanolin_committed bare(uint32_t prog_size, uint8_t *block) {
+static lanolin_committed bare(const flash *f, uint32_t prog_size, uint8_t *block) {
     const lanolin_geometry g = {128, prog_size};
-    lanolin_committed c = lanolin_commit(g, block, 128, b1, 128, 0, 1, 0, 0, DOCUMENT, NULL, 0, NULL, 0);
-    lanolin_stored s = lanolin_commit_stores(g, block, 128, b1, 128, 0, 1, 0, 0, DOCUMENT, NULL, 0, NULL, 0, 5);
+    const uint8_t erased = f->byte;
+    lanolin_committed c = lanolin_commit(g, block, 128, b1, 128, 0, 1, 0, 0, DOCUMENT, erased, NULL, 0, NULL, 0);
+    lanolin_stored s = lanolin_commit_stores(g, block, 128, b1, 128, 0, 1, 0, 0, DOCUMENT, erased, NULL, 0, NULL, 0, 5);
     EXPECT(s.result == c.result && s.index == c.index && s.stores == 0);
     return c;
 }
 
 /* Why there is no room, each reason alone and then together: the listing's end, 48, is no multiple of 32; behind a
- * check of type 0x501 the end tag's top bit is set; of the bytes behind the end the first that isn't erased is named.
- */
-static void test_no_room(void) {
-    static const uint8_t CHECK[8] = {0x67, 0x5f, 0xfc, 0x09, 0x37, 0x9b, 0xc2, 0x51}; /* as in samples/writes/cases */
+ * check of the other kind the end tag's top bit is the wrong one; of the bytes behind the end the first that isn't
+ * erased is named. */
+static void test_no_room(const flash *f, const flash *other) {
     uint8_t c0[128];
     lanolin_committed c;
-    memcpy(c0, b0, sizeof c0);
-    EXPECT(bare(32, c0).result == LANOLIN_ERR_MISALIGNED && bare(32, c0).index == 0);
-    c0[127] = 0;
-    c0[70] = 0xfe;
-    c = bare(16, c0);
+    list_on(f, c0, sizeof c0);
+    EXPECT(bare(f, 32, c0).result == LANOLIN_ERR_MISALIGNED && bare(f, 32, c0).index == 0);
+    c0[127] = other->byte;
+    c0[70] = f->byte ^ 1;
+    c = bare(f, 16, c0);
     EXPECT(c.result == LANOLIN_ERR_NOTERASED && c.index == 70 && c.dir.off == 0 && c.seed == 0);
-    EXPECT(bare(32, c0).result == LANOLIN_ERR_MISALIGNED && bare(32, c0).index == 0);
-    memcpy(c0 + 31, CHECK, sizeof CHECK);
-    EXPECT(bare(16, c0).result == LANOLIN_ERR_TOPBIT && bare(16, c0).index == 0);
-    EXPECT(bare(32, c0).result == LANOLIN_ERR_MISALIGNED);
-    c0[127] = c0[70] = 0xff;
-    EXPECT(bare(16, c0).result == LANOLIN_ERR_TOPBIT && bare(32, c0).result == LANOLIN_ERR_MISALIGNED);
+    EXPECT(bare(f, 32, c0).result == LANOLIN_ERR_MISALIGNED && bare(f, 32, c0).index == 0);
+    memcpy(c0 + 31, other->check, 8);
+    EXPECT(bare(f, 16, c0).result == LANOLIN_ERR_VALIDITY && bare(f, 16, c0).index == 0);
+    EXPECT(bare(f, 32, c0).result == LANOLIN_ERR_MISALIGNED);
+    c0[127] = c0[70] = f->byte;
+    EXPECT(bare(f, 16, c0).result == LANOLIN_ERR_VALIDITY && bare(f, 32, c0).result == LANOLIN_ERR_MISALIGNED);
     int32_t sum = 0;
     for (int32_t number = -300; number <= 0; number++) sum += LANOLIN_NEEDS_COMPACTION(number) ? number : 0;
     EXPECT(sum == -28 - 211 - 212 - 213);
+}
+
+/* ---- document 02, L7: the erased byte */
+
+/* A byte that is neither of the two is -22, before fetch's own -84 and -2 and before -202; also where the room is of
+ * that byte, and where a number is no rule. */
+static void test_no_erased_byte(void) {
+    images good = listing(), erased, crowded, named, own;
+    memset(&erased, ONES, sizeof erased);
+    named = crowded = erased;
+    lay_one(named.b0, lanolin_mktag(LANOLIN_TYPE_REG, 0, 4), LISTED + 12, 4);
+    lay_one(crowded.b0, lanolin_mktag(LANOLIN_TYPE_REG, LANOLIN_SLOTS_MAX, 4), LISTED + 12, 4);
+    for (int byte = 1; byte < 0xff; byte++) {
+        const uint8_t none = (uint8_t)byte;
+        memset(&own, none, sizeof own);
+        memcpy(own.b0, good.b0, 48);
+        EXPECT(all_refuse_on(none, DOCUMENT, &good, LANOLIN_ERR_INVAL));
+        EXPECT(all_refuse_on(none, LITTLEFS, &own, LANOLIN_ERR_INVAL));
+        EXPECT(all_refuse_on(none, 2, &own, LANOLIN_ERR_INVAL));
+        EXPECT(all_refuse_on(none, DOCUMENT, &erased, LANOLIN_ERR_INVAL));
+        EXPECT(all_refuse_on(none, DOCUMENT, &named, LANOLIN_ERR_INVAL));
+        EXPECT(all_refuse_on(none, LITTLEFS, &crowded, LANOLIN_ERR_INVAL));
+    }
+    EXPECT(all_refuse_on(ZEROS, DOCUMENT, &erased, LANOLIN_ERR_CORRUPT));
+    EXPECT(all_refuse_on(ZEROS, DOCUMENT, &named, LANOLIN_ERR_IRREGULAR));
+    EXPECT(commit_on(ZEROS, LITTLEFS, &crowded).result == LANOLIN_ERR_NOENT);
+    memset(&erased, ZEROS, sizeof erased); /* flash of zeros that nothing was written to */
+    EXPECT(all_refuse_on(ZEROS, DOCUMENT, &erased, LANOLIN_ERR_CORRUPT));
+}
+
+/* A pair of one board on another: its last commit is of one kind, what stands behind it of one, and one is given. A
+ * commit is taken where all three are the same; a compaction always, and then a commit. */
+static void test_moved(const flash *was, const flash *room, const flash *now) {
+    images p = listing_on(room), before;
+    list_on(was, p.b0, 48);
+    before = p;
+    lanolin_committed c = commit_on(now->byte, DOCUMENT, &p);
+    if (was == now && room == now) EXPECT(c.result == LANOLIN_OK && c.dir.off == 80);
+    else if (was == now) EXPECT(c.result == LANOLIN_ERR_NOTERASED && c.index == 48);
+    else EXPECT(c.result == LANOLIN_ERR_VALIDITY && c.index == 0);
+    if (c.result) EXPECT(!memcmp(&p, &before, sizeof p) && is_no_dir(c.dir) && c.seed == 7);
+    p = before;
+    c = compact_on(now->byte, DOCUMENT, &p);
+    EXPECT(c.result == LANOLIN_OK && c.dir.pair[0] == 1 && c.dir.etag == now->end_tag + 17 && c.dir.erased);
+    EXPECT(!memcmp(p.b0, before.b0, 512) && is_erased(now, p.b1 + 51, 512 - 51));
+    c = commit_on(now->byte, DOCUMENT, &p);
+    EXPECT(c.result == LANOLIN_OK && c.dir.off == 96 && c.dir.etag == now->end_tag + 8 && c.dir.erased);
+    EXPECT(has_forward(c.dir, 16, now->unit_sum) && is_erased(now, p.b1 + 92, 512 - 92));
+    EXPECT(look_in(&p, c.dir, LANOLIN_MASK_TYPE, 0x374, 0).tag == 0x37400004);
+}
+
+/* A log of commits of both kinds, by turns: after each the rest of the block is as another board reads it. It is read,
+ * refetched and found in as one of one kind, and goes on with the byte of its last commit alone. */
+static void test_both_kinds(int first) {
+    images p = listing_on(&FLASH[first]);
+    lanolin_fetched known = lanolin_fetch(WIDE, p.b0, 512, p.b1, 512, 0, 1, 0, 7);
+    const uint8_t *name = LISTED + 12;
+    for (int i = 1; i < 8; i++) {
+        const flash *last = &FLASH[(first + i + 1) % 2], *now = &FLASH[(first + i) % 2];
+        lanolin_mdir dir = lanolin_fetch(WIDE, p.b0, 512, p.b1, 512, 0, 1, 0, 7).dir;
+        EXPECT(dir.off == 16u + 32 * (uint32_t)i && dir.etag >> 31 == last->end_tag >> 31);
+        EXPECT(commit_on(now->byte, DOCUMENT, &p).result == LANOLIN_ERR_VALIDITY);
+        memset(p.b0 + dir.off, now->byte, 512 - dir.off);
+        EXPECT(commit_on(last->byte, DOCUMENT, &p).result == LANOLIN_ERR_NOTERASED);
+        /* another writer's commit: a check alone, up to the next 32 bytes */
+        uint32_t check = (now->end_tag & 0x7fffffff) + 28;
+        EXPECT(lanolin_put_be32(p.b0, 512, dir.off, dir.etag ^ check) == 0);
+        EXPECT(lanolin_put_le32(p.b0, 512, dir.off + 4, lanolin_crc(0xffffffff, p.b0 + dir.off, 4)) == 0);
+        lanolin_fetched f = lanolin_fetch(WIDE, p.b0, 512, p.b1, 512, 0, 1, 0, 7);
+        EXPECT(f.result == LANOLIN_OK && f.dir.off == dir.off + 32 && f.dir.etag == now->end_tag + 28);
+        lanolin_fetched again = lanolin_refetch(WIDE, p.b0, 512, p.b1, 512, 0, 1, 0, known.seed, known.dir);
+        EXPECT(again.result == LANOLIN_OK && same_dir(again.dir, f.dir) && again.seed == f.seed);
+        EXPECT(look_in(&p, f.dir, LANOLIN_MASK_TYPE, 0x374, 0).off == 27);
+        EXPECT(is_at(lanolin_find(WIDE, p.b0, 512, p.b1, 512, 0, 1, 0, 7, DOCUMENT, name, 4, LANOLIN_TYPE_REG), 0));
+        for (int j = 0; j < 2; j++) {
+            images copy = p;
+            lanolin_committed c = commit_on(FLASH[j].byte, DOCUMENT, &copy);
+            if (&FLASH[j] == now) EXPECT(c.result == LANOLIN_OK && c.dir.off == f.dir.off + 32);
+            else EXPECT(c.result == LANOLIN_ERR_VALIDITY);
+            copy = p;
+            c = compact_on(FLASH[j].byte, DOCUMENT, &copy);
+            EXPECT(c.result == LANOLIN_OK && c.dir.off == 64 && c.dir.etag == FLASH[j].end_tag + 17);
+        }
+    }
+}
+
+/* The coincidence on zeros: data that samples/make_writes.py solved for, behind one and two of the check tag's bytes.
+ * Cut there, what is stored would be read as a whole commit; on ones, and with a bit altered, it is none. */
+static void test_coincidence_on_zeros(void) {
+    static const uint8_t DATA[2][4] = {{0xdf, 0xa9, 0xf8, 0xfa}, {0x89, 0xdd, 0xad, 0xa9}};
+    for (int i = 0; i < 2; i++) {
+        uint8_t listed[128], c0[128], c1[128], data[4];
+        list_on(&FLASH[1], listed, 128);
+        memset(c1, ZEROS, sizeof c1);
+        memcpy(c0, listed, 128);
+        memcpy(data, DATA[i], 4);
+        lanolin_committed c = lanolin_commit(G, c0, 128, c1, 128, 0, 1, 0, 7, DOCUMENT, ZEROS, &DEADLINE, 1, data, 4);
+        EXPECT(c.result == LANOLIN_ERR_COINCIDENCE && c.index == 0 && c.seed == 7 && is_no_dir(c.dir));
+        EXPECT(!memcmp(c0, listed, 128));
+        memcpy(c0 + 48, FLASH[1].more, 21 + i);
+        memcpy(c0 + 52, data, 4);
+        EXPECT(lanolin_fetch(G, c0, 128, c1, 128, 0, 1, 0, 7).dir.off == 80);
+        memcpy(c0, listed, 128);
+        data[0] ^= 1;
+        EXPECT(!lanolin_commit(G, c0, 128, c1, 128, 0, 1, 0, 7, DOCUMENT, ZEROS, &DEADLINE, 1, data, 4).result);
+        list_on(&FLASH[0], c0, 128);
+        EXPECT(!lanolin_commit(G, c0, 128, c1, 128, 0, 1, 0, 7, DOCUMENT, ONES, &DEADLINE, 1, DATA[i], 4).result);
+    }
+}
+
+static void test_erased(void) {
+    test_no_erased_byte();
+    for (int i = 0; i < 8; i++) test_moved(&FLASH[i & 1], &FLASH[i >> 1 & 1], &FLASH[i >> 2]);
+    for (int i = 0; i < 2; i++) test_both_kinds(i);
+    test_coincidence_on_zeros();
 }
 
 /* Every type that a commit takes; behind the delete of slot 0 the other ids are one less. */
@@ -1164,9 +1347,9 @@ static void test_names_of_types(void) {
     memset(c0, 0xff, sizeof c0);
     memset(c1, 0xff, sizeof c1);
     memcpy(c0, LISTED, sizeof LISTED);
-    lanolin_mdir dir = lanolin_commit(g, c0, 512, c1, 512, 0, 1, 0, 0, DOCUMENT, ENTRIES, 15, WORDS, 12).dir;
+    lanolin_mdir dir = lanolin_commit(g, c0, 512, c1, 512, 0, 1, 0, 0, DOCUMENT, ONES, ENTRIES, 15, WORDS, 12).dir;
     EXPECT(dir.count == 3 && !dir.split && dir.tail[0] == 5 && dir.tail[1] == 6);
-    dir = lanolin_commit(g, c0, 512, c1, 512, 0, 1, 0, 0, DOCUMENT, &HARD, 1, WORDS, 12).dir;
+    dir = lanolin_commit(g, c0, 512, c1, 512, 0, 1, 0, 0, DOCUMENT, ONES, &HARD, 1, WORDS, 12).dir;
     EXPECT(dir.count == 3 && dir.split && dir.tail[0] == 4 && dir.tail[1] == 5);
     EXPECT(lanolin_tag_type2(dir.etag) == LANOLIN_TYPE_CCRC && lanolin_tag_id(dir.etag) == LANOLIN_NO_SLOT);
     for (uint32_t id = 0; id < 3; id++) {
@@ -1203,7 +1386,7 @@ static void test_names_of_what_is_read(void) {
     const lanolin_entry superblock = {LANOLIN_TYPE_SUPERBLOCK, 0, 0, 8};
     const lanolin_entry given = {LANOLIN_TYPE_FCRC, LANOLIN_NO_SLOT, 0, 8};
     EXPECT(committed(&superblock, 1, (const uint8_t *)"littlefs", 8) == LANOLIN_ERR_BADENTRY);
-    EXPECT(committed(&given, 1, MORE + 12, 8) == LANOLIN_ERR_BADENTRY); /* that of 16 erased bytes too */
+    EXPECT(committed(&given, 1, FLASH[0].more + 12, 8) == LANOLIN_ERR_BADENTRY); /* that of 16 erased bytes too */
     memset(other, 0xff, sizeof other);
     lay_named(block, LANOLIN_TYPE_SUPERBLOCK, (const uint8_t *)"littlefs", 8);
     lanolin_mdir dir = lanolin_fetch(g, block, 512, other, 512, 0, 1, 0, 0).dir;
@@ -1212,7 +1395,7 @@ static void test_names_of_what_is_read(void) {
     EXPECT(got.result == LANOLIN_OK && lanolin_tag_type3(got.tag) == LANOLIN_TYPE_SUPERBLOCK);
     lanolin_info info = lanolin_getinfo(g, block, 512, other, 512, 0, 1, dir, STILL, LANOLIN_NAME_MAX, 0);
     EXPECT(info.result == LANOLIN_ERR_NOENT); /* it looks for names under 0x780, as littlefs's own */
-    EXPECT(lanolin_compact(g, block, 512, other, 512, 0, 1, 0, 0, DOCUMENT).result == LANOLIN_OK);
+    EXPECT(lanolin_compact(g, block, 512, other, 512, 0, 1, 0, 0, DOCUMENT, ONES).result == LANOLIN_OK);
     memset(other, 0xff, sizeof other);
     EXPECT(lanolin_put_le32(forward, 8, 4, lanolin_crc(0xffffffff, other, 4)) == LANOLIN_OK);
     lay_one(block, lanolin_mktag(LANOLIN_TYPE_FCRC, LANOLIN_NO_SLOT, 8), forward, 8);
@@ -1267,8 +1450,8 @@ int main(void) {
     test_tags();
     test_numbers();
     test_pairs_and_states();
-    test_commit();
-    test_compact();
+    for (int i = 0; i < 2; i++) test_commit(&FLASH[i]);
+    for (int i = 0; i < 4; i++) test_compact(&FLASH[i & 1], &FLASH[i >> 1]);
     test_no_rules();
     test_same_under_both();
     test_names_alone();
@@ -1285,7 +1468,8 @@ int main(void) {
     test_forward();
     test_refetch();
     test_names_of_refusals();
-    test_no_room();
+    for (int i = 0; i < 2; i++) test_no_room(&FLASH[i], &FLASH[1 - i]);
+    test_erased();
     test_names_of_types();
     test_names_of_what_is_read();
     test_names_of_limits();

@@ -3,9 +3,12 @@
  * stand in the block where the answer says. Each name is found by lanolin_find too. Then commits to a copy of each, and
  * compacts one, under both rules: by littlefs's no pair is irregular, and after each accepted call all that littlefs
  * shows is shown as before. The forward check of the record is the log's last one; that of a commit is the same whether
- * littlefs wrote it or this library.
+ * littlefs wrote it or this library. Last each pair is brought to a board of the other erased byte: no commit is taken
+ * there before a compaction.
  *
- *     real_test samples/real        prints each difference and exits 1, or four lines with what was compared */
+ *     real_test DIRECTORY ERASED      prints each difference and exits 1, or five lines with what was compared
+ *
+ * DIRECTORY is samples/real, or samples/zero, which has the same pairs laid on 0x00 flash; ERASED is ff or 00. */
 #include "lanolin.h"
 
 #include <stdio.h>
@@ -27,17 +30,23 @@ static char file[256];
 static unsigned pairs, slots, attrs, absent, differences;
 
 /* The ways in which a pair is looked at: first as it is, then written to, a compaction before a commit. */
-enum { AS_IT_IS, COMMITTED, COMPACTED, COMMITTED_BY_LITTLEFS, COMPACTED_BY_LITTLEFS, BOTH_BY_LITTLEFS, WAYS };
-static const struct { const char *what; bool compact, commit; uint32_t rules; } WRITES[WAYS] = {
-    {"as it is", false, false, 0},
-    {"committed to by document 01's rules", false, true, LANOLIN_RULES_DOCUMENT},
-    {"compacted by document 01's rules", true, false, LANOLIN_RULES_DOCUMENT},
-    {"committed to by littlefs's rules", false, true, LANOLIN_RULES_LITTLEFS},
-    {"compacted by littlefs's rules", true, false, LANOLIN_RULES_LITTLEFS},
-    {"compacted and committed to by littlefs's rules", true, true, LANOLIN_RULES_LITTLEFS},
+enum {
+    AS_IT_IS, COMMITTED, COMPACTED, COMMITTED_BY_LITTLEFS, COMPACTED_BY_LITTLEFS, BOTH_BY_LITTLEFS, MOVED, BOTH_MOVED,
+    WAYS
+};
+static const struct { const char *what; bool compact, commit; uint32_t rules; bool moved; } WRITES[WAYS] = {
+    {"as it is", false, false, 0, false},
+    {"committed to by document 01's rules", false, true, LANOLIN_RULES_DOCUMENT, false},
+    {"compacted by document 01's rules", true, false, LANOLIN_RULES_DOCUMENT, false},
+    {"committed to by littlefs's rules", false, true, LANOLIN_RULES_LITTLEFS, false},
+    {"compacted by littlefs's rules", true, false, LANOLIN_RULES_LITTLEFS, false},
+    {"compacted and committed to by littlefs's rules", true, true, LANOLIN_RULES_LITTLEFS, false},
+    {"committed to on a board of the other byte", false, true, LANOLIN_RULES_LITTLEFS, true},
+    {"compacted and committed to on a board of the other byte", true, true, LANOLIN_RULES_LITTLEFS, true},
 };
 static int way;
-static unsigned accepted[WAYS];
+static uint8_t own; /* the erased byte of the pairs */
+static unsigned accepted[WAYS], wrong_validity;
 static bool refused; /* the pair at hand, in this way */
 static unsigned found, nowhere, irregular; /* names asked for, and pairs that are not regular by document 01's rules */
 /* of the logs that littlefs wrote and of those that were written to: whether the last commit carries a forward check */
@@ -46,6 +55,9 @@ static struct { unsigned carried, without; } forward[2];
 /* What a commit sets: an attribute of slot 0 that no pair has. */
 enum { NEW = 0x65 };
 static const uint8_t NEW_DATA[4] = {'n', 'e', 'w', '!'};
+
+/* The erased byte that is given in this way. */
+static uint8_t erased(void) { return WRITES[way].moved ? own ^ 0xff : own; }
 
 static void differs(const char *what, unsigned long id, const char *line) {
     differences++;
@@ -144,7 +156,7 @@ static void check_forward(void) {
     uint32_t entries = carried ? check - 12 : check; /* where they end */
     if (carried != (lanolin_alignup(entries + 12 + 8, prog).value + prog <= at.g.block_size))
         differs("the forward check", 0, "there without room, or missing");
-    memset(unit, 0xff, sizeof unit);
+    memset(unit, erased(), sizeof unit);
     if (carried && (got.tag != 0x5ffffc08 || at.dir.forward_size != prog ||
                     at.dir.forward_sum != lanolin_crc(0xffffffff, unit, prog)))
         differs("the forward check", 0, "not that of an erased unit");
@@ -157,21 +169,32 @@ static bool same_blocks(const pair_t *before) {
     return !memcmp(before->b0, at.b0, sizeof at.b0) && !memcmp(before->b1, at.b1, sizeof at.b1);
 }
 
-/* Writes to the pair as this way says. A refused call alters nothing, and by littlefs's rules no pair is irregular. */
+/* Whether these pairs may be answered so by littlefs's rules: by which none is irregular. A block may be full. On flash
+ * of its own byte a commit is refused else only behind one that was torn, where the room is not marked as erased; on
+ * that of the other byte it is always, since the end tag has the wrong validity bit. */
+static bool may_answer(int32_t result) {
+    if (result == LANOLIN_ERR_NOSPC) return true;
+    if (way == MOVED) return result == LANOLIN_ERR_VALIDITY;
+    return result == LANOLIN_OK || (result == LANOLIN_ERR_NOTERASED && !fetch().dir.erased);
+}
+
+/* Writes to the pair as this way says. A refused call alters nothing. */
 static void write_pair(void) {
     const lanolin_entry entry = {0x300 + NEW, 0, 0, sizeof NEW_DATA};
     const uint32_t size = at.g.block_size, rules = WRITES[way].rules;
     const pair_t before = at;
     const size_t entries = fetch().dir.count > 0; /* without a slot a commit of nothing */
     lanolin_committed c = {0};
-    if (WRITES[way].compact) c = lanolin_compact(at.g, at.b0, size, at.b1, size, at.n0, at.n1, 0, 0, rules);
+    if (WRITES[way].compact) c = lanolin_compact(at.g, at.b0, size, at.b1, size, at.n0, at.n1, 0, 0, rules, erased());
     bool half = WRITES[way].compact && c.result == LANOLIN_OK;
     if (WRITES[way].commit && c.result == LANOLIN_OK)
-        c = lanolin_commit(at.g, at.b0, size, at.b1, size, at.n0, at.n1, 0, 0, rules, &entry, entries, NEW_DATA, 4);
+        c = lanolin_commit(at.g, at.b0, size, at.b1, size, at.n0, at.n1, 0, 0, rules, erased(), &entry, entries,
+                           NEW_DATA, 4);
+    wrong_validity += c.result == LANOLIN_ERR_VALIDITY;
     refused = c.result != LANOLIN_OK;
     accepted[way] += !refused;
     if (refused && !half && !same_blocks(&before)) differs("a block", 0, "altered by a refused call");
-    if (c.result == LANOLIN_ERR_IRREGULAR && rules == LANOLIN_RULES_LITTLEFS) differs("the log", 0, "irregular");
+    if (rules == LANOLIN_RULES_LITTLEFS && !may_answer(c.result)) differs("the result", 0, "none that it may be");
     lanolin_fetched f = fetch();
     if (!refused && way != AS_IT_IS && (f.result || f.seed != c.seed || !same_record(f.dir, c.dir)))
         differs("the answered record", 0, "not what fetch gives");
@@ -180,7 +203,7 @@ static void write_pair(void) {
 /* Whether a compaction, which stores nothing, is refused since the log isn't regular. */
 static bool is_irregular(uint32_t rules) {
     const uint32_t size = at.g.block_size;
-    return lanolin_compact_stores(at.g, at.b0, size, at.b1, size, at.n0, at.n1, 0, 0, rules, 0).result ==
+    return lanolin_compact_stores(at.g, at.b0, size, at.b1, size, at.n0, at.n1, 0, 0, rules, erased(), 0).result ==
            LANOLIN_ERR_IRREGULAR;
 }
 
@@ -315,23 +338,35 @@ static void check_all(const char *directory, const char *path) {
     fclose(f);
 }
 
+/* These ways, one after the other. */
+static void check_ways(int first, int behind, const char *directory, const char *path) {
+    for (way = first; way < behind; way++) check_all(directory, path);
+}
+
 int main(int argc, char **argv) {
     char path[1024];
-    if (argc != 2) return fprintf(stderr, "usage: real_test DIRECTORY   (samples/real)\n"), 2;
+    if (argc != 3 || (strcmp(argv[2], "ff") && strcmp(argv[2], "00")))
+        return fprintf(stderr, "usage: real_test DIRECTORY ERASED   (samples/real ff, samples/zero 00)\n"), 2;
+    own = strcmp(argv[2], "00") ? LANOLIN_ERASED_ONES : LANOLIN_ERASED_ZEROS;
     snprintf(path, sizeof path, "%s/shown.txt", argv[1]);
-    check_all(argv[1], path);
-    printf("real pairs: %u pairs, %u slots, %u attributes, %u missing attributes, %u differences\n", pairs, slots,
+    const char *slash = strrchr(argv[1], '/'), *name = slash ? slash + 1 : argv[1];
+    check_ways(AS_IT_IS, COMMITTED, argv[1], path);
+    printf("%s pairs: %u pairs, %u slots, %u attributes, %u missing attributes, %u differences\n", name, pairs, slots,
            attrs, absent, differences);
-    printf("real pairs, by name: by littlefs's rules %u names found and %u not; %u pairs refused by document 01's; "
+    printf("%s pairs, by name: by littlefs's rules %u names found and %u not; %u pairs refused by document 01's; "
            "%u differences\n",
-           found, nowhere, irregular, differences);
-    for (way = AS_IT_IS + 1; way < WAYS; way++) check_all(argv[1], path);
-    printf("real pairs, written to: by document 01's rules %u committed to and %u compacted, by littlefs's %u and %u, "
+           name, found, nowhere, irregular, differences);
+    check_ways(COMMITTED, MOVED, argv[1], path);
+    printf("%s pairs, written to: by document 01's rules %u committed to and %u compacted, by littlefs's %u and %u, "
            "and %u both; %u differences\n",
-           accepted[COMMITTED], accepted[COMPACTED], accepted[COMMITTED_BY_LITTLEFS], accepted[COMPACTED_BY_LITTLEFS],
-           accepted[BOTH_BY_LITTLEFS], differences);
-    printf("real pairs, forward checks: as littlefs wrote them the last commit of %u carries one, and of %u not; of "
-           "those written to %u and %u; %u differences\n",
-           forward[0].carried, forward[0].without, forward[1].carried, forward[1].without, differences);
+           name, accepted[COMMITTED], accepted[COMPACTED], accepted[COMMITTED_BY_LITTLEFS],
+           accepted[COMPACTED_BY_LITTLEFS], accepted[BOTH_BY_LITTLEFS], differences);
+    printf("%s pairs, forward checks: as they are the last commit of %u carries one, and of %u not; of those written "
+           "to %u and %u; %u differences\n",
+           name, forward[0].carried, forward[0].without, forward[1].carried, forward[1].without, differences);
+    check_ways(MOVED, WAYS, argv[1], path);
+    printf("%s pairs, moved to a board of the other erased byte: %u not committed to for the end tag's validity bit, "
+           "%u compacted and committed to; %u differences\n",
+           name, wrong_validity, accepted[BOTH_MOVED], differences);
     return differences != 0 || pairs == 0;
 }

@@ -1,7 +1,8 @@
 /* How deep each call of the archive really goes: the stack below a call is painted, the call is made, and the paint
- * that is gone is counted. A pair of 32,768-byte blocks with 1,000 slots is read, written and compacted, by both rules,
- * and refused calls are among them. Prints each call's name and the most bytes that it took, return address included: a
- * measure on these inputs, to hold beside the bounds of tools/stack.py. Exits 1 if a call does not answer as it must.
+ * that is gone is counted. A pair of 32,768-byte blocks with 1,000 slots is read, written and compacted, by both rules
+ * and with both erased bytes, and refused calls are among them. Prints each call's name and the most bytes that it
+ * took, return address included: a measure on these inputs, to hold beside the bounds of tools/stack.py. Exits 1 if a
+ * call does not answer as it must.
  *
  * Compiled with -maccumulate-outgoing-args, so that the stack pointer stays where it is in a function that calls, and
  * linked with -z now, since a function of the C library that is bound at its first call goes through the loader. */
@@ -45,11 +46,12 @@ static void took(const char *name, long bytes) {
 
 #define PAIR b0, BLOCK, b1, BLOCK, 0, 1
 enum { DOCUMENT = LANOLIN_RULES_DOCUMENT, LITTLEFS = LANOLIN_RULES_LITTLEFS, NONE };
+enum { ONES = LANOLIN_ERASED_ONES, ZEROS = LANOLIN_ERASED_ZEROS, NO_ERASED = 0x7f };
 
 /* The first commit, a check alone, one program unit long: what a writer finds when it is called for the first time. */
 static void format(uint32_t prog_size) {
-    memset(b0, 0xff, BLOCK);
-    memset(b1, 0xff, BLOCK);
+    memset(b0, ONES, BLOCK);
+    memset(b1, ONES, BLOCK);
     MUST(lanolin_put_le32(b0, BLOCK, 0, 1) == 0);
     MUST(lanolin_put_be32(b0, BLOCK, 4, 0xffffffff ^ lanolin_mktag(0x500, 0x3ff, prog_size - 8)) == 0);
     MUST(lanolin_put_le32(b0, BLOCK, 8, lanolin_crc(0xffffffff, b0, 8)) == 0);
@@ -82,7 +84,7 @@ static void fill(int slots) {
             entries[n++] = (lanolin_entry){0x201, (uint16_t)i, 4, 3};
             entries[n++] = (lanolin_entry){0x374, (uint16_t)i, 7, 4};
         }
-        MUST(lanolin_commit(G, PAIR, 0, 0, DOCUMENT, entries, n, DATA, sizeof DATA).result == 0);
+        MUST(lanolin_commit(G, PAIR, 0, 0, DOCUMENT, ONES, entries, n, DATA, sizeof DATA).result == 0);
     }
 }
 
@@ -127,34 +129,40 @@ static __attribute__((noinline)) void finding(const char *name, uint32_t rules, 
     DEPTH(lanolin_find, G, PAIR, 0, 0, NONE, bytes, n, 0x001);
 }
 
-/* An entry of every kind, and one that is bad. */
-static __attribute__((noinline)) void committing(uint32_t rules) {
+/* An entry of every kind, and one that is bad; the other erased byte, for which the end tag has the wrong bit, a byte
+ * that is none, and a number that is no rule. */
+static __attribute__((noinline)) void committing(uint32_t rules, uint8_t erased) {
     static const uint8_t DATA[16] = "0123456789abcde";
     static const lanolin_entry ENTRIES[] = {
         {0x401, 0, 0, 0},    {0x001, 0, 0, 9}, {0x201, 0, 1, 15}, {0x374, 0, 0, 4}, {0x374, 0, 0, 1023},
         {0x4ff, 0, 0, 0},    {0x002, 1, 0, 3}, {0x200, 1, 0, 8},  {0x202, 2, 0, 8}, {0x601, 0x3ff, 0, 8},
         {0x7ff, 0x3ff, 0, 12}, {0x500, 0, 0, 0}};
     const size_t good = sizeof ENTRIES / sizeof *ENTRIES - 1;
-    lanolin_stored half = lanolin_commit_stores(G, PAIR, 0, 0, rules, ENTRIES, good, DATA, sizeof DATA, 0);
+    lanolin_stored half = lanolin_commit_stores(G, PAIR, 0, 0, rules, erased, ENTRIES, good, DATA, sizeof DATA, 0);
     MUST(half.result == 0);
-    DEPTH(lanolin_commit_stores, G, PAIR, 0, 0, rules, ENTRIES, good + 1, DATA, sizeof DATA, 100);
-    DEPTH(lanolin_commit, G, PAIR, 0, 0, rules, ENTRIES, good + 1, DATA, sizeof DATA);
-    DEPTH(lanolin_commit, G, PAIR, 0, 0, rules, ENTRIES, good, DATA, sizeof DATA);
-    DEPTH(lanolin_commit_stores, G, PAIR, 0, 0, rules, ENTRIES, good, DATA, sizeof DATA, 50);
-    DEPTH(lanolin_commit, G, PAIR, 0, 0, rules, ENTRIES, good, DATA, sizeof DATA); /* torn: -213 */
-    MUST(lanolin_commit(G, PAIR, 0, 0, rules, ENTRIES, good, DATA, sizeof DATA).result == -213);
-    DEPTH(lanolin_commit, G, PAIR, 1, 0, rules, ENTRIES, good, DATA, sizeof DATA);
-    DEPTH(lanolin_commit, G, PAIR, 0, 0, NONE, ENTRIES, good, DATA, sizeof DATA);
+    const uint8_t other = erased ^ 0xff;
+    MUST(lanolin_commit(G, PAIR, 0, 0, rules, other, ENTRIES, good, DATA, sizeof DATA).result == LANOLIN_ERR_VALIDITY);
+    DEPTH(lanolin_commit, G, PAIR, 0, 0, rules, other, ENTRIES, good, DATA, sizeof DATA);
+    DEPTH(lanolin_commit_stores, G, PAIR, 0, 0, rules, erased, ENTRIES, good + 1, DATA, sizeof DATA, 100);
+    DEPTH(lanolin_commit, G, PAIR, 0, 0, rules, erased, ENTRIES, good + 1, DATA, sizeof DATA);
+    DEPTH(lanolin_commit, G, PAIR, 0, 0, rules, erased, ENTRIES, good, DATA, sizeof DATA);
+    DEPTH(lanolin_commit_stores, G, PAIR, 0, 0, rules, erased, ENTRIES, good, DATA, sizeof DATA, 50);
+    DEPTH(lanolin_commit, G, PAIR, 0, 0, rules, erased, ENTRIES, good, DATA, sizeof DATA); /* torn: -213 */
+    MUST(lanolin_commit(G, PAIR, 0, 0, rules, erased, ENTRIES, good, DATA, sizeof DATA).result == -213);
+    DEPTH(lanolin_commit, G, PAIR, 1, 0, rules, erased, ENTRIES, good, DATA, sizeof DATA);
+    DEPTH(lanolin_commit, G, PAIR, 0, 0, NONE, erased, ENTRIES, good, DATA, sizeof DATA);
+    DEPTH(lanolin_commit, G, PAIR, 0, 0, rules, NO_ERASED, ENTRIES, good, DATA, sizeof DATA);
 }
 
-static __attribute__((noinline)) void compacting(uint32_t rules) {
+static __attribute__((noinline)) void compacting(uint32_t rules, uint8_t erased) {
     uint32_t answers = lanolin_fetch(G, PAIR, 0, 0).dir.pair[0];
-    DEPTH(lanolin_compact_stores, G, PAIR, 0, 0, rules, 1000);
-    DEPTH(lanolin_compact, G, PAIR, 0, 0, rules);
+    DEPTH(lanolin_compact_stores, G, PAIR, 0, 0, rules, erased, 1000);
+    DEPTH(lanolin_compact, G, PAIR, 0, 0, rules, erased);
     MUST(lanolin_fetch(G, PAIR, 0, 0).dir.pair[0] != answers);
-    DEPTH(lanolin_compact, G, PAIR, 0, 0, rules);
-    DEPTH(lanolin_compact_stores, G, PAIR, 0, 0, rules, 0xffffffff);
-    DEPTH(lanolin_compact, G, PAIR, 1, 0, rules);
+    DEPTH(lanolin_compact, G, PAIR, 0, 0, rules, erased);
+    DEPTH(lanolin_compact_stores, G, PAIR, 0, 0, rules, erased, 0xffffffff);
+    DEPTH(lanolin_compact, G, PAIR, 1, 0, rules, erased);
+    DEPTH(lanolin_compact, G, PAIR, 0, 0, rules, NO_ERASED);
     MUST(lanolin_fetch(G, PAIR, 0, 0).dir.count == SLOTS);
 }
 
@@ -163,14 +171,14 @@ static __attribute__((noinline)) void without_forward(void) {
     const lanolin_geometry one = {128, 128}, two = {256, 128};
     lanolin_mdir dir;
     format(128);
-    DEPTH(lanolin_compact, one, b0, 128, b1, 128, 0, 1, 0, 0, DOCUMENT);
+    DEPTH(lanolin_compact, one, b0, 128, b1, 128, 0, 1, 0, 0, DOCUMENT, ONES);
     dir = lanolin_fetch(one, b0, 128, b1, 128, 0, 1, 0, 0).dir;
     MUST(dir.pair[0] == 1 && dir.off == 128 && !dir.forward);
     format(128);
-    DEPTH(lanolin_commit, two, b0, 256, b1, 256, 0, 1, 0, 0, DOCUMENT, NULL, 0, NULL, 0);
+    DEPTH(lanolin_commit, two, b0, 256, b1, 256, 0, 1, 0, 0, DOCUMENT, ONES, NULL, 0, NULL, 0);
     dir = lanolin_fetch(two, b0, 256, b1, 256, 0, 1, 0, 0).dir;
     MUST(dir.off == 256 && !dir.forward);
-    DEPTH(lanolin_compact, two, b0, 256, b1, 256, 0, 1, 0, 0, DOCUMENT); /* here one is */
+    DEPTH(lanolin_compact, two, b0, 256, b1, 256, 0, 1, 0, 0, DOCUMENT, ONES); /* here one is */
     dir = lanolin_fetch(two, b0, 256, b1, 256, 0, 1, 0, 0).dir;
     MUST(dir.off == 128 && dir.forward && dir.erased);
 }
@@ -212,19 +220,22 @@ int main(void) {
     leaves();
     without_forward();
     format(PROG);
-    DEPTH(lanolin_compact, G, PAIR, 0, 0, DOCUMENT); /* no slot */
+    DEPTH(lanolin_compact, G, PAIR, 0, 0, DOCUMENT, ONES); /* no slot */
     fill(SLOTS);
     reading();
     finding("q212", DOCUMENT, LANOLIN_OK);
-    committing(DOCUMENT);
+    committing(DOCUMENT, ONES);
     finding("q212", DOCUMENT, LANOLIN_OK); /* a delete and a rename are in the log */
-    compacting(DOCUMENT);
+    compacting(DOCUMENT, ONES);
+    DEPTH(lanolin_compact, G, PAIR, 0, 0, DOCUMENT, ZEROS); /* moved to a board of the other byte */
+    committing(DOCUMENT, ZEROS);
+    compacting(DOCUMENT, ZEROS);
     name_all(SLOTS);
     finding("\xff", DOCUMENT, LANOLIN_ERR_IRREGULAR);
     finding("\xff", LITTLEFS, LANOLIN_OK);
-    DEPTH(lanolin_compact, G, PAIR, 0, 0, DOCUMENT); /* -202 */
-    committing(LITTLEFS);
-    compacting(LITTLEFS);
+    DEPTH(lanolin_compact, G, PAIR, 0, 0, DOCUMENT, ONES); /* -202 */
+    committing(LITTLEFS, ONES);
+    compacting(LITTLEFS, ONES);
     for (int i = 0; calls[i].name; i++) printf("%s %ld\n", calls[i].name, calls[i].most);
     return 0;
 }

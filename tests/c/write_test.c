@@ -65,31 +65,34 @@ static void print_record(lanolin_mdir dir) {
 }
 
 static void run(char *line) {
-    char *field[14];
-    for (int i = 0; i < 14; i++) {
+    enum { FIELDS = 15 };
+    char *field[FIELDS];
+    for (int i = 0; i < FIELDS; i++) {
         field[i] = line;
-        line = strchr(line, i < 13 ? ' ' : '\n');
+        line = strchr(line, i < FIELDS - 1 ? ' ' : '\n');
         if (!line) broken("too few fields");
         *line++ = 0;
     }
     lanolin_geometry g = {(uint32_t)atol(field[2]), (uint32_t)atol(field[3])};
     uint32_t n0 = (uint32_t)atol(field[4]), n1 = (uint32_t)atol(field[5]), count = (uint32_t)atol(field[6]),
              seed = (uint32_t)atol(field[7]), rules = (uint32_t)atol(field[8]);
-    size_t l0 = bytes_of(field[10], b0), l1 = bytes_of(field[11], b1), e = entries_of(field[12]),
-           d = bytes_of(field[13], data);
-    int commit = !strcmp(field[1], "commit"), limited = strcmp(field[9], "-");
+    uint8_t erased = (uint8_t)strtoul(field[9], NULL, 16);
+    size_t l0 = bytes_of(field[11], b0), l1 = bytes_of(field[12], b1), e = entries_of(field[13]),
+           d = bytes_of(field[14], data);
+    int commit = !strcmp(field[1], "commit"), limited = strcmp(field[10], "-");
     printf("%s: ", field[0]);
     if (limited) {
-        uint32_t limit = (uint32_t)atol(field[9]);
-        lanolin_stored s =
-            commit ? lanolin_commit_stores(g, b0, l0, b1, l1, n0, n1, count, seed, rules, entries, e, data, d, limit)
-                   : lanolin_compact_stores(g, b0, l0, b1, l1, n0, n1, count, seed, rules, limit);
+        uint32_t limit = (uint32_t)atol(field[10]);
+        lanolin_stored s = commit
+                               ? lanolin_commit_stores(g, b0, l0, b1, l1, n0, n1, count, seed, rules, erased, entries,
+                                                       e, data, d, limit)
+                               : lanolin_compact_stores(g, b0, l0, b1, l1, n0, n1, count, seed, rules, erased, limit);
         if (s.result == 0) printf("made %u", s.stores);
         else printf("refused %d index %u", s.result, s.index);
     } else {
         lanolin_committed c =
-            commit ? lanolin_commit(g, b0, l0, b1, l1, n0, n1, count, seed, rules, entries, e, data, d)
-                   : lanolin_compact(g, b0, l0, b1, l1, n0, n1, count, seed, rules);
+            commit ? lanolin_commit(g, b0, l0, b1, l1, n0, n1, count, seed, rules, erased, entries, e, data, d)
+                   : lanolin_compact(g, b0, l0, b1, l1, n0, n1, count, seed, rules, erased);
         if (c.result == 0) print_record(c.dir);
         else printf("refused %d index %u", c.result, c.index);
     }

@@ -1,7 +1,7 @@
 #!/usr/bin/env bash
 # The example that writes, on the listing's pair, on pairs a step from it and on pairs that a real littlefs wrote: for
-# each reason why there is no room, what it says, and the deadline afterwards. What it refuses leaves the file as it
-# was.
+# each reason why there is no room, what it says, and the deadline afterwards; with both erased bytes, on pairs of that
+# flash and of the other. What it refuses leaves the file as it was.
 #
 #     set_deadline.sh SET_DEADLINE DEADLINE     the commands that set and print a deadline
 set -euo pipefail
@@ -9,7 +9,7 @@ set=$1 get=$2
 pair=$(mktemp)
 trap 'rm -f "$pair" "$pair.full"' EXIT
 
-# tried OFFSET BYTES PROG_SIZE SAID: the listing's pair with these bytes at this offset
+# tried OFFSET BYTES 'PROG_SIZE [ERASED]' SAID: the listing's pair with these bytes at this offset
 tried() {
   cp samples/q212.pair "$pair"
   printf "$2" | dd of="$pair" bs=1 seek="$1" conv=notrunc status=none
@@ -22,7 +22,16 @@ tried 0 '' 16 "committed: revision 1, end 80"
 # the log ends at 48, no multiple of 32; a compaction ends at 64, and the commit behind it at 96, by both program sizes
 tried 0 '' 32 "no room, -211: the log's end is no multiple of the program size\n$again 96"
 # its check as one of type 0x501, and the checksum of that
-tried 32 '\x5f\xfc\x09\x37\x9b\xc2\x51' 16 "no room, -212: the end tag's top bit is set\n$again 96"
+moved="no room, -212: the end tag has the wrong validity bit"
+tried 32 '\x5f\xfc\x09\x37\x9b\xc2\x51' 16 "$moved\n$again 96"
+# the listing brought to 0x00 flash; a commit there, without a forward check, up to 112; and brought back
+tried 0 '' '16 00' "$moved\n$again 96"
+$set "$pair" 0 7 16 00 | diff - <(echo "committed: revision 2, end 112")
+$set "$pair" 0 8 16 ff | diff - <(printf "$moved\ncompacted\ncommitted: revision 3, end 96\n")
+$get "$pair" 0 | diff - <(echo 8)
+# a check of 0x00 flash before a room of 0xff: not erased, though nothing was written there
+tried 32 '\x5f\xfc\x09\x37\x9b\xc2\x51' '16 00' \
+  "no room, -213: byte 48 isn't erased, as after a commit that was cut short\n$again 96"
 tried 48 '\x67' 16 "no room, -213: byte 48 isn't erased, as after a commit that was cut short\n$again 96"
 tried 100 '\x00' 16 "no room, -213: byte 100 isn't erased, which no commit of ours left\n$again 96"
 # three commits fill the block from 48 on: up to 80, to 112, and without a forward check to 128
@@ -36,11 +45,14 @@ cp samples/instructions.pair "$pair"
 $set "$pair" 8 3600 | diff - <(echo "committed: revision 7, end 464")
 $get "$pair" 8 | diff - <(echo 3600)
 
-# littlefs's own pairs, which have names without creates. real PAIR SLOT SAID
+# littlefs's own pairs, which have names without creates, and the same as they are on 0x00 flash. real PAIR SLOT SAID
 real() {
-  cp "samples/real/$1.pair" "$pair"
-  $set "$pair" "$2" 3600 | diff - <(printf "$3\n")
-  $get "$pair" "$2" | diff - <(echo 3600)
+  local on
+  for on in 'real 16 ff' 'zero 16 00'; do
+    cp "samples/${on%% *}/$1.pair" "$pair"
+    $set "$pair" "$2" 3600 ${on#* } | diff - <(printf "$3\n")
+    $get "$pair" "$2" | diff - <(echo 3600)
+  done
 }
 # in the place of one of eight bytes: 28 bytes behind the end, 256
 real attrs-512-0-1 3 "committed: revision 4, end 288"
@@ -75,6 +87,10 @@ done <<'END'
 2:usage:samples/q212.pair:0 -1
 2:usage:samples/q212.pair:0 3600 x
 2:usage:samples/q212.pair:65536 3600
+2:usage:samples/q212.pair:0 3600 16 7f
+2:usage:samples/q212.pair:0 3600 16 0
+2:usage:samples/q212.pair:0 3600 16 0xff
+2:usage:samples/q212.pair:0 3600 16 ff 00
 END
 printf abc >"$pair" # no two blocks of one size
 for file in "$pair" missing; do

@@ -1,6 +1,7 @@
 #!/usr/bin/env python3
 """Lists every pair of samples/real by littlefs's rule: record, slots and user attributes must be what the littlefs that
-wrote the pairs shows (shown.txt; README.md there has its lines).
+wrote the pairs shows (shown.txt; README.md there has its lines). So it lists those of samples/zero, which are the same
+pairs on 0x00 flash.
 
     tests/listing/real.py samples/real target/bin/list      prints each difference and exits 1, or one line with what
                                                             was compared
@@ -80,7 +81,7 @@ def main(folder, *program):
                 print(f"{shown[0][1]}: {'littlefs shows' if line[0] == '-' else 'listed'}: {line[2:]}")
         for kind in counts:
             counts[kind] += sum(words[0] == kind for words in shown)
-    print(f"real pairs by littlefs's rule: {counts['pair']} pairs, {counts['slot']} slots, "
+    print(f"{os.path.basename(folder)} pairs by littlefs's rule: {counts['pair']} pairs, {counts['slot']} slots, "
           f"{counts['attr']} attributes, {differences} differences")
     return 1 if differences or not all(counts.values()) else 0
 
