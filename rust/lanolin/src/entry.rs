@@ -23,12 +23,13 @@ use crate::names::*;
 ///     Entry::inline_struct(1, 4, 6),
 ///     Entry::user_attr(0x74, 1, 10, 4),
 /// ];
-/// # use lanolin::{Geometry, PairMut, Rules};
+/// # use lanolin::{Erased, Geometry, PairMut, Rules};
 /// # let mut image = *include_bytes!(concat!(env!("CARGO_MANIFEST_DIR"), "/../../samples/q212.pair"));
 /// # let (b0, b1) = image.split_at_mut(128);
 /// # let geometry = Geometry { block_size: 128, prog_size: 16 };
 /// # let mut pair = PairMut { geometry, images: [b0, b1], numbers: [0, 1] };
-/// let record = pair.commit(0, 0, Rules::Document, &entries, &data)?.record;
+/// let (rules, erased) = (Rules::Document, Erased::Ones);
+/// let record = pair.commit(0, 0, rules, erased, &entries, &data)?.record;
 /// assert_eq!(record.count, 2);
 /// # Ok::<(), lanolin::Refusal>(())
 /// ```

@@ -43,6 +43,7 @@
 #![deny(missing_docs, unsafe_code, unsafe_op_in_unsafe_fn)]
 
 mod entry;
+mod erased;
 mod names;
 #[allow(unsafe_code)]
 mod raw;
@@ -50,6 +51,7 @@ mod refusal;
 mod rules;
 
 pub use entry::Entry;
+pub use erased::Erased;
 pub use names::*;
 pub use refusal::Refusal;
 pub use rules::Rules;
@@ -261,7 +263,8 @@ impl Pair<'_> {
     /// # let mut pair = PairMut { geometry, images: [b0, b1], numbers: [0, 1] };
     /// let known = pair.as_pair().fetch(0, 0)?;
     /// let deadline = [Entry::user_attr(0x74, 0, 0, 4)];
-    /// pair.commit(0, 0, Rules::Document, &deadline, &3600u32.to_le_bytes())?;
+    /// let seconds = 3600u32.to_le_bytes();
+    /// pair.commit(0, 0, Rules::Document, Erased::Ones, &deadline, &seconds)?;
     /// let now = pair.as_pair().refetch(0, known)?;
     /// assert_eq!((known.record.off, now.record.off), (48, 80));
     /// assert_eq!(Ok(now), pair.as_pair().fetch(0, 0));
@@ -483,15 +486,16 @@ impl PairMut<'_> {
     }
 
     /// One commit of all the entries, appended to the block that answers, whose
-    /// log is regular by `rules`. Gives what a fetch of the finished pair from the
-    /// same seed gives. At most [`ENTRIES_MAX`] entries and [`DATA_MAX`] bytes of
-    /// data. Behind the entries stands a [`ForwardCheck`], where one fits.
+    /// log is regular by `rules`, on flash that reads as `erased` after an erase.
+    /// Gives what a fetch of the finished pair from the same seed gives. At most
+    /// [`ENTRIES_MAX`] entries and [`DATA_MAX`] bytes of data. Behind the entries
+    /// stands a [`ForwardCheck`], where one fits.
     ///
-    /// Proved: it is accepted exactly when document 01 and the rules say
-    /// (`commit-accepted-exactly`), and lays down exactly its bytes; a refused
-    /// commit alters no byte (`commit-all-refused`). Stopped after any number of
-    /// its stores the pair reads as finished or as never begun; only the old
-    /// record's erased mark may differ (`commit-stopped`).
+    /// Proved: it is accepted exactly when document 01, the rules and the erased
+    /// byte say (`commit-accepted-exactly`), and lays down exactly its bytes; a
+    /// refused commit alters no byte (`commit-all-refused`). Stopped after any
+    /// number of its stores the pair reads as finished or as never begun; only the
+    /// old record's erased mark may differ (`commit-stopped`).
     ///
     /// After a stop the room may be torn: `NotErased`, until [`PairMut::compact`]. Who
     /// has the record from before the commit reads the pair by [`Pair::refetch`].
@@ -507,10 +511,11 @@ impl PairMut<'_> {
     /// let deadline = [Entry::user_attr(0x74, 0, 0, 4)];
     /// let seconds = 3600u32.to_le_bytes();
     /// let rules = Rules::Littlefs; // the pair may be one that littlefs compacted
-    /// let record = match pair.commit(0, 0, rules, &deadline, &seconds) {
+    /// let erased = Erased::Ones; // of this board's flash
+    /// let record = match pair.commit(0, 0, rules, erased, &deadline, &seconds) {
     ///     Err(refusal) if refusal.needs_compaction() => {
-    ///         pair.compact(0, 0, rules)?;
-    ///         pair.commit(0, 0, rules, &deadline, &seconds)?
+    ///         pair.compact(0, 0, rules, erased)?;
+    ///         pair.commit(0, 0, rules, erased, &deadline, &seconds)?
     ///     }
     ///     other => other?,
     /// }
@@ -525,17 +530,19 @@ impl PairMut<'_> {
         block_count: u32,
         seed: u32,
         rules: Rules,
+        erased: Erased,
         entries: &[Entry],
         data: &[u8],
     ) -> Result<Fetched, Refusal> {
-        let answer = raw::commit(self, block_count, seed, rules.number(), entries, data);
+        let (rules, erased) = (rules.number(), erased.byte());
+        let answer = raw::commit(self, block_count, seed, rules, erased, entries, data);
         refusal::of_fetch(answer.result, answer.index, answer.dir.into(), answer.seed)
     }
 
     /// All that the pair holds, whose log is regular by `rules`, as one commit in
-    /// the other block, which is erased first, under the next revision: of each
-    /// slot a create, its name, its struct and its user attributes. Gives what a
-    /// fetch of the finished pair from the same seed gives. It carries a
+    /// the other block, which is erased first, to `erased`, under the next revision:
+    /// of each slot a create, its name, its struct and its user attributes. Gives
+    /// what a fetch of the finished pair from the same seed gives. It carries a
     /// [`ForwardCheck`] as a commit does.
     ///
     /// A full block that littlefs compacted has no creates, and may have no room
@@ -554,7 +561,7 @@ impl PairMut<'_> {
     /// # let (b0, b1) = image.split_at_mut(128);
     /// # let geometry = Geometry { block_size: 128, prog_size: 16 };
     /// # let mut pair = PairMut { geometry, images: [b0, b1], numbers: [0, 1] };
-    /// let record = pair.compact(0, 0, Rules::Document)?.record;
+    /// let record = pair.compact(0, 0, Rules::Document, Erased::Ones)?.record;
     /// assert_eq!((record.pair, record.rev, record.count), ([1, 0], 2, 1));
     /// # Ok::<(), lanolin::Refusal>(())
     /// ```
@@ -563,8 +570,10 @@ impl PairMut<'_> {
         block_count: u32,
         seed: u32,
         rules: Rules,
+        erased: Erased,
     ) -> Result<Fetched, Refusal> {
-        let answer = raw::compact(self, block_count, seed, rules.number());
+        let (rules, erased) = (rules.number(), erased.byte());
+        let answer = raw::compact(self, block_count, seed, rules, erased);
         refusal::of_fetch(answer.result, answer.index, answer.dir.into(), answer.seed)
     }
 }

@@ -1,13 +1,13 @@
 //! The names of `include/lanolin.h` without their `LANOLIN_`, with the same
 //! numbers: the test `the_names_are_the_header_s` holds one against the other.
 //!
-//! What counts memory is a `usize`, a result an `i32`, every other name a `u32`,
-//! as the calls take and give them.
+//! What counts memory is a `usize`, a result an `i32`, an erased byte a `u8`, every
+//! other name a `u32`, as the calls take and give them.
 
 /// The version of the header, major number.
 pub const VERSION_MAJOR: u32 = 0;
 /// The version of the header, minor number.
-pub const VERSION_MINOR: u32 = 7;
+pub const VERSION_MINOR: u32 = 8;
 /// Both: the major number in the upper half, the minor in the lower.
 pub const VERSION: u32 = VERSION_MAJOR << 16 | VERSION_MINOR;
 
@@ -28,8 +28,8 @@ pub const ERR_BADENTRY: i32 = -201;
 pub const ERR_IRREGULAR: i32 = -202;
 /// The number of [`Refusal::Misaligned`](crate::Refusal::Misaligned).
 pub const ERR_MISALIGNED: i32 = -211;
-/// The number of [`Refusal::TopBit`](crate::Refusal::TopBit).
-pub const ERR_TOPBIT: i32 = -212;
+/// The number of [`Refusal::WrongValidity`](crate::Refusal::WrongValidity).
+pub const ERR_VALIDITY: i32 = -212;
 /// The number of [`Refusal::NotErased`](crate::Refusal::NotErased).
 pub const ERR_NOTERASED: i32 = -213;
 /// The number of [`Refusal::Coincidence`](crate::Refusal::Coincidence).
@@ -84,6 +84,11 @@ pub const MASK_CLASS: u32 = 0x700ffc00;
 pub const RULES_DOCUMENT: u32 = 0;
 /// The number of [`Rules::Littlefs`](crate::Rules::Littlefs).
 pub const RULES_LITTLEFS: u32 = 1;
+
+/// The byte of [`Erased::Ones`](crate::Erased::Ones).
+pub const ERASED_ONES: u8 = 0xff;
+/// The byte of [`Erased::Zeros`](crate::Erased::Zeros).
+pub const ERASED_ZEROS: u8 = 0x00;
 
 /// The id of what belongs to no slot: tails, the move state, the root.
 pub const NO_SLOT: u32 = 0x3ff;

@@ -160,12 +160,12 @@ extern "C" {
     ) -> Named;
     fn lanolin_commit(
         geometry: Geometry, b0: *mut u8, b0_len: usize, b1: *mut u8, b1_len: usize,
-        n0: u32, n1: u32, block_count: u32, seed: u32, rules: u32,
+        n0: u32, n1: u32, block_count: u32, seed: u32, rules: u32, erased: u8,
         entries: *const Entry, entries_len: usize, data: *const u8, data_len: usize,
     ) -> Committed;
     fn lanolin_compact(
         geometry: Geometry, b0: *mut u8, b0_len: usize, b1: *mut u8, b1_len: usize,
-        n0: u32, n1: u32, block_count: u32, seed: u32, rules: u32,
+        n0: u32, n1: u32, block_count: u32, seed: u32, rules: u32, erased: u8,
     ) -> Committed;
     fn lanolin_mktag(type_: u32, id: u32, size: u32) -> u32;
     fn lanolin_tag_type3(tag: u32) -> u32;
@@ -263,6 +263,7 @@ pub fn commit(
     count: u32,
     seed: u32,
     rules: u32,
+    erased: u8,
     entries: &[Entry],
     data: &[u8],
 ) -> Committed {
@@ -271,14 +272,24 @@ pub fn commit(
     let (e, el, d, dl) = (entries.as_ptr(), entries.len(), data.as_ptr(), data.len());
     // SAFETY: every slice is valid for its length; the images are lent
     // exclusively, so that none of the four overlaps another.
-    unsafe { lanolin_commit(g, p0, l0, p1, l1, n0, n1, count, seed, rules, e, el, d, dl) }
+    unsafe {
+        lanolin_commit(
+            g, p0, l0, p1, l1, n0, n1, count, seed, rules, erased, e, el, d, dl,
+        )
+    }
 }
 
-pub fn compact(pair: &mut crate::PairMut, block_count: u32, seed: u32, rules: u32) -> Committed {
+pub fn compact(
+    pair: &mut crate::PairMut,
+    count: u32,
+    seed: u32,
+    rules: u32,
+    erased: u8,
+) -> Committed {
     let (g, [b0, b1], [n0, n1]) = (pair.geometry, &mut pair.images, pair.numbers);
     let (p0, l0, p1, l1) = (b0.as_mut_ptr(), b0.len(), b1.as_mut_ptr(), b1.len());
     // SAFETY: as for `commit`.
-    unsafe { lanolin_compact(g, p0, l0, p1, l1, n0, n1, block_count, seed, rules) }
+    unsafe { lanolin_compact(g, p0, l0, p1, l1, n0, n1, count, seed, rules, erased) }
 }
 
 pub fn mktag(type_: u32, id: u32, size: u32) -> u32 {
@@ -346,36 +357,66 @@ mod tests {
         assert_eq!(words(Record::from(odd).into()), (false, 0, 0));
     }
 
+    /// The listing's bytes, or others, as a pair to write.
+    fn pair_of(bytes: &mut [u8; 256]) -> PairMut<'_> {
+        let (b0, b1) = bytes.split_at_mut(128);
+        PairMut {
+            geometry: Geometry {
+                block_size: 128,
+                prog_size: 16,
+            },
+            images: [b0, b1],
+            numbers: [0, 1],
+        }
+    }
+
+    /// A commit and a compaction with these numbers: -22, and no byte altered.
+    fn both_are_invalid(image: [u8; 256], rules: u32, erased: u8) {
+        let mut bytes = image;
+        let mut pair = pair_of(&mut bytes);
+        let answers = [
+            commit(&mut pair, 0, 7, rules, erased, &[], &[]),
+            compact(&mut pair, 0, 7, rules, erased),
+        ];
+        for answer in answers {
+            assert_eq!((answer.result, answer.index), (ERR_INVAL, 0));
+            assert_eq!((Record::from(answer.dir), answer.seed), (NOTHING, 7));
+            // The two words are 0 too, which the record does not show.
+            assert_eq!((answer.dir.forward_size, answer.dir.forward_sum), (0, 0));
+        }
+        assert_eq!(bytes, image);
+    }
+
     /// A number that is no rule, which [`Rules`](crate::Rules) can't give: -22,
     /// also where fetch would answer -84, and no byte altered.
     #[test]
     fn a_number_that_is_no_rule_is_invalid() {
         for image in [LISTING, [0xff; 256]] {
             for rules in [2, 3, 1 << 31, u32::MAX] {
-                let mut bytes = image;
-                let (b0, b1) = bytes.split_at_mut(128);
-                let mut pair = PairMut {
-                    geometry: Geometry {
-                        block_size: 128,
-                        prog_size: 16,
-                    },
-                    images: [b0, b1],
-                    numbers: [0, 1],
-                };
-                let answers = [
-                    commit(&mut pair, 0, 7, rules, &[], &[]),
-                    compact(&mut pair, 0, 7, rules),
-                ];
-                for answer in answers {
-                    assert_eq!((answer.result, answer.index), (ERR_INVAL, 0));
-                    assert_eq!((Record::from(answer.dir), answer.seed), (NOTHING, 7));
-                    // The two words are 0 too, which the record does not show.
-                    assert_eq!((answer.dir.forward_size, answer.dir.forward_sum), (0, 0));
+                for erased in [ERASED_ONES, ERASED_ZEROS] {
+                    both_are_invalid(image, rules, erased);
                 }
+                let mut bytes = image;
+                let pair = pair_of(&mut bytes);
                 let named = find(&pair.as_pair(), 0, 7, rules, b"q212", TYPE_REG);
                 let answer = (named.result, named.found, named.id);
                 assert_eq!(answer, (ERR_INVAL, false, 0));
                 assert_eq!(bytes, image);
+            }
+        }
+    }
+
+    /// The same of a byte that [`Erased`](crate::Erased) can't give, each of them,
+    /// also where the room is of that byte.
+    #[test]
+    fn a_byte_that_is_no_erased_one_is_invalid() {
+        for erased in 0x01..=0xfe {
+            let mut moved = LISTING;
+            moved[48..].fill(erased);
+            for image in [LISTING, [0xff; 256], [erased; 256], moved] {
+                for rules in [RULES_DOCUMENT, RULES_LITTLEFS, 2] {
+                    both_are_invalid(image, rules, erased);
+                }
             }
         }
     }

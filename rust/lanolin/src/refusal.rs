@@ -41,8 +41,10 @@ pub enum Refusal {
     NoSpace,
     /// -211: the log's end is no multiple of the program size. Commit only.
     Misaligned,
-    /// -212: the end tag's top bit is set. Commit only.
-    TopBit,
+    /// -212: the end tag has the wrong validity bit for the
+    /// [`Erased`](crate::Erased) byte given, as in a pair that comes from a board of
+    /// the other. Commit only.
+    WrongValidity,
     /// -213: a byte behind the end isn't erased; the offset in the block of the
     /// first such byte. Commit only.
     NotErased(u32),
@@ -74,7 +76,7 @@ impl Refusal {
             Refusal::Irregular => ERR_IRREGULAR,
             Refusal::NoSpace => ERR_NOSPC,
             Refusal::Misaligned => ERR_MISALIGNED,
-            Refusal::TopBit => ERR_TOPBIT,
+            Refusal::WrongValidity => ERR_VALIDITY,
             Refusal::NotErased(_) => ERR_NOTERASED,
             Refusal::Coincidence => ERR_COINCIDENCE,
             Refusal::Unknown(number) => number,
@@ -93,7 +95,7 @@ impl Refusal {
     pub fn needs_compaction(self) -> bool {
         matches!(
             self,
-            Refusal::NoSpace | Refusal::Misaligned | Refusal::TopBit | Refusal::NotErased(_)
+            Refusal::NoSpace | Refusal::Misaligned | Refusal::WrongValidity | Refusal::NotErased(_)
         )
     }
 }
@@ -110,7 +112,12 @@ impl fmt::Display for Refusal {
             Refusal::Irregular => write!(f, "the log isn't regular"),
             Refusal::NoSpace => write!(f, "no space"),
             Refusal::Misaligned => write!(f, "the end is no multiple of the program size"),
-            Refusal::TopBit => write!(f, "the end tag's top bit is set"),
+            Refusal::WrongValidity => {
+                write!(
+                    f,
+                    "the end tag has the wrong validity bit for the erased byte"
+                )
+            }
             Refusal::NotErased(offset) => {
                 write!(
                     f,
@@ -158,7 +165,7 @@ fn refused(number: i32, index: u32) -> Refusal {
         ERR_IRREGULAR => Refusal::Irregular,
         ERR_NOSPC => Refusal::NoSpace,
         ERR_MISALIGNED => Refusal::Misaligned,
-        ERR_TOPBIT => Refusal::TopBit,
+        ERR_VALIDITY => Refusal::WrongValidity,
         ERR_NOTERASED => Refusal::NotErased(index),
         ERR_COINCIDENCE => Refusal::Coincidence,
         other => Refusal::Unknown(other),

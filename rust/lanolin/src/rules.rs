@@ -18,7 +18,7 @@ use crate::names::*;
 /// There may be more of them one day, so that a `match` needs a last arm.
 ///
 /// ```
-/// use lanolin::{Geometry, PairMut, Refusal, Rules};
+/// use lanolin::{Erased, Geometry, PairMut, Refusal, Rules};
 ///
 /// // A pair that a real littlefs wrote.
 /// let mut image = *include_bytes!(concat!(
@@ -28,10 +28,11 @@ use crate::names::*;
 /// let (b0, b1) = image.split_at_mut(512);
 /// let geometry = Geometry { block_size: 512, prog_size: 16 };
 /// let mut pair = PairMut { geometry, images: [b0, b1], numbers: [0, 1] };
-/// assert_eq!(pair.compact(0, 0, Rules::Document), Err(Refusal::Irregular));
-/// pair.compact(0, 0, Rules::Littlefs)?;
+/// let mut compact = |rules| pair.compact(0, 0, rules, Erased::Ones);
+/// assert_eq!(compact(Rules::Document), Err(Refusal::Irregular));
+/// compact(Rules::Littlefs)?;
 /// // What was compacted here has its creates.
-/// pair.compact(0, 0, Rules::Document)?;
+/// compact(Rules::Document)?;
 /// # Ok::<(), lanolin::Refusal>(())
 /// ```
 #[non_exhaustive]

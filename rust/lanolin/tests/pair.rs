@@ -14,14 +14,18 @@ const CROWDED: &[u8; 256] = include_bytes!("../../../crates/check_edges/data/cou
 const IRREGULAR: &[u8; 256] = include_bytes!("../../../crates/check_edges/data/count-1023");
 /// A yard's instructions (`samples/make_pairs.py`).
 const INSTRUCTIONS: &[u8; 1024] = include_bytes!("../../../samples/instructions.pair");
-/// A pair that a real littlefs compacted: names without creates.
+/// A pair that a real littlefs compacted: names without creates. And the same as
+/// `samples/make_zero.py` lays it on 0x00 flash.
 const REAL: &[u8; 1024] = include_bytes!("../../../samples/real/attrs-512-0-1.pair");
+const REAL_ON_ZEROS: &[u8; 1024] = include_bytes!("../../../samples/zero/attrs-512-0-1.pair");
 const GEOMETRY: Geometry = Geometry {
     block_size: 128,
     prog_size: 16,
 };
 const BY_DOCUMENT: Rules = Rules::Document;
 const BY_LITTLEFS: Rules = Rules::Littlefs;
+const ONES: Erased = Erased::Ones;
+const ZEROS: Erased = Erased::Zeros;
 const NO_TAIL: [u32; 2] = [0xffffffff; 2];
 const NO_MOVE: Gstate = Gstate {
     tag: 0,
@@ -54,6 +58,16 @@ const SECONDS: [u8; 4] = [100, 0, 0, 0];
 const LAID: [u8; 28] = *b"\x67\x4f\xfc\x09\x64\0\0\0\
     \x68\xbf\xfc\x0c\x10\0\0\0\xe5\x39\x4c\xc0\
     \x0f\xf0\0\0\x85\xc9\x5c\x9f";
+
+/// What it says of 16 bytes of 0x00, and its bytes on such flash: the first tag is
+/// chained to an end tag whose top bit is set, and the check is of type 0x501.
+const ZERO_UNIT: Option<ForwardCheck> = Some(ForwardCheck {
+    size: 16,
+    sum: 0x1344b4aa,
+});
+const LAID_ON_ZEROS: [u8; 28] = *b"\xe7\x5f\xfc\x09\x64\0\0\0\
+    \x68\xbf\xfc\x0c\x10\0\0\0\xaa\xb4\x44\x13\
+    \x0f\xe0\0\0\x44\xc5\xcb\xf4";
 
 /// The listing's own deadline: the tag stands at 23, its data at 27.
 const DUE: Result<Found, Refusal> = found(0x37400004, 8, 27);
@@ -104,6 +118,19 @@ fn pair_mut(bytes: &mut [u8]) -> PairMut<'_> {
 fn roomy(block_size: usize) -> Vec<u8> {
     let mut bytes = vec![0xff; 2 * block_size];
     bytes[..128].copy_from_slice(&LISTING[..128]);
+    bytes
+}
+
+/// The listing as it is where its commit was made on one kind of flash, and what
+/// stands behind it is of one: on zeros its check is of type 0x501, with the
+/// checksum that `samples/writer.py` gives it.
+fn listing_on(commit: Erased, room: Erased) -> [u8; 256] {
+    let mut bytes = *LISTING;
+    if commit == ZEROS {
+        bytes[32] = 0x5f;
+        bytes[35..39].copy_from_slice(&[0x37, 0x9b, 0xc2, 0x51]);
+    }
+    bytes[48..].fill(room.byte());
     bytes
 }
 
@@ -202,7 +229,7 @@ fn a_short_buffer_hides_nothing() {
     for size in [0, 1, 2, 3, 4, 5, 300] {
         let entries = [Entry::user_attr(0x74, 0, 0, size)];
         let record = pair
-            .commit(0, 0, BY_DOCUMENT, &entries, &[7; 300])
+            .commit(0, 0, BY_DOCUMENT, ONES, &entries, &[7; 300])
             .unwrap()
             .record;
         let (key, mut seconds) = (Tag::new(0x374, 0, 0), [0xa5; 4]);
@@ -223,7 +250,7 @@ fn a_short_buffer_hides_nothing() {
 #[test]
 fn a_slot_that_moved_is_found_where_it_stands() {
     let mut bytes = *LISTING;
-    let answer = pair_mut(&mut bytes).commit(0, 0, BY_DOCUMENT, &[Entry::create(0)], &[]);
+    let answer = pair_mut(&mut bytes).commit(0, 0, BY_DOCUMENT, ONES, &[Entry::create(0)], &[]);
     let (record, key) = (answer.unwrap().record, Tag::new(0x374, 1, 0));
     let answer = pair(&bytes).get_slice(record, NO_MOVE, MASK_TYPE, key, 0, &mut []);
     assert_eq!(answer, found(0x37400404, 8, 27));
@@ -284,9 +311,9 @@ fn a_long_name_is_shown_to_the_256th_byte() {
     let mut pair = pair_mut(&mut bytes);
     for len in [255, 256, 300] {
         let renamed = [Entry::file_name(0, 0, len)];
-        pair.compact(0, 0, BY_DOCUMENT).unwrap();
+        pair.compact(0, 0, BY_DOCUMENT, ONES).unwrap();
         let record = pair
-            .commit(0, 0, BY_DOCUMENT, &renamed, &[b'n'; 300])
+            .commit(0, 0, BY_DOCUMENT, ONES, &renamed, &[b'n'; 300])
             .unwrap()
             .record;
         let info = pair.as_pair().get_info(record, NO_MOVE, NAME_MAX, 0);
@@ -355,7 +382,8 @@ fn find_answers_the_lowest_that_is_left() {
         let pair = pair.as_pair();
         (file(&pair, b"q213"), directory(&pair, b"q213"))
     };
-    pair.commit(0, 0, BY_DOCUMENT, &entries, b"q213").unwrap();
+    pair.commit(0, 0, BY_DOCUMENT, ONES, &entries, b"q213")
+        .unwrap();
     assert_eq!(found(&pair), (Ok(Some(1)), Ok(Some(2))));
     // What each delete leaves, and what a slot that comes in before it.
     let steps = [
@@ -365,10 +393,10 @@ fn find_answers_the_lowest_that_is_left() {
         (Entry::delete(2), None, None),
     ];
     for (step, first, second) in steps {
-        pair.commit(0, 0, BY_DOCUMENT, &[step], &[]).unwrap();
+        pair.commit(0, 0, BY_DOCUMENT, ONES, &[step], &[]).unwrap();
         assert_eq!(found(&pair), (Ok(first), Ok(second)));
         // The other block then answers, with the same.
-        pair.compact(0, 0, BY_DOCUMENT).unwrap();
+        pair.compact(0, 0, BY_DOCUMENT, ONES).unwrap();
         assert_eq!(found(&pair), (Ok(first), Ok(second)));
     }
     assert_eq!(file(&pair.as_pair(), b"q212"), Ok(Some(1)));
@@ -378,12 +406,14 @@ fn find_answers_the_lowest_that_is_left() {
 fn a_renamed_slot_has_its_new_name_alone() {
     let mut bytes = *LISTING;
     let mut pair = pair_mut(&mut bytes);
-    pair.commit(0, 0, BY_DOCUMENT, &[Entry::file_name(0, 0, 4)], b"q299")
+    let renamed = [Entry::file_name(0, 0, 4)];
+    pair.commit(0, 0, BY_DOCUMENT, ONES, &renamed, b"q299")
         .unwrap();
     assert_eq!(file(&pair.as_pair(), b"q212"), Ok(None));
     assert_eq!(file(&pair.as_pair(), b"q299"), Ok(Some(0)));
     // A name of another type takes its place too.
-    pair.commit(0, 0, BY_DOCUMENT, &[Entry::dir_name(0, 0, 4)], b"q299")
+    let renamed = [Entry::dir_name(0, 0, 4)];
+    pair.commit(0, 0, BY_DOCUMENT, ONES, &renamed, b"q299")
         .unwrap();
     assert_eq!(file(&pair.as_pair(), b"q299"), Ok(None));
     assert_eq!(directory(&pair.as_pair(), b"q299"), Ok(Some(0)));
@@ -397,7 +427,7 @@ fn find_takes_names_of_every_length() {
     let name = [b'n'; 65537];
     for len in [1, 2, 255, 256, 1021, ATTR_MAX] {
         let renamed = [Entry::file_name(0, 0, len as u32)];
-        pair.commit(0, 0, BY_DOCUMENT, &renamed, &name[..len])
+        pair.commit(0, 0, BY_DOCUMENT, ONES, &renamed, &name[..len])
             .unwrap();
         for asked in [1, 2, 255, 256, 1021, 1022, 1023, 2000, name.len()] {
             let expected = (asked == len).then_some(0);
@@ -468,7 +498,7 @@ fn find_refuses_as_fetch_does() {
 #[test]
 fn commit_lays_a_new_deadline() {
     let mut bytes = *LISTING;
-    let answer = pair_mut(&mut bytes).commit(0, 0, BY_DOCUMENT, &[DEADLINE], &SECONDS);
+    let answer = pair_mut(&mut bytes).commit(0, 0, BY_DOCUMENT, ONES, &[DEADLINE], &SECONDS);
     let record = Record {
         off: 80,
         etag: 0x500ffc08,
@@ -489,6 +519,90 @@ fn commit_lays_a_new_deadline() {
     assert_eq!(pair_mut(&mut bytes).as_pair().fetch(0, 0), answer);
 }
 
+/// The same on 0x00 flash: other bytes, and an end tag whose top bit is set.
+#[test]
+fn commit_on_zeros_lays_a_new_deadline() {
+    let listed = listing_on(ZEROS, ZEROS);
+    let mut bytes = listed;
+    let answer = pair_mut(&mut bytes).commit(0, 0, BY_DOCUMENT, ZEROS, &[DEADLINE], &SECONDS);
+    let record = Record {
+        off: 80,
+        etag: 0xd01ffc08,
+        erased: true,
+        forward: ZERO_UNIT,
+        ..LISTED
+    };
+    let seed = 0x2a588227;
+    assert_eq!(answer, Ok(Fetched { record, seed }));
+    let mut laid = listed;
+    laid[48..76].copy_from_slice(&LAID_ON_ZEROS);
+    assert_eq!(bytes, laid);
+    assert_eq!(
+        look(&bytes, record, 0x7ffffc00, 0x374),
+        (found(0x37400004, 8, 52), *b"\x64\0\0\0\0\0")
+    );
+    assert_eq!(pair(&bytes).fetch(0, 0), answer);
+    let known = pair(&listed).fetch(0, 0).unwrap();
+    assert_eq!(pair(&bytes).refetch(0, known), answer);
+}
+
+/// A pair that was moved to a board of the other kind: it is read as it was, a
+/// commit is refused, a compaction with the new byte heals it, and then a commit is
+/// taken. So also where the last commit is of the one kind and the room of the
+/// other.
+#[test]
+fn a_moved_pair_is_compacted() {
+    for was in [ONES, ZEROS] {
+        for room in [ONES, ZEROS] {
+            for now in [ONES, ZEROS] {
+                let mut bytes = listing_on(was, room);
+                assert_eq!(pair(&bytes).fetch(0, 0).unwrap().record.count, 1);
+                if was != now {
+                    let answer = refused_by(16, now, &bytes, &[DEADLINE], &SECONDS);
+                    assert_eq!(answer, Refusal::WrongValidity);
+                } else if room != now {
+                    let answer = refused_by(16, now, &bytes, &[DEADLINE], &SECONDS);
+                    assert_eq!(answer, Refusal::NotErased(48));
+                }
+                let mut pair = pair_mut(&mut bytes);
+                let compacted = pair.compact(0, 0, BY_DOCUMENT, now).unwrap().record;
+                let (etag, unit) = match now {
+                    ONES => (0x500ffc11, UNIT),
+                    ZEROS => (0xd01ffc11, ZERO_UNIT),
+                };
+                assert_eq!((compacted.etag, compacted.forward), (etag, unit));
+                assert_eq!((compacted.rev, compacted.erased), (2, true));
+                let done = pair.commit(0, 0, BY_DOCUMENT, now, &[DEADLINE], &SECONDS);
+                let found = look(&bytes, done.unwrap().record, 0x7ffffc00, 0x374);
+                assert_eq!(found.1, *b"\x64\0\0\0\0\0");
+                assert!(bytes[128 + 96..].iter().all(|&byte| byte == now.byte()));
+            }
+        }
+    }
+    assert_eq!(Erased::default(), ONES);
+    let bytes = [ONES.byte(), ZEROS.byte()];
+    assert_eq!(bytes, [ERASED_ONES, ERASED_ZEROS]);
+}
+
+/// One log with commits of both kinds is read, and goes on as its last commit says.
+#[test]
+fn a_log_may_have_commits_of_both_kinds() {
+    let mut bytes = *LISTING;
+    // Another writer's commit behind the listing, on 0x00 flash: of nothing but its
+    // check, tag and checksum as samples/writer.py lays them.
+    bytes[48..].fill(0);
+    bytes[48..56].copy_from_slice(b"\0\x10\0\x01\x05\xb3\x9a\xb5");
+    let record = pair(&bytes).fetch(0, 0).unwrap().record;
+    assert_eq!((record.off, record.etag, record.count), (64, 0xd01ffc0c, 1));
+    let answer = refused_by(16, ONES, &bytes, &[DEADLINE], &SECONDS);
+    assert_eq!(answer, Refusal::WrongValidity);
+    let mut pair = pair_mut(&mut bytes);
+    let done = pair.commit(0, 0, BY_DOCUMENT, ZEROS, &[DEADLINE], &SECONDS);
+    let record = done.unwrap().record;
+    assert_eq!((record.off, record.etag), (96, 0xd01ffc08));
+    assert_eq!(pair.as_pair().fetch(0, 0), done);
+}
+
 /// The listing's 48 bytes, and an inline struct behind them: one of 40 bytes just
 /// leaves the 16 bytes of a unit behind its forward check, with one byte more there
 /// is none.
@@ -498,7 +612,9 @@ fn a_forward_check_is_carried_where_a_unit_follows() {
         let mut bytes = *LISTING;
         let mut pair = pair_mut(&mut bytes);
         let entries = [Entry::inline_struct(0, 0, len)];
-        let done = pair.commit(0, 0, BY_DOCUMENT, &entries, &[7; 41]).unwrap();
+        let done = pair
+            .commit(0, 0, BY_DOCUMENT, ONES, &entries, &[7; 41])
+            .unwrap();
         assert_eq!((done.record.off, done.record.forward), (off, forward));
         assert_eq!(done.record.erased, forward.is_some());
         assert_eq!(pair.as_pair().fetch(0, 0), Ok(done));
@@ -513,7 +629,7 @@ fn an_earlier_forward_check_stays_in_the_record() {
     let mut pair = pair_mut(&mut bytes);
     // 8 + 12 + 8 bytes behind 48, and behind 80 once more; then none fits.
     for off in [80, 112, 128] {
-        let done = pair.commit(0, 0, BY_DOCUMENT, &[DEADLINE], &SECONDS);
+        let done = pair.commit(0, 0, BY_DOCUMENT, ONES, &[DEADLINE], &SECONDS);
         let record = done.unwrap().record;
         assert_eq!((record.off, record.forward), (off, UNIT));
         // Behind the block's end nothing is erased.
@@ -530,7 +646,7 @@ fn a_refetch_behind_a_commit_is_a_fetch() {
     let first = pair.as_pair().fetch(0, 7).unwrap();
     let mut last = first;
     for off in [80, 112, 128, 128] {
-        let done = pair.commit(0, 7, BY_DOCUMENT, &[DEADLINE], &SECONDS);
+        let done = pair.commit(0, 7, BY_DOCUMENT, ONES, &[DEADLINE], &SECONDS);
         let now = pair.as_pair().fetch(0, 7).unwrap();
         assert_eq!(now.record.off, off);
         assert!(done == Ok(now) || done == Err(Refusal::NoSpace));
@@ -548,7 +664,7 @@ fn a_refetch_behind_a_compaction_is_no_fetch() {
     let mut bytes = *LISTING;
     let mut pair = pair_mut(&mut bytes);
     let known = pair.as_pair().fetch(0, 7).unwrap();
-    let compacted = pair.compact(0, 7, BY_DOCUMENT).unwrap();
+    let compacted = pair.compact(0, 7, BY_DOCUMENT, ONES).unwrap();
     let reader = pair.as_pair();
     assert_eq!(reader.refetch(0, known), Ok(known));
     assert_eq!(reader.fetch(0, 7), Ok(compacted));
@@ -617,8 +733,14 @@ fn lookups_take_a_record_with_any_forward_check() {
 fn a_committed_move_state_is_xored() {
     let mut bytes = *LISTING;
     let words = *b"\x01\0\0\0\x02\0\0\0\x03\0\0\0";
-    let answer =
-        pair_mut(&mut bytes).commit(0, 0, BY_DOCUMENT, &[entry(0x7ff, 1023, 0, 12)], &words);
+    let answer = pair_mut(&mut bytes).commit(
+        0,
+        0,
+        BY_DOCUMENT,
+        ONES,
+        &[entry(0x7ff, 1023, 0, 12)],
+        &words,
+    );
     let mut state = Gstate {
         tag: 1 << 8,
         pair: [0, 3],
@@ -642,7 +764,9 @@ fn a_committed_move_state_is_xored() {
 fn compaction_writes_the_other_block() {
     let mut bytes = *LISTING;
     bytes[128..].fill(0x55);
-    let answer = pair_mut(&mut bytes).compact(0, 0, BY_DOCUMENT).unwrap();
+    let answer = pair_mut(&mut bytes)
+        .compact(0, 0, BY_DOCUMENT, ONES)
+        .unwrap();
     let record = Record {
         pair: [1, 0],
         rev: 2,
@@ -665,6 +789,24 @@ fn compaction_writes_the_other_block() {
     assert_eq!(pair(&bytes).fetch(0, 0), Ok(answer));
     // The same place, in the other block.
     assert_eq!(look(&bytes, record, 0x7ffffc00, 0x374).0, DUE);
+    // Erased to 0x00, whatever the first block is: forward check and check differ.
+    for listed in [*LISTING, listing_on(ZEROS, ZEROS)] {
+        let mut bytes = listed;
+        bytes[128..].fill(0x55);
+        let answer = pair_mut(&mut bytes).compact(0, 0, BY_DOCUMENT, ZEROS);
+        let record = Record {
+            etag: 0xd01ffc11,
+            forward: ZERO_UNIT,
+            ..record
+        };
+        assert_eq!(answer.unwrap().record, record);
+        renewed[31..43].copy_from_slice(&LAID_ON_ZEROS[8..20]);
+        renewed[43..51].copy_from_slice(b"\x0f\xe0\0\x19\xf9\xee\xdf\x62");
+        renewed[51..].fill(0);
+        assert_eq!(bytes[..128], listed[..128]);
+        assert_eq!(bytes[128..], renewed);
+        assert_eq!(pair(&bytes).fetch(0, 0), answer);
+    }
 }
 
 /// Document 01's types and lengths. That a commit takes each shows that it is
@@ -691,20 +833,28 @@ fn entries_are_what_a_commit_takes() {
         assert_eq!(made, expected);
     }
     let entries = made.map(|(made, _)| made);
-    assert!(pair.commit(0, 0, BY_DOCUMENT, &entries, &[7; 12]).is_ok());
+    assert!(pair
+        .commit(0, 0, BY_DOCUMENT, ONES, &entries, &[7; 12])
+        .is_ok());
 }
 
 /// A commit that is refused, and leaves both images as they were.
 fn refused(bytes: &[u8; 256], entries: &[Entry], data: &[u8]) -> Refusal {
-    refused_by(16, bytes, entries, data)
+    refused_by(16, ONES, bytes, entries, data)
 }
 
-/// The same with any program size.
-fn refused_by(prog_size: u32, bytes: &[u8; 256], entries: &[Entry], data: &[u8]) -> Refusal {
+/// The same with any program size and erased byte.
+fn refused_by(
+    prog_size: u32,
+    erased: Erased,
+    bytes: &[u8; 256],
+    entries: &[Entry],
+    data: &[u8],
+) -> Refusal {
     let mut altered = *bytes;
     let mut pair = pair_mut(&mut altered);
     pair.geometry.prog_size = prog_size;
-    let answer = pair.commit(0, 7, BY_DOCUMENT, entries, data);
+    let answer = pair.commit(0, 7, BY_DOCUMENT, erased, entries, data);
     assert_eq!(&altered, bytes);
     answer.unwrap_err()
 }
@@ -728,41 +878,62 @@ fn refused_commits_leave_the_images() {
     }
 }
 
-/// The three reasons, each alone and then together: the listing's end, 48, is no
-/// multiple of 32; behind a check of type 0x501 the end tag's top bit is set (its
-/// checksum is that of `samples/writer.py`); bytes behind the end.
+/// The coincidence by the erased byte given: the data that coincide on one kind of
+/// flash do not on the other. As in `samples/writes/cases`; behind one and two of
+/// the check tag's bytes.
 #[test]
-fn why_there_is_no_room() {
-    let mut flipped = *LISTING;
-    flipped[32] = 0x5f;
-    flipped[35..39].copy_from_slice(&[0x37, 0x9b, 0xc2, 0x51]);
-    assert_eq!(pair(&flipped).fetch(0, 0).unwrap().record.etag, 0xd01ffc0d);
-    let dirty = |bytes: &[u8; 256]| {
-        let mut bytes = *bytes;
-        [bytes[70], bytes[127]] = [0xfe, 0];
-        bytes
-    };
-    let cases = [
-        (32, *LISTING, Refusal::Misaligned, -211),
-        (16, flipped, Refusal::TopBit, -212),
-        (16, dirty(LISTING), Refusal::NotErased(70), -213),
-        (32, flipped, Refusal::Misaligned, -211),
-        (32, dirty(LISTING), Refusal::Misaligned, -211),
-        (16, dirty(&flipped), Refusal::TopBit, -212),
-    ];
-    let said = "refused, -213: byte 70 of the block, behind the end, isn't erased";
-    assert_eq!(Refusal::NotErased(70).to_string(), said);
-    for (prog_size, mut bytes, refusal, number) in cases {
-        let answer = refused_by(prog_size, &bytes, &[DEADLINE], &SECONDS);
-        assert_eq!((answer, answer.number()), (refusal, number));
-        // and a compaction makes room
-        assert!(answer.needs_compaction());
-        let mut pair = pair_mut(&mut bytes);
-        pair.geometry.prog_size = prog_size;
-        pair.compact(0, 0, BY_DOCUMENT).unwrap();
-        pair.commit(0, 0, BY_DOCUMENT, &[DEADLINE], &SECONDS)
+fn a_coincidence_is_one_of_the_erased_byte() {
+    for data in [[0xdf, 0xa9, 0xf8, 0xfa], [0x89, 0xdd, 0xad, 0xa9]] {
+        let mut on_zeros = listing_on(ZEROS, ZEROS);
+        let answer = refused_by(16, ZEROS, &on_zeros, &[DEADLINE], &data);
+        assert_eq!(answer, Refusal::Coincidence);
+        let mut pair = pair_mut(&mut on_zeros);
+        pair.commit(0, 0, BY_DOCUMENT, ZEROS, &[DEADLINE], &SECONDS)
+            .unwrap();
+        let mut on_ones = *LISTING;
+        let mut pair = pair_mut(&mut on_ones);
+        pair.commit(0, 0, BY_DOCUMENT, ONES, &[DEADLINE], &data)
             .unwrap();
     }
+}
+
+/// The three reasons, each alone and then together, on both kinds of flash: the
+/// listing's end, 48, is no multiple of 32; behind a check of the other kind the end
+/// tag's top bit is the wrong one; bytes behind the end.
+#[test]
+fn why_there_is_no_room() {
+    for (erased, other, etag) in [(ONES, ZEROS, 0xd01ffc0d), (ZEROS, ONES, 0x500ffc0d)] {
+        let (clean, flipped) = (listing_on(erased, erased), listing_on(other, erased));
+        assert_eq!(pair(&flipped).fetch(0, 0).unwrap().record.etag, etag);
+        let dirty = |bytes: &[u8; 256]| {
+            let mut bytes = *bytes;
+            [bytes[70], bytes[127]] = [erased.byte() ^ 1, other.byte()];
+            bytes
+        };
+        let cases = [
+            (32, clean, Refusal::Misaligned, -211),
+            (16, flipped, Refusal::WrongValidity, -212),
+            (16, dirty(&clean), Refusal::NotErased(70), -213),
+            (32, flipped, Refusal::Misaligned, -211),
+            (32, dirty(&clean), Refusal::Misaligned, -211),
+            (16, dirty(&flipped), Refusal::WrongValidity, -212),
+        ];
+        for (prog_size, mut bytes, refusal, number) in cases {
+            let answer = refused_by(prog_size, erased, &bytes, &[DEADLINE], &SECONDS);
+            assert_eq!((answer, answer.number()), (refusal, number));
+            // and a compaction makes room
+            assert!(answer.needs_compaction());
+            let mut pair = pair_mut(&mut bytes);
+            pair.geometry.prog_size = prog_size;
+            pair.compact(0, 0, BY_DOCUMENT, erased).unwrap();
+            pair.commit(0, 0, BY_DOCUMENT, erased, &[DEADLINE], &SECONDS)
+                .unwrap();
+        }
+    }
+    let said = "refused, -213: byte 70 of the block, behind the end, isn't erased";
+    assert_eq!(Refusal::NotErased(70).to_string(), said);
+    let said = "refused, -212: the end tag has the wrong validity bit for the erased byte";
+    assert_eq!(Refusal::WrongValidity.to_string(), said);
 }
 
 #[test]
@@ -783,7 +954,7 @@ fn too_many_slots_come_with_the_record() {
 #[test]
 fn a_refused_compaction_leaves_the_images() {
     let mut bytes = *IRREGULAR;
-    let answer = pair_mut(&mut bytes).compact(0, 0, BY_DOCUMENT);
+    let answer = pair_mut(&mut bytes).compact(0, 0, BY_DOCUMENT, ONES);
     assert_eq!((answer, &bytes), (Err(Refusal::Irregular), IRREGULAR));
 }
 
@@ -793,8 +964,8 @@ fn littlefs_s_own_pair_needs_its_rules() {
     let mut pair = pair_mut(&mut bytes);
     let deadline = [Entry::user_attr(0x74, 3, 0, 4)];
     let refused = [
-        pair.commit(0, 0, BY_DOCUMENT, &deadline, &SECONDS),
-        pair.compact(0, 0, BY_DOCUMENT),
+        pair.commit(0, 0, BY_DOCUMENT, ONES, &deadline, &SECONDS),
+        pair.compact(0, 0, BY_DOCUMENT, ONES),
     ];
     assert_eq!(refused, [Err(Refusal::Irregular); 2]);
     assert_eq!(&bytes, REAL);
@@ -813,14 +984,51 @@ fn littlefs_s_own_pair_needs_its_rules() {
         assert_eq!((found.unwrap().size(), &seconds[..4]), (4, &SECONDS[..]));
     };
     let mut pair = pair_mut(&mut bytes);
-    let done = pair.commit(0, 0, BY_LITTLEFS, &deadline, &SECONDS);
+    let done = pair.commit(0, 0, BY_LITTLEFS, ONES, &deadline, &SECONDS);
     shown(&pair, done.unwrap().record);
-    let done = pair.compact(0, 0, BY_LITTLEFS).unwrap();
+    let done = pair.compact(0, 0, BY_LITTLEFS, ONES).unwrap();
     assert_eq!((done.record.count, done.record.tail), (5, [2, 3]));
     shown(&pair, done.record);
     // What a compaction writes has its creates.
-    pair.commit(0, 0, BY_DOCUMENT, &deadline, &SECONDS).unwrap();
-    pair.compact(0, 0, BY_DOCUMENT).unwrap();
+    pair.commit(0, 0, BY_DOCUMENT, ONES, &deadline, &SECONDS)
+        .unwrap();
+    pair.compact(0, 0, BY_DOCUMENT, ONES).unwrap();
+}
+
+/// What `samples/make_zero.py` laid on 0x00 flash is read as littlefs showed it on
+/// 0xff, and written to.
+#[test]
+fn littlefs_s_own_pair_on_zeros() {
+    let mut bytes = *REAL_ON_ZEROS;
+    let mut pair = pair_mut(&mut bytes);
+    let shown = Record {
+        pair: [1, 0],
+        rev: 4,
+        off: 256,
+        etag: 3491757060, // its line in samples/zero/shown.txt
+        count: 5,
+        erased: true,
+        split: false,
+        tail: [2, 3],
+        forward: ZERO_UNIT,
+    };
+    assert_eq!(pair.as_pair().fetch(0, 0).unwrap().record, shown);
+    let deadline = [Entry::user_attr(0x74, 3, 0, 4)];
+    let moved = pair.commit(0, 0, BY_LITTLEFS, ONES, &deadline, &SECONDS);
+    assert_eq!(moved, Err(Refusal::WrongValidity));
+    for _ in 0..2 {
+        let done = pair.commit(0, 0, BY_LITTLEFS, ZEROS, &deadline, &SECONDS);
+        let record = done.unwrap().record;
+        assert_eq!((record.etag >> 31, record.forward), (1, ZERO_UNIT));
+        let (key, mut seconds) = (Tag::new(0x374, 3, 0), [0; 4]);
+        let reader = pair.as_pair();
+        let found = reader.get_slice(record, NO_MOVE, MASK_TYPE, key, 0, &mut seconds);
+        assert_eq!((found.unwrap().size(), seconds), (4, SECONDS));
+        let info = reader.get_info(record, NO_MOVE, NAME_MAX, 3).unwrap();
+        assert_eq!((info.size, info.name()), (3, &b"q212"[..]));
+        let done = pair.compact(0, 0, BY_LITTLEFS, ZEROS).unwrap();
+        assert_eq!((done.record.count, done.record.tail), (5, [2, 3]));
+    }
 }
 
 /// The checksum of a commit, bit by bit.
@@ -858,14 +1066,17 @@ fn a_full_block_without_creates_has_no_room_for_them() {
     let mut pair = pair_mut(&mut bytes);
     let record = pair.as_pair().fetch(0, 0).unwrap().record;
     assert_eq!((record.count, record.off), (23, 128));
-    assert_eq!(pair.compact(0, 0, BY_DOCUMENT), Err(Refusal::Irregular));
-    assert_eq!(pair.compact(0, 0, BY_LITTLEFS), Err(Refusal::NoSpace));
+    assert_eq!(
+        pair.compact(0, 0, BY_DOCUMENT, ONES),
+        Err(Refusal::Irregular)
+    );
+    assert_eq!(pair.compact(0, 0, BY_LITTLEFS, ONES), Err(Refusal::NoSpace));
     assert_eq!(bytes, full);
     // One name of id 1,022 makes 1,023 slots.
     let mut bytes = *IRREGULAR;
-    let answer = pair_mut(&mut bytes).compact(0, 0, BY_LITTLEFS);
+    let answer = pair_mut(&mut bytes).compact(0, 0, BY_LITTLEFS, ONES);
     assert_eq!((answer, &bytes), (Err(Refusal::NoSpace), IRREGULAR));
-    let answer = pair_mut(&mut bytes).commit(0, 0, BY_LITTLEFS, &[DEADLINE], &SECONDS);
+    let answer = pair_mut(&mut bytes).commit(0, 0, BY_LITTLEFS, ONES, &[DEADLINE], &SECONDS);
     assert_eq!(answer.unwrap().record.count, 1023);
 }
 
@@ -876,8 +1087,8 @@ fn the_listing_is_written_alike_by_both_rules() {
         let mut bytes = *LISTING;
         let mut pair = pair_mut(&mut bytes);
         let answers = [
-            pair.commit(0, 0, rules, &[DEADLINE], &SECONDS),
-            pair.compact(0, 0, rules),
+            pair.commit(0, 0, rules, ONES, &[DEADLINE], &SECONDS),
+            pair.compact(0, 0, rules, ONES),
         ];
         assert!(answers.iter().all(Result::is_ok));
         (answers, bytes)
@@ -940,11 +1151,12 @@ fn the_names_are_the_header_s() {
     let names = named![
         VERSION_MAJOR VERSION_MINOR
         OK ERR_INVAL ERR_CORRUPT ERR_NOENT ERR_NOSPC ERR_BADENTRY ERR_IRREGULAR ERR_MISALIGNED
-        ERR_TOPBIT ERR_NOTERASED ERR_COINCIDENCE
+        ERR_VALIDITY ERR_NOTERASED ERR_COINCIDENCE
         TYPE_NAME TYPE_REG TYPE_DIR TYPE_SUPERBLOCK TYPE_STRUCT TYPE_DIRSTRUCT TYPE_INLINESTRUCT
         TYPE_CTZSTRUCT TYPE_USERATTR TYPE_SPLICE TYPE_CREATE TYPE_DELETE TYPE_CCRC TYPE_FCRC
         TYPE_TAIL TYPE_SOFTTAIL TYPE_HARDTAIL TYPE_MOVESTATE
-        MASK_TYPE MASK_CLASS RULES_DOCUMENT RULES_LITTLEFS NO_SLOT REMOVAL BLOCK_NULL
+        MASK_TYPE MASK_CLASS RULES_DOCUMENT RULES_LITTLEFS ERASED_ONES ERASED_ZEROS
+        NO_SLOT REMOVAL BLOCK_NULL
         ATTR_MAX SLOTS_MAX NAME_MAX BUFFER_MAX ENTRIES_MAX DATA_MAX
     ];
     let header = include_str!("../../../include/lanolin.h").lines();
