@@ -47,6 +47,7 @@ pub fn task<'a>(directory: &Directory, work: Work<'a>) -> Task<'a> {
         block_count: 0,
         seed: 0,
         rules: DOCUMENT,
+        erased: 0xff,
         work,
         stores: None,
     }
