@@ -5,7 +5,6 @@ use mathlib.Core.Logic.{_⊎_, inl, inr}
 use mathlib.Core.Bool.{Bool, true, false, not, cond, _||_}
 use Prim.Native.Nat.{ℕ, _+_, _*_, _^_, _≤_, _<_}
 use native.Mathlib.Omega.{arith}
-use lib.Bits.{xor-comm, xor-zero-r}
 use lib.Dec.{eqb}
 use borrow.Author.Tests.{eqb-true, ltb-true, ltb-false, lt-ltb, le-ltb}
 use Rattle.format.specs.Word.{be32, xor, allOnes}
@@ -13,7 +12,7 @@ use Rattle.format.specs.Tag.{tagValid, tagFlipped, tagOf}
 use Rattle.format.specs.Kind.{noSlot}
 use Rattle.format.specs.Erased.{erasedFits, erased, validityFits, checkType}
 use Rattle.format.specs.Commit.{checkTag}
-use Rattle.format.proofs.Tags.{allOnes-invalid}
+use Rattle.format.proofs.Tags.{xor-zero, apart-invalid, apart-invalid′}
 
 -- ---- "0xff or 0x00"
 abbrev pub Erases : ℕ → Type 0
@@ -31,6 +30,42 @@ pub erases-byte : (e : ℕ) → Erases e → e < 2 ^ 8
 erases-byte e (inl h) = omega arith
 erases-byte e (inr h) = omega arith
 
+-- ---- "bit 31 of the end tag clear for 0xff, set for 0x00"
+abbrev pub BitFits : ℕ → ℕ → Type 0
+BitFits e etag = ((e ≡ 0xff) × (etag < 2 ^ 31)) ⊎ ((e ≡ 0x00) × (2 ^ 31 ≤ etag))
+
+abbrev pub BitWrong : ℕ → ℕ → Type 0
+BitWrong e etag = ((e ≡ 0xff) × (2 ^ 31 ≤ etag)) ⊎ ((e ≡ 0x00) × (etag < 2 ^ 31))
+
+not-valid : (b : Bool) → not b ≡ true → b ≡ false
+not-valid true h = absurd (let z : _≡_ {A = ℕ} 0 1 = cc in omega arith)
+not-valid false h = refl
+
+valid-not : (b : Bool) → not b ≡ false → b ≡ true
+valid-not true h = refl
+valid-not false h = absurd (let z : _≡_ {A = ℕ} 0 1 = cc in omega arith)
+
+module _ (e etag : ℕ) where
+  pub bit-fits : Erases e → validityFits e etag ≡ true → BitFits e etag
+  unfolding validityFits
+  bit-fits (inl h) v = inl (h, ltb-true etag (2 ^ 31) (rw h at v))
+  bit-fits (inr h) v = inr (h, ltb-false etag (2 ^ 31) (not-valid (tagValid etag) (rw h at v)))
+
+  pub bit-wrong : Erases e → validityFits e etag ≡ false → BitWrong e etag
+  unfolding validityFits
+  bit-wrong (inl h) v = inl (h, ltb-false etag (2 ^ 31) (rw h at v))
+  bit-wrong (inr h) v = inr (h, ltb-true etag (2 ^ 31) (valid-not (tagValid etag) (rw h at v)))
+
+  pub fits-bit : BitFits e etag → validityFits e etag ≡ true
+  unfolding validityFits
+  fits-bit (inl h) = rw (h .0) (lt-ltb etag (2 ^ 31) (h .1))
+  fits-bit (inr h) = rw (h .0, le-ltb etag (2 ^ 31) (h .1))
+
+  pub wrong-bit : BitWrong e etag → validityFits e etag ≡ false
+  unfolding validityFits
+  wrong-bit (inl h) = rw (h .0) (le-ltb etag (2 ^ 31) (h .1))
+  wrong-bit (inr h) = rw (h .0, lt-ltb etag (2 ^ 31) (h .1))
+
 -- ---- four erased bytes as a tag
 ones : be32 (erased 0xff 4) ≡ allOnes
 unfolding be32
@@ -40,28 +75,19 @@ zeros : be32 (erased 0x00 4) ≡ 0
 unfolding be32
 zeros = refl
 
-xor-zero : (p : ℕ) → xor 0 p ≡ p
-unfolding xor
-xor-zero p = xor-comm 0 p ∙ xor-zero-r p
-
-not-valid : (p : ℕ) → not (tagValid p) ≡ true → 2 ^ 31 ≤ p
-not-valid p h = go (tagValid p) refl h
-  where
-    go : (b : Bool) → tagValid p ≡ b → not b ≡ true → 2 ^ 31 ≤ p
-    go true e q = absurd (let z : _≡_ {A = ℕ} 0 1 = cc in omega arith)
-    go false e q = ltb-false p (2 ^ 31) e
-
 -- behind an end tag whose validity bit fits they are invalid
 pub erased-stops : (e p : ℕ) → Erases e → validityFits e p ≡ true → 2 ^ 31 ≤ xor (be32 (erased e 4)) p
-unfolding validityFits
-erased-stops e p (inl h) v = rw (h, ones) (allOnes-invalid p (ltb-true p (2 ^ 31) (rw h at v)))
-erased-stops e p (inr h) v = rw (h, zeros, xor-zero p) (not-valid p (rw h at v))
+erased-stops e p byte v = go (bit-fits e p byte v)
+  where
+    go : BitFits e p → 2 ^ 31 ≤ xor (be32 (erased e 4)) p
+    go (inl h) = rw (h .0, ones) (apart-invalid′ allOnes p (omega arith) (h .1))
+    go (inr h) = rw (h .0, zeros) (apart-invalid 0 p (omega arith) (h .1))
 
 -- behind any valid tag they are invalid, or that tag again
 pub erased-repeats : (e p : ℕ) → Erases e → p < 2 ^ 31 → xor (be32 (erased e 4)) p < 2 ^ 31
     → xor (be32 (erased e 4)) p ≡ p
 erased-repeats e p (inl h) small v =
-    let w : xor allOnes p < 2 ^ 31 = rw (h, ones) at v in absurd (omega (arith, allOnes-invalid p small))
+    let w : xor allOnes p < 2 ^ 31 = rw (h, ones) at v in absurd (omega (arith, apart-invalid′ allOnes p (omega arith) small))
 erased-repeats e p (inr h) small v = rw (h, zeros) (xor-zero p)
 
 -- ---- the check tag

@@ -5,10 +5,10 @@ use mathlib.Core.Path.{_≡_, refl, sym, ap, _∙_}
 use mathlib.Core.List.{List, _++_}
 use Prim.Native.Nat.{ℕ, zero, suc, _+_, _*_, _/_, _%_, _^_, _≤_, _<_}
 use native.Mathlib.Omega.{arith}
-use lib.Bits.{bitXor, xor-shr, xor-mod, xor-comm, xor-self}
+use lib.Bits.{bitXor, xor-shr, xor-mod, xor-comm, xor-zero-r}
 use lib.Dec.{eqb}
 use borrow.Author.Tests.{eq-eqb, ne-eqb}
-use Rattle.format.specs.Word.{be32, toBe32, xor, allOnes}
+use Rattle.format.specs.Word.{be32, toBe32, xor}
 use Rattle.format.specs.Tag.{tagType1, tagType2, tagType3, tagChunk, tagId, tagSize, removalSize, tagLength}
 use Rattle.format.specs.Tag.{tagFlipped, tagOf}
 use Rattle.format.specs.Kind.{typeCheck, isCheck}
@@ -29,24 +29,24 @@ xor-top a b = xor-shr a b 24
 pub top-xor : (r s p : ℕ) → r / 2 ^ 24 ≡ s / 2 ^ 24 → xor r p / 2 ^ 24 ≡ xor s p / 2 ^ 24
 top-xor r s p e = xor-top r p ∙ ap (λ x. xor x (p / 2 ^ 24)) e ∙ sym (xor-top s p)
 
--- ---- erased bytes: invalid behind a tag with bit 31 clear, and the tag 0 at a block's start
+-- ---- bit 31 of the XOR: of two words that differ in it
+pub xor-zero : (p : ℕ) → xor 0 p ≡ p
+unfolding xor
+xor-zero p = xor-comm 0 p ∙ xor-zero-r p
+
 xor-31 : (a b : ℕ) → xor a b / 2 ^ 31 ≡ xor (a / 2 ^ 31) (b / 2 ^ 31)
 unfolding xor
 xor-31 a b = xor-shr a b 31
 
-xor-one-zero : xor 1 0 ≡ 1
-unfolding xor
-xor-one-zero = refl
-
-pub allOnes-invalid : (p : ℕ) → p < 2 ^ 31 → 2 ^ 31 ≤ xor allOnes p
-allOnes-invalid p h =
-    let z : p / 2 ^ 31 ≡ 0 = omega arith in
-    let f : xor allOnes p / 2 ^ 31 ≡ 1 = xor-31 allOnes p ∙ ap (λ x. xor 1 x) z ∙ xor-one-zero in
+pub apart-invalid : (a b : ℕ) → a < 2 ^ 31 → 2 ^ 31 ≤ b → 2 ^ 31 ≤ xor a b
+apart-invalid a b h k =
+    let z : a / 2 ^ 31 ≡ 0 = omega arith in
+    let f : xor a b / 2 ^ 31 ≡ b / 2 ^ 31 = xor-31 a b ∙ ap (λ x. xor x (b / 2 ^ 31)) z ∙ xor-zero (b / 2 ^ 31) in
     omega arith
 
-pub xor-allOnes : xor allOnes allOnes ≡ 0
+pub apart-invalid′ : (a b : ℕ) → 2 ^ 31 ≤ a → b < 2 ^ 31 → 2 ^ 31 ≤ xor a b
 unfolding xor
-xor-allOnes = xor-self allOnes
+apart-invalid′ a b h k = rw (xor-comm a b) (apart-invalid b a k h)
 
 -- ---- the XOR chain: a tag that was stored behind a previous one is read back, whatever follows; and the way back
 pub tag-read : (t p : ℕ) (r : List ℕ) → xor (be32 (toBe32 (xor t p) ++ r)) p ≡ t

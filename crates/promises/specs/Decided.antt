@@ -42,16 +42,16 @@ module _ (g : Geometry) (b0 b1 : List ℕ) (n0 n1 count seed : ℕ) where
   pub fetch-decided : Decides (fetchOf g b0 b1 n0 n1 count seed)
   fetch-decided = decided (fetchOf g b0 b1 n0 n1 count seed)
 
--- whatever number the rule has
-module _ (g : Geometry) (b0 b1 : List ℕ) (n0 n1 count seed rules : ℕ) where
+-- whatever number the rule has, and whatever the erased byte e
+module _ (g : Geometry) (b0 b1 : List ℕ) (n0 n1 count seed rules e : ℕ) where
   module _ (entries : List Entry) (dat : List ℕ) where
     abbrev left : ℕ → Images
-    left n = commitImages g b0 b1 n0 n1 count seed rules entries dat n
+    left n = commitImages g b0 b1 n0 n1 count seed rules e entries dat n
 
-    pub commit-decided : Decides (commitOf g b0 b1 n0 n1 count seed rules entries dat)
-        × BothDecided (CommitLeaves g b0 b1 n0 n1 count seed rules entries dat)
+    pub commit-decided : Decides (commitOf g b0 b1 n0 n1 count seed rules e entries dat)
+        × BothDecided (CommitLeaves g b0 b1 n0 n1 count seed rules e entries dat)
     commit-decided = (
-      decided (commitOf g b0 b1 n0 n1 count seed rules entries dat),
+      decided (commitOf g b0 b1 n0 n1 count seed rules e entries dat),
       λ x0 x1 y0 y1 a b. (
         decided (left unlimited .b0) x0 y0 (a .0) (b .0),
         decided (left unlimited .b1) x1 y1 (a .1) (b
@@ -59,30 +59,30 @@ module _ (g : Geometry) (b0 b1 : List ℕ) (n0 n1 count seed rules : ℕ) where
       ),
     )
 
-    pub commit-stores-decided : (n : ℕ) → Decides (commitStoresOf g b0 b1 n0 n1 count seed rules entries dat n)
-        × BothDecided (CommitStoresLeaves g b0 b1 n0 n1 count seed rules entries dat n)
+    pub commit-stores-decided : (n : ℕ) → Decides (commitStoresOf g b0 b1 n0 n1 count seed rules e entries dat n)
+        × BothDecided (CommitStoresLeaves g b0 b1 n0 n1 count seed rules e entries dat n)
     commit-stores-decided n = (
-      decided (commitStoresOf g b0 b1 n0 n1 count seed rules entries dat n),
+      decided (commitStoresOf g b0 b1 n0 n1 count seed rules e entries dat n),
       λ x0 x1 y0 y1 a b. (decided (left n .b0) x0 y0 (a .0) (b .0), decided (left n .b1) x1 y1 (a .1) (b .1)),
     )
 
   abbrev compacted : ℕ → Images
-  compacted n = compactImages g b0 b1 n0 n1 count seed rules n
+  compacted n = compactImages g b0 b1 n0 n1 count seed rules e n
 
-  pub compact-decided : Decides (compactOf g b0 b1 n0 n1 count seed rules)
-      × BothDecided (CompactLeaves g b0 b1 n0 n1 count seed rules)
+  pub compact-decided : Decides (compactOf g b0 b1 n0 n1 count seed rules e)
+      × BothDecided (CompactLeaves g b0 b1 n0 n1 count seed rules e)
   compact-decided = (
-    decided (compactOf g b0 b1 n0 n1 count seed rules),
+    decided (compactOf g b0 b1 n0 n1 count seed rules e),
     λ x0 x1 y0 y1 a b. (
       decided (compacted unlimited .b0) x0 y0 (a .0) (b .0),
       decided (compacted unlimited .b1) x1 y1 (a .1) (b .1),
     ),
   )
 
-  pub compact-stores-decided : (n : ℕ) → Decides (compactStoresOf g b0 b1 n0 n1 count seed rules n)
-      × BothDecided (CompactStoresLeaves g b0 b1 n0 n1 count seed rules n)
+  pub compact-stores-decided : (n : ℕ) → Decides (compactStoresOf g b0 b1 n0 n1 count seed rules e n)
+      × BothDecided (CompactStoresLeaves g b0 b1 n0 n1 count seed rules e n)
   compact-stores-decided n = (
-    decided (compactStoresOf g b0 b1 n0 n1 count seed rules n),
+    decided (compactStoresOf g b0 b1 n0 n1 count seed rules e n),
     λ x0 x1 y0 y1 a b. (decided (compacted n .b0) x0 y0 (a .0) (b .0), decided (compacted n .b1) x1 y1 (a .1) (b .1)),
   )
 

@@ -23,7 +23,8 @@ use Rattle.format.specs.Look.{maskType3, asIds, splicedAt, wlook}
 use Rattle.format.specs.Lookup.{recordFits, searched, getsliceFits, getsliceBuffer}
 use Rattle.format.specs.Regular.{ruleOf, ruleHolds, countAfter, growsAfter, countRaised, regularFrom, Regular}
 use Rattle.format.specs.Commit.{commitBytes, written}
-use Rattle.format.specs.Stores.{erased, allErased, fill, entriesLength, appending, coincides, compactBytes, compacting}
+use Rattle.format.specs.Erased.{erased, allErased, checkType, validityFits}
+use Rattle.format.specs.Stores.{fill, entriesLength, appending, tagCoincides, coincides, compactBytes, compacting}
 use Rattle.format.specs.Entries.{entryBody, judge, itemsOf}
 use Rattle.format.specs.Directory.{empty, upd, dir, reaching, apply, applyAll, act, acts, dirOf, moveOf}
 use Rattle.format.specs.Room.{roomOf}
@@ -54,10 +55,10 @@ first =
     ∷ 0x20 ∷ 0x00 ∷ 0x00 ∷ 0x07
     ∷ 0x61 ∷ 0x62 ∷ 0x63 ∷ 0x17 ∷ 0x50 ∷ 0x00 ∷ 0x07 ∷ 0x90 ∷ 0x5f ∷ 0x01 ∷ 0x00 ∷ 0x67 ∷ 0x4f ∷ 0xfc ∷ 0x09 ∷ 0x47
     ∷ 0x38 ∷ 0xe4 ∷ 0x4d ∷ [])
-    ++ erased 89
+    ++ erased 0xff 89
 
 abbrev second : List ℕ
-second = erased 128
+second = erased 0xff 128
 
 -- a deadline of 3,600 in place of 90,000
 abbrev deadline : Entry
@@ -105,19 +106,19 @@ upTo (suc n) = upTo n ++ (suc n ∷ [])
 
 -- 28 stores, the entry's 8, the forward check's 12 and the check's 8: after each of the first 27 the old deadline,
 -- after the last the new one
-pub commit-cut : map (λ n. seen (commitImages geometry first second 0 1 0 0 0 (deadline ∷ []) hour n)) (upTo 29)
+pub commit-cut : map (λ n. seen (commitImages geometry first second 0 1 0 0 0 0xff (deadline ∷ []) hour n)) (upTo 29)
     ≡ replicate 28 old ++ replicate 2 (record { block = 0; rev = 1; end = 80; due = hour })
 unfolding upTo seenBy withForward carriedFor carries commitImages verdictOf commitFits pairFits geometryFits fetchOf
     tooHigh view rank log committed walk walkFrom walkIn classOf readBehind bodyLength tagLength tagFlipped be32 le32
     toBe32 toLe32 xor crc crcByte crcBits crcBit mdirOf erasedOf stoppedStraight span eventLength tagAfter countOf
     counted splitOf tailOf forwardOf seedOf appended Regular regularFrom ruleOf ruleHolds countAfter growsAfter
-    countRaised judge entryBody placed roundedEnd checkSize roomOf allErased coincides fill entriesLength tagOf
+    countRaised judge entryBody placed roundedEnd checkSize roomOf allErased coincides tagCoincides fill checkType validityFits entriesLength tagOf
     appending commitBytes getsliceBuffer getsliceFits recordFits searched back backs wlook splicedAt asIds
 commit-cut = refl
 
 -- 52 stores, the first the erase: after each of the first 51 the old pair, after the last the second block with the
 -- next revision
-pub compaction-cut : map (λ n. seen (compactImages geometry first second 0 1 0 0 0 n)) (upTo 53)
+pub compaction-cut : map (λ n. seen (compactImages geometry first second 0 1 0 0 0 0xff n)) (upTo 53)
     ≡ replicate 52 old ++ replicate 2 (record { block = 1; rev = 2; end = 64; due = day })
 unfolding upTo seenBy withForward carriedFor carries compactImages compactVerdict compactable placedAnew compacting
     compactBytes compactionItems dirItems slotItems dirOf dir acts act apply reaching upd empty moveOf verdictOf
@@ -125,41 +126,41 @@ unfolding upTo seenBy withForward carriedFor carries compactImages compactVerdic
     bodyLength tagLength tagFlipped be32 le32 toBe32 toLe32 xor crc crcByte crcBits crcBit mdirOf erasedOf
     stoppedStraight span eventLength tagAfter countOf counted splitOf tailOf forwardOf seedOf appended Regular
     regularFrom ruleOf ruleHolds countAfter growsAfter countRaised judge entryBody placed roundedEnd checkSize roomOf
-    allErased coincides fill entriesLength tagOf appending commitBytes getsliceBuffer getsliceFits recordFits searched
+    allErased coincides tagCoincides fill checkType validityFits entriesLength tagOf appending commitBytes getsliceBuffer getsliceFits recordFits searched
     back backs wlook splicedAt asIds
 compaction-cut = refl
 
 -- both are accepted, so `commit-stopped` and `compact-stopped` speak of them
-pub takes-commit : verdictOf geometry first second 0 1 0 0 0 (deadline ∷ []) hour
-    ≡ accepted false (itemsOf hour (deadline ∷ []) ++ (forwardItem (unitCheck 16) ∷ [])) 8
+pub takes-commit : verdictOf geometry first second 0 1 0 0 0 0xff (deadline ∷ []) hour
+    ≡ accepted false (itemsOf hour (deadline ∷ []) ++ (forwardItem (unitCheck 0xff 16) ∷ [])) 8
 unfolding withForward carriedFor carries verdictOf commitFits pairFits geometryFits fetchOf tooHigh view rank log
     committed walk walkFrom walkIn classOf readBehind bodyLength tagLength tagFlipped be32 le32 toBe32 toLe32 xor crc
     crcByte crcBits crcBit mdirOf erasedOf stoppedStraight span eventLength tagAfter countOf counted splitOf tailOf
     forwardOf seedOf appended Regular regularFrom ruleOf ruleHolds countAfter growsAfter countRaised judge entryBody
-    placed roundedEnd checkSize roomOf allErased coincides fill entriesLength tagOf appending commitBytes getsliceBuffer
+    placed roundedEnd checkSize roomOf allErased coincides tagCoincides fill checkType validityFits entriesLength tagOf appending commitBytes getsliceBuffer
     getsliceFits recordFits searched back backs wlook splicedAt asIds
 takes-commit = refl
 
-pub takes-compaction : compactVerdict geometry first second 0 1 0 0 0 ≡ compactAccepted false 2
-    (compactionItems (log first) ++ (forwardItem (unitCheck 16) ∷ [])) 17
+pub takes-compaction : compactVerdict geometry first second 0 1 0 0 0 0xff ≡ compactAccepted false 2
+    (compactionItems (log first) ++ (forwardItem (unitCheck 0xff 16) ∷ [])) 17
 unfolding withForward carriedFor carries compactVerdict compactable placedAnew compactionItems dirItems slotItems dirOf
     dir acts act apply reaching upd empty moveOf verdictOf commitFits pairFits geometryFits fetchOf tooHigh view rank
     log committed walk walkFrom walkIn classOf readBehind bodyLength tagLength tagFlipped be32 le32 toBe32 toLe32 xor
     crc crcByte crcBits crcBit mdirOf erasedOf stoppedStraight span eventLength tagAfter countOf counted splitOf tailOf
     forwardOf seedOf appended Regular regularFrom ruleOf ruleHolds countAfter growsAfter countRaised judge entryBody
-    placed roundedEnd checkSize roomOf allErased coincides fill entriesLength tagOf appending commitBytes getsliceBuffer
+    placed roundedEnd checkSize roomOf allErased coincides tagCoincides fill checkType validityFits entriesLength tagOf appending commitBytes getsliceBuffer
     getsliceFits recordFits searched back backs wlook splicedAt asIds
 takes-compaction = refl
 
 -- so of the commit: whatever n, the finished images or the old reading; and what the finished pair holds
 pub commit-example : (n : ℕ)
     → Stopped geometry 0 1 Document Document first second
-    (commitImages geometry first second 0 1 0 0 0 (deadline ∷ []) hour n .b0)
-    (commitImages geometry first second 0 1 0 0 0 (deadline ∷ []) hour n .b1)
-    (commitImages geometry first second 0 1 0 0 0 (deadline ∷ []) hour unlimited)
+    (commitImages geometry first second 0 1 0 0 0 0xff (deadline ∷ []) hour n .b0)
+    (commitImages geometry first second 0 1 0 0 0 0xff (deadline ∷ []) hour n .b1)
+    (commitImages geometry first second 0 1 0 0 0 0xff (deadline ∷ []) hour unlimited)
     (machineOf (log first)) (ran (machineOf (log first)) (written (itemsOf hour (deadline ∷ [])) []))
-commit-example n = commit-stopped geometry first second 0 1 0 0 0 (deadline ∷ []) hour n false
-    (itemsOf hour (deadline ∷ []) ++ (forwardItem (unitCheck 16) ∷ [])) 8 takes-commit
+commit-example n = commit-stopped geometry first second 0 1 0 0 0 0xff (deadline ∷ []) hour n false
+    (itemsOf hour (deadline ∷ []) ++ (forwardItem (unitCheck 0xff 16) ∷ [])) 8 takes-commit
 
 -- which is the new deadline, and the name of before
 pub holds-the-hour : (asked (ran (machineOf (log first)) (written (itemsOf hour (deadline ∷ [])) [])) (attribute 0 0x74)
@@ -186,15 +187,15 @@ unfolding allBytes
 are-bytes = (refl, refl)
 
 pub compaction-example : (n : ℕ)
-    → Stopped geometry 0 1 Document Document first second (compactImages geometry first second 0 1 0 0 0 n .b0)
-    (compactImages geometry first second 0 1 0 0 0 n .b1) (compactImages geometry first second 0 1 0 0 0 unlimited)
+    → Stopped geometry 0 1 Document Document first second (compactImages geometry first second 0 1 0 0 0 0xff n .b0)
+    (compactImages geometry first second 0 1 0 0 0 0xff n .b1) (compactImages geometry first second 0 1 0 0 0 0xff unlimited)
     (machineOf (log first)) (machineOf (log first))
 compaction-example n =
-    compact-stopped geometry first second 0 1 0 0 0 n (bytes-of first (are-bytes .0)) (bytes-of second (are-bytes .1))
-    false 2 (compactionItems (log first) ++ (forwardItem (unitCheck 16) ∷ [])) 17 takes-compaction
+    compact-stopped geometry first second 0 1 0 0 0 0xff n (bytes-of first (are-bytes .0)) (bytes-of second (are-bytes .1))
+    false 2 (compactionItems (log first) ++ (forwardItem (unitCheck 0xff 16) ∷ [])) 17 takes-compaction
 
 abbrev stopped : Images
-stopped = commitImages geometry first second 0 1 0 0 0 (deadline ∷ []) hour 10
+stopped = commitImages geometry first second 0 1 0 0 0 0xff (deadline ∷ []) hour 10
 
 -- A restart fetches from a seed of its own, and with the block count that it knows: stopped after ten stores, the pair
 -- is found with the old end and the old deadline from the seed 7 and with two blocks.
@@ -203,6 +204,6 @@ unfolding seenBy withForward carriedFor carries commitImages verdictOf commitFit
     view rank log committed walk walkFrom walkIn classOf readBehind bodyLength tagLength tagFlipped be32 le32 toBe32
     toLe32 xor crc crcByte crcBits crcBit mdirOf erasedOf stoppedStraight span eventLength tagAfter countOf counted
     splitOf tailOf forwardOf seedOf appended Regular regularFrom ruleOf ruleHolds countAfter growsAfter countRaised
-    judge entryBody placed roundedEnd checkSize roomOf allErased coincides fill entriesLength tagOf appending
+    judge entryBody placed roundedEnd checkSize roomOf allErased coincides tagCoincides fill checkType validityFits entriesLength tagOf appending
     commitBytes getsliceBuffer getsliceFits recordFits searched back backs wlook splicedAt asIds
 other-seed = refl

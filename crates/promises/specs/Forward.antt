@@ -29,51 +29,51 @@ use Rattle.theory.specs.Stopped.Compaction as compaction
 -- ---- -28 goes by the end that is really laid, and that passes the block exactly if the entries' own rounded end does,
 -- so that what is accepted is what was. Of entries that begin at `from`, a commit's at the old end and a compaction's
 -- at 4, and of any block size
-pub space-same : (prog block from : ℕ) (is : List Item) → 4 ≤ prog
-    → ltb block (roundedEnd prog (from + entriesLength (withForward prog block from is)))
+pub space-same : (e prog block from : ℕ) (is : List Item) → 4 ≤ prog
+    → ltb block (roundedEnd prog (from + entriesLength (withForward e prog block from is)))
     ≡ ltb block (roundedEnd prog (from + entriesLength is))
-space-same prog block from is some = forward.space-same prog block from is some
+space-same e prog block from is some = forward.space-same e prog block from is some
 
 -- ---- a record whose mark is yes, and which holds the check of an erased unit
-pub record Marked (prog : ℕ) (answer : Committed) : Type 0 where
+pub record Marked (e prog : ℕ) (answer : Committed) : Type 0 where
   pub dir : LfsMdir
   pub read : ℕ
   pub done : answer ≡ Done dir read
   pub erased : dir .erased ≡ true
-  pub held : dir .fcrc ≡ unitCheck prog
+  pub held : dir .fcrc ≡ unitCheck e prog
 
-module _ (g : Geometry) (b0 b1 : List ℕ) (n0 n1 count seed rules : ℕ) where
+module _ (g : Geometry) (b0 b1 : List ℕ) (n0 n1 count seed rules e : ℕ) where
   -- an accepted commit that carried a forward check: the room was clean, so the unit behind the new end is erased
   pub commit-marked : (entries : List Entry) (dat : List ℕ) (second : Bool) (is : List Item) (size : ℕ)
-      → verdictOf g b0 b1 n0 n1 count seed rules entries dat ≡ accepted second is size
+      → verdictOf g b0 b1 n0 n1 count seed rules e entries dat ≡ accepted second is size
       → carries (g .«prog_size») (length (blockAt second b0 b1))
       (logEnd (log (blockAt second b0 b1)) + entriesLength (itemsOf dat entries)) ≡ true
-      → Marked (g .«prog_size») (commitOf g b0 b1 n0 n1 count seed rules entries dat)
+      → Marked e (g .«prog_size») (commitOf g b0 b1 n0 n1 count seed rules e entries dat)
   unfolding commitOf mdirOf
   commit-marked entries dat second is size h carried =
-      let found = commit.commit-found-again g b0 b1 n0 n1 count seed rules entries dat second is size h in
+      let found = commit.commit-found-again g b0 b1 n0 n1 count seed rules e entries dat second is size h in
       record {
         dir = _;
         read = _;
         done = ap₂ answerOf found h;
-        erased = commit.commit-erased g b0 b1 n0 n1 count seed rules entries dat second is size h carried;
-        held = commit.commit-held g b0 b1 n0 n1 count seed rules entries dat second is size h carried;
+        erased = commit.commit-erased g b0 b1 n0 n1 count seed rules e entries dat second is size h carried;
+        held = commit.commit-held g b0 b1 n0 n1 count seed rules e entries dat second is size h carried;
       }
 
   -- a compaction, of images that are bytes
   pub compact-marked : (second : Bool) (rev : ℕ) (is : List Item) (size : ℕ)
-      → compactVerdict g b0 b1 n0 n1 count seed rules ≡ compactAccepted second rev is size
+      → compactVerdict g b0 b1 n0 n1 count seed rules e ≡ compactAccepted second rev is size
       → Bytes (blockAt second b0 b1)
       → carries (g .«prog_size») (length (blockAt second b0 b1))
       (compactCheckAt (compactionItems (log (blockAt second b0 b1)))) ≡ true
-      → Marked (g .«prog_size») (compactOf g b0 b1 n0 n1 count seed rules)
+      → Marked e (g .«prog_size») (compactOf g b0 b1 n0 n1 count seed rules e)
   unfolding compactOf mdirOf
   compact-marked second rev is size h bytes carried =
-      let found = compaction.compact-found-again g b0 b1 n0 n1 count seed rules second rev is size h bytes in
+      let found = compaction.compact-found-again g b0 b1 n0 n1 count seed rules e second rev is size h bytes in
       record {
         dir = _;
         read = _;
         done = ap₂ compactAnswer found h;
-        erased = compaction.compact-erased g b0 b1 n0 n1 count seed rules second rev is size h bytes carried;
-        held = compaction.compact-held g b0 b1 n0 n1 count seed rules second rev is size h bytes carried;
+        erased = compaction.compact-erased g b0 b1 n0 n1 count seed rules e second rev is size h bytes carried;
+        held = compaction.compact-held g b0 b1 n0 n1 count seed rules e second rev is size h bytes carried;
       }

@@ -245,21 +245,21 @@ module _ (g : Geometry) (b0 b1 : List ℕ) (n0 n1 count seed : ℕ) where
   pub fetch-told : FetchedTold seed (fetchOf g b0 b1 n0 n1 count seed)
   fetch-told = fetched-determined seed _ (fetch-possible g b0 b1 n0 n1 count seed)
 
-module _ (g : Geometry) (b0 b1 : List ℕ) (n0 n1 count seed rules : ℕ) where
+module _ (g : Geometry) (b0 b1 : List ℕ) (n0 n1 count seed rules e : ℕ) where
   pub commit-told : (entries : List Entry) (dat : List ℕ)
-      → CommittedTold seed (commitOf g b0 b1 n0 n1 count seed rules entries dat)
+      → CommittedTold seed (commitOf g b0 b1 n0 n1 count seed rules e entries dat)
   commit-told entries dat =
-      committed-determined CommitRefuses (λ r h. h) seed _ (commit-possible g b0 b1 n0 n1 count seed rules entries dat)
+      committed-determined CommitRefuses (λ r h. h) seed _ (commit-possible g b0 b1 n0 n1 count seed rules e entries dat)
 
   pub commit-stores-told : (entries : List Entry) (dat : List ℕ) (n : ℕ)
-      → StoredTold (commitStoresOf g b0 b1 n0 n1 count seed rules entries dat n)
+      → StoredTold (commitStoresOf g b0 b1 n0 n1 count seed rules e entries dat n)
   commit-stores-told entries dat n =
-      stored-determined CommitRefuses (λ r h. h) _ (commit-stores-possible g b0 b1 n0 n1 count seed rules entries dat n)
+      stored-determined CommitRefuses (λ r h. h) _ (commit-stores-possible g b0 b1 n0 n1 count seed rules e entries dat n)
 
-  pub compact-told : CommittedTold seed (compactOf g b0 b1 n0 n1 count seed rules)
+  pub compact-told : CommittedTold seed (compactOf g b0 b1 n0 n1 count seed rules e)
   compact-told =
-      committed-determined CompactRefuses compact-written seed _ (compact-possible g b0 b1 n0 n1 count seed rules)
+      committed-determined CompactRefuses compact-written seed _ (compact-possible g b0 b1 n0 n1 count seed rules e)
 
-  pub compact-stores-told : (n : ℕ) → StoredTold (compactStoresOf g b0 b1 n0 n1 count seed rules n)
+  pub compact-stores-told : (n : ℕ) → StoredTold (compactStoresOf g b0 b1 n0 n1 count seed rules e n)
   compact-stores-told n =
-      stored-determined CompactRefuses compact-written _ (compact-stores-possible g b0 b1 n0 n1 count seed rules n)
+      stored-determined CompactRefuses compact-written _ (compact-stores-possible g b0 b1 n0 n1 count seed rules e n)

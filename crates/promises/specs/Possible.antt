@@ -64,7 +64,7 @@ pub data AlignRefuses : Refusal → Type 0 where
   align22 : AlignRefuses Invalid
 
 -- "Commit: -22, fetch's own refusals, -202, -201, -28, -203, -204", and "-203 becomes -211 misaligned end, -212 top
--- bit, -213 byte with offset".
+-- bit, -213 byte with offset", the second of them "now 'wrong validity bit'".
 pub data CommitRefuses : Refusal → Type 0 where
   commit22 : CommitRefuses Invalid
   commitFetch : {r : Refusal} → FetchRefuses r → CommitRefuses r
@@ -76,7 +76,8 @@ pub data CommitRefuses : Refusal → Type 0 where
   commit213 : {at : ℕ} → CommitRefuses (NotErased at)
   commit204 : CommitRefuses Coincidence
 
--- "Compaction: the same without -201 and -203." Its -22 is fetch's, or of a rule that is neither of the two.
+-- "Compaction: the same without -201 and -203." Its -22 is fetch's, or of a rule or an erased byte
+-- that is neither of the two.
 pub data CompactRefuses : Refusal → Type 0 where
   compactFetch : {r : Refusal} → FetchRefuses r → CompactRefuses r
   compact202 : CompactRefuses Irregular

@@ -42,12 +42,12 @@ refetch-is-fetch g g′ a0 a1 b0 b1 n0 n1 count count′ seed m s =
 
 -- BEHIND A COMMIT, after any number n of its stores, all of them or none; and also where it is refused: the refetch
 -- from the record before it is a fetch.
-pub refetch-behind-commit : (g : Geometry) (b0 b1 : List ℕ) (n0 n1 count seed rules : ℕ) (entries : List Entry)
+pub refetch-behind-commit : (g : Geometry) (b0 b1 : List ℕ) (n0 n1 count seed rules e : ℕ) (entries : List Entry)
     (dat : List ℕ) (n : ℕ) (m : LfsMdir) (s : ℕ) → Gave (fetchOf g b0 b1 n0 n1 count seed) m s
-    → (let i : Images = commitImages g b0 b1 n0 n1 count seed rules entries dat n in
+    → (let i : Images = commitImages g b0 b1 n0 n1 count seed rules e entries dat n in
     refetchOf g (i .b0) (i .b1) n0 n1 count s m ≡ fetchOf g (i .b0) (i .b1) n0 n1 count seed)
-refetch-behind-commit g b0 b1 n0 n1 count seed rules entries dat n m s =
-    commit.refetch-behind g b0 b1 n0 n1 count seed rules entries dat n m s
+refetch-behind-commit g b0 b1 n0 n1 count seed rules e entries dat n m s =
+    commit.refetch-behind g b0 b1 n0 n1 count seed rules e entries dat n m s
 
 -- ---- of any record, seed and images
 module _ (g : Geometry) (b0 b1 : List ℕ) (n0 n1 count seed : ℕ) (m : LfsMdir) where

@@ -18,6 +18,7 @@ use Rattle.format.specs.Directory.{dirOf}
 use Rattle.format.specs.Word.{le32, plus32}
 use Rattle.format.specs.Record.{countOf}
 use Rattle.format.specs.Fetch.{fetchOf}
+use Rattle.format.specs.Erased.{erasedFits}
 use Rattle.format.specs.Writer.{refused, blockAt, isSecond, commitFits, placed, judgedBy, appended}
 use Rattle.format.specs.Writer.{withForward, fetchedThen, verdictOf}
 use Rattle.format.specs.Compaction.{compactionItems, compactRefused, placedAnew, compactable}
@@ -103,40 +104,44 @@ either-rule es bad v = go (Regular Document es) refl
     go true e h = rw (littlefs-wider es e)
     go false e h = absurd (h refl)
 
-module _ (g : Geometry) (b0 b1 : List ℕ) (n0 n1 count seed : ℕ) where
+module _ (g : Geometry) (b0 b1 : List ℕ) (n0 n1 count seed e : ℕ) where
   abbrev block : LfsMdir → List ℕ
   block m = blockAt (isSecond n0 m) b0 b1
 
   pub commit-same : (entries : List Entry) (dat : List ℕ)
-      → (verdictOf g b0 b1 n0 n1 count seed 0 entries dat ≡ refused Irregular → ⊥)
-      → verdictOf g b0 b1 n0 n1 count seed 1 entries dat ≡ verdictOf g b0 b1 n0 n1 count seed 0 entries dat
+      → (verdictOf g b0 b1 n0 n1 count seed 0 e entries dat ≡ refused Irregular → ⊥)
+      → verdictOf g b0 b1 n0 n1 count seed 1 e entries dat ≡ verdictOf g b0 b1 n0 n1 count seed 0 e entries dat
   unfolding verdictOf commitFits appended
-  commit-same entries dat = go (commitFits g (length b0) (length b1) n0 n1 0 (length entries) (length dat))
+  commit-same entries dat = go (commitFits g (length b0) (length b1) n0 n1 0 e (length entries) (length dat))
       (fetchOf g b0 b1 n0 n1 count seed)
     where
       go : (x : Bool) (f : Fetched)
-          → (cond (not x) (refused Invalid) (fetchedThen f (λ m. appended Document (g .«prog_size») (isSecond n0 m)
+          → (cond (not x) (refused Invalid) (fetchedThen f (λ m. appended Document e (g .«prog_size») (isSecond n0 m)
           (block m) (log (block m)) entries dat)) ≡ refused Irregular → ⊥)
-          → cond (not x) (refused Invalid) (fetchedThen f (λ m. appended Littlefs (g .«prog_size») (isSecond n0 m)
+          → cond (not x) (refused Invalid) (fetchedThen f (λ m. appended Littlefs e (g .«prog_size») (isSecond n0 m)
           (block m) (log (block m)) entries dat))
-          ≡ cond (not x) (refused Invalid) (fetchedThen f (λ m. appended Document (g .«prog_size») (isSecond n0 m)
+          ≡ cond (not x) (refused Invalid) (fetchedThen f (λ m. appended Document e (g .«prog_size») (isSecond n0 m)
           (block m) (log (block m)) entries dat))
       go false f h = refl
       go true (fetched.Refused r) h = refl
       go true (fetched.Found m s) h = either-rule (log (block m)) (refused Irregular)
           (judgedBy (judge dat 0 (countOf 0 (log (block m))) entries)
-          (placed (g .«prog_size») (isSecond n0 m) (block m) (log (block m))
-          (withForward (g .«prog_size») (length (block m)) (logEnd (log (block m))) (itemsOf dat entries)))) h
+          (placed e (g .«prog_size») (isSecond n0 m) (block m) (log (block m))
+          (withForward e (g .«prog_size») (length (block m)) (logEnd (log (block m))) (itemsOf dat entries)))) h
 
-  pub compact-same : (compactVerdict g b0 b1 n0 n1 count seed 0 ≡ compactRefused Irregular → ⊥)
-      → compactVerdict g b0 b1 n0 n1 count seed 1 ≡ compactVerdict g b0 b1 n0 n1 count seed 0
+  pub compact-same : (compactVerdict g b0 b1 n0 n1 count seed 0 e ≡ compactRefused Irregular → ⊥)
+      → compactVerdict g b0 b1 n0 n1 count seed 1 e ≡ compactVerdict g b0 b1 n0 n1 count seed 0 e
   unfolding compactVerdict compactable
-  compact-same = go (fetchOf g b0 b1 n0 n1 count seed)
+  compact-same = go (erasedFits e) (fetchOf g b0 b1 n0 n1 count seed)
     where
-      go : (f : Fetched) → (compactFetched Document (g .«prog_size») b0 b1 n0 f ≡ compactRefused Irregular → ⊥)
-          → compactFetched Littlefs (g .«prog_size») b0 b1 n0 f ≡ compactFetched Document (g .«prog_size») b0 b1 n0 f
-      go (fetched.Refused r) h = refl
-      go (fetched.Found m s) h = either-rule (log (block m)) (compactRefused Irregular)
-          (placedAnew (g .«prog_size») (length (block m)) (isSecond n0 m)
+      go : (x : Bool) (f : Fetched)
+          → (cond (not x) (compactRefused Invalid) (compactFetched Document e (g .«prog_size») b0 b1 n0 f)
+          ≡ compactRefused Irregular → ⊥)
+          → cond (not x) (compactRefused Invalid) (compactFetched Littlefs e (g .«prog_size») b0 b1 n0 f)
+          ≡ cond (not x) (compactRefused Invalid) (compactFetched Document e (g .«prog_size») b0 b1 n0 f)
+      go false f h = refl
+      go true (fetched.Refused r) h = refl
+      go true (fetched.Found m s) h = either-rule (log (block m)) (compactRefused Irregular)
+          (placedAnew e (g .«prog_size») (length (block m)) (isSecond n0 m)
           (plus32 (le32 (block m)) 1)
-          (withForward (g .«prog_size») (length (block m)) 4 (compactionItems (log (block m))))) h
+          (withForward e (g .«prog_size») (length (block m)) 4 (compactionItems (log (block m))))) h
