@@ -15,7 +15,8 @@ use Rattle.format.specs.View.{rank, view}
 use Rattle.format.specs.Fetch.{geometryFits, pairFits, tooHigh, erasedOf, mdirOf, fetchOf}
 use Rattle.format.specs.Regular.{ruleOf, ruleHolds, countAfter, growsAfter, countRaised, regularFrom, Regular}
 use Rattle.format.specs.Commit.{commitBytes}
-use Rattle.format.specs.Stores.{erased, allErased, fill, entriesLength, appending, coincides}
+use Rattle.format.specs.Erased.{erased, allErased, checkType, validityFits}
+use Rattle.format.specs.Stores.{fill, entriesLength, appending, tagCoincides, coincides}
 use Rattle.format.specs.Entries.{entryBody, judge}
 use Rattle.format.specs.Room.{erasedRun, firstUnerased, roomOf}
 use Rattle.format.specs.Writer.{roundedEnd, checkSize, carries, carriedFor, withForward, commitFits, placed}
@@ -38,14 +39,14 @@ laid = 0x01 ∷ 0x00 ∷ 0x00 ∷ 0x00 ∷ 0xbf ∷ 0xef ∷ 0xff ∷ 0xff ∷ 0
     ∷ 0x4f ∷ 0xfc ∷ 0x09 ∷ 0x47 ∷ 0x38 ∷ 0xe4 ∷ 0x4d ∷ []
 
 abbrev first : List ℕ
-first = laid ++ erased 89
+first = laid ++ erased 0xff 89
 
 abbrev second : List ℕ
-second = erased 128
+second = erased 0xff 128
 
 -- the same with a check of type 0x501, and the checksum of that
 abbrev flipped : List ℕ
-flipped = take 31 laid ++ (0x67 ∷ 0x5f ∷ 0xfc ∷ 0x09 ∷ 0x37 ∷ 0x9b ∷ 0xc2 ∷ 0x51 ∷ []) ++ erased 89
+flipped = take 31 laid ++ (0x67 ∷ 0x5f ∷ 0xfc ∷ 0x09 ∷ 0x37 ∷ 0x9b ∷ 0xc2 ∷ 0x51 ∷ []) ++ erased 0xff 89
 
 -- a deadline of 3,600 in place of 90,000
 abbrev deadline : Entry
@@ -71,18 +72,18 @@ abbrev struct : ℕ → Entry
 struct n = record { kind = 0x201; id = 0; off = 0; len = n }
 
 abbrev image : List Entry → List ℕ → ℕ → Images
-image es dat n = commitImages geometry first second 0 1 0 0 0 es dat n
+image es dat n = commitImages geometry first second 0 1 0 0 0 0xff es dat n
 
 abbrev answer : List ℕ → List Entry → List ℕ → Committed
-answer b es dat = commitOf geometry b second 0 1 0 0 0 es dat
+answer b es dat = commitOf geometry b second 0 1 0 0 0 0xff es dat
 
 -- five stores; all of them; the answers; "an entry is bad", the space, both ("-201, -28": the entry); the end, 48, no
--- multiple of the program size 32, the end tag's top bit, a byte far behind the end that isn't erased; equal block
+-- multiple of the program size 32, the end tag's validity bit, a byte far behind the end that isn't erased; equal block
 -- numbers
-listing : (image (deadline ∷ []) seconds 5 ≡ images (laid ++ erased 9 ++ take 5 more ++ erased 75) second)
-    × (commitStoresOf geometry first second 0 1 0 0 0 (deadline ∷ []) seconds 5 ≡ stored.Made 5)
-    × (image (deadline ∷ []) seconds unlimited ≡ images (laid ++ erased 9 ++ more ++ erased 52) second)
-    × (commitStoresOf geometry first second 0 1 0 0 0 (deadline ∷ []) seconds 29 ≡ stored.Made 28)
+listing : (image (deadline ∷ []) seconds 5 ≡ images (laid ++ erased 0xff 9 ++ take 5 more ++ erased 0xff 75) second)
+    × (commitStoresOf geometry first second 0 1 0 0 0 0xff (deadline ∷ []) seconds 5 ≡ stored.Made 5)
+    × (image (deadline ∷ []) seconds unlimited ≡ images (laid ++ erased 0xff 9 ++ more ++ erased 0xff 52) second)
+    × (commitStoresOf geometry first second 0 1 0 0 0 0xff (deadline ∷ []) seconds 29 ≡ stored.Made 28)
     × (answer first (deadline ∷ []) seconds
     ≡ committed.Done (record {
       pair = record { n0 = 0; n1 = 1 };
@@ -98,18 +99,18 @@ listing : (image (deadline ∷ []) seconds 5 ≡ images (laid ++ erased 9 ++ tak
     0x8431_4617)
     × (answer first (create ∷ past ∷ []) seconds ≡ committed.Refused (BadEntry 1))
     × (image (create ∷ past ∷ []) seconds 5 ≡ images first second)
-    × (commitStoresOf geometry first second 0 1 0 0 0 (struct 68 ∷ []) (erased 69) 100 ≡ stored.Made 80)
-    × (answer first (struct 69 ∷ []) (erased 69) ≡ committed.Refused NoSpace)
-    × (answer first (struct 69 ∷ past ∷ []) (erased 69) ≡ committed.Refused (BadEntry 1))
-    × (commitOf (record { «block_size» = 128; «prog_size» = 32 }) first second 0 1 0 0 0 (deadline ∷ []) seconds
+    × (commitStoresOf geometry first second 0 1 0 0 0 0xff (struct 68 ∷ []) (erased 0xff 69) 100 ≡ stored.Made 80)
+    × (answer first (struct 69 ∷ []) (erased 0xff 69) ≡ committed.Refused NoSpace)
+    × (answer first (struct 69 ∷ past ∷ []) (erased 0xff 69) ≡ committed.Refused (BadEntry 1))
+    × (commitOf (record { «block_size» = 128; «prog_size» = 32 }) first second 0 1 0 0 0 0xff (deadline ∷ []) seconds
     ≡ committed.Refused Misaligned)
     × (answer flipped (deadline ∷ []) seconds ≡ committed.Refused WrongValidity)
-    × (answer (laid ++ erased 88 ++ (0xfe ∷ [])) (deadline ∷ []) seconds ≡ committed.Refused (NotErased 127))
-    × (commitOf geometry first second 7 7 0 0 0 [] [] ≡ committed.Refused Invalid)
+    × (answer (laid ++ erased 0xff 88 ++ (0xfe ∷ [])) (deadline ∷ []) seconds ≡ committed.Refused (NotErased 127))
+    × (commitOf geometry first second 7 7 0 0 0 0xff [] [] ≡ committed.Refused Invalid)
 unfolding withForward carriedFor carries commitImages commitOf commitStoresOf verdictOf commitFits pairFits geometryFits
     fetchOf tooHigh view rank log committed walk walkFrom walkIn classOf readBehind bodyLength tagLength tagFlipped be32
     le32 toBe32 toLe32 xor crc crcByte crcBits crcBit mdirOf erasedOf stoppedStraight span eventLength tagAfter countOf
     counted splitOf tailOf forwardOf seedOf appended Regular regularFrom ruleOf ruleHolds countAfter growsAfter
-    countRaised judge entryBody placed roundedEnd checkSize roomOf erasedRun firstUnerased allErased coincides fill
+    countRaised judge entryBody placed roundedEnd checkSize roomOf erasedRun firstUnerased allErased coincides tagCoincides fill checkType validityFits
     entriesLength tagOf appending commitBytes
 listing = (refl, refl, refl, refl, refl, refl, refl, refl, refl, refl, refl, refl, refl, refl)

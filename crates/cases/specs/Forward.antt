@@ -17,7 +17,8 @@ use Rattle.format.specs.Fetch.{geometryFits, pairFits, tooHigh, erasedOf, mdirO
 use Rattle.format.specs.Regular.{ruleOf, ruleHolds, countAfter, growsAfter, countRaised, regularFrom, Regular}
 use Rattle.format.specs.Directory.{upd, empty, reaching, apply, dir, act, acts, dirOf, moveOf}
 use Rattle.format.specs.Commit.{commitBytes}
-use Rattle.format.specs.Stores.{erased, allErased, fill, entriesLength, appending, compactBytes, compacting, coincides}
+use Rattle.format.specs.Erased.{allErased, checkType, validityFits}
+use Rattle.format.specs.Stores.{fill, entriesLength, appending, compactBytes, compacting, tagCoincides, coincides}
 use Rattle.format.specs.Entries.{entryBody, judge}
 use Rattle.format.specs.Room.{roomOf}
 use Rattle.format.specs.Writer.{roundedEnd, checkSize, carries, carriedFor, withForward, commitFits, placed, appended}
@@ -66,7 +67,7 @@ abbrev payload : ℕ → Entry
 payload n = record { kind = 0x201; id = 0; off = 0; len = n }
 
 abbrev commit : List ℕ → Entry → List ℕ → Committed
-commit b e dat = commitOf geometry b (blank 128) 0 1 0 0 0 (e ∷ []) dat
+commit b e dat = commitOf geometry b (blank 128) 0 1 0 0 0 0xff (e ∷ []) dat
 
 -- Behind the listing, whose end is 48. Of 40 bytes: with the twelve the check tag stands at 104, the end is 112, and
 -- one unit follows. Of 41: the end would be 128; without them it is 112, and no forward check is in the block: the unit
@@ -77,7 +78,7 @@ unfolding withForward carriedFor carries commitImages commitOf verdictOf commitF
     tooHigh view rank log committed walk walkFrom walkIn classOf readBehind bodyLength tagLength tagFlipped be32 le32
     toBe32 toLe32 xor crc crcByte crcBits crcBit mdirOf erasedOf stoppedStraight span eventLength tagAfter countOf
     counted splitOf tailOf forwardOf seedOf appended Regular regularFrom ruleOf ruleHolds countAfter growsAfter
-    countRaised judge entryBody placed roundedEnd checkSize roomOf allErased coincides fill entriesLength tagOf
+    countRaised judge entryBody placed roundedEnd checkSize roomOf allErased coincides tagCoincides fill checkType validityFits entriesLength tagOf
     appending commitBytes
 edges = (refl, refl)
 
@@ -91,7 +92,7 @@ fresh =
 -- the third commit, of 9 bytes, carries none. "a forward check was seen in ANY commit so far", and the last one's fits:
 -- sixteen bytes behind the new end are erased.
 abbrev hourly : List ℕ
-hourly = commitImages geometry listing (blank 128) 0 1 0 0 0 (record { kind = 0x374; id = 0; off = 0; len = 4 } ∷ [])
+hourly = commitImages geometry listing (blank 128) 0 1 0 0 0 0xff (record { kind = 0x374; id = 0; off = 0; len = 4 } ∷ [])
     (0x10 ∷ 0x0e ∷ 0x00 ∷ 0x00 ∷ []) unlimited .b0
 
 -- "the last committed forward check, or none": one that is not committed, behind the fresh pair's end.
@@ -110,7 +111,7 @@ unfolding withForward carriedFor carries commitImages commitOf verdictOf commitF
     tooHigh view rank log committed walk walkFrom walkIn classOf readBehind bodyLength tagLength tagFlipped be32 le32
     toBe32 toLe32 xor crc crcByte crcBits crcBit mdirOf erasedOf stoppedStraight span eventLength tagAfter countOf
     counted splitOf tailOf forwardOf seedOf appended Regular regularFrom ruleOf ruleHolds countAfter growsAfter
-    countRaised judge entryBody placed roundedEnd checkSize roomOf allErased coincides fill entriesLength tagOf
+    countRaised judge entryBody placed roundedEnd checkSize roomOf allErased coincides tagCoincides fill checkType validityFits entriesLength tagOf
     appending commitBytes
 marks = (refl, refl, refl)
 
@@ -123,8 +124,8 @@ renewed =
     ∷ 0x91 ∷ 0x83 ∷ 0x45 ∷ [])
     ++ blank 77
 
-pub compacted : (compactImages geometry listing (blank 128) 0 1 0 0 0 unlimited ≡ images listing renewed)
-    × (compactOf geometry listing (blank 128) 0 1 0 0 0
+pub compacted : (compactImages geometry listing (blank 128) 0 1 0 0 0 0xff unlimited ≡ images listing renewed)
+    × (compactOf geometry listing (blank 128) 0 1 0 0 0 0xff
     ≡ committed.Done (record {
       pair = record { n0 = 1; n1 = 0 };
       rev = 2;
@@ -141,5 +142,5 @@ unfolding withForward carriedFor carries compactImages compactOf compactVerdict 
     geometryFits fetchOf tooHigh view rank log committed walk walkFrom walkIn classOf readBehind bodyLength tagLength
     tagFlipped be32 le32 toBe32 toLe32 xor crc crcByte crcBits crcBit mdirOf erasedOf stoppedStraight span eventLength
     tagAfter countOf counted splitOf tailOf forwardOf seedOf Regular regularFrom ruleOf ruleHolds countAfter growsAfter
-    countRaised roundedEnd checkSize coincides fill entriesLength tagOf commitBytes
+    countRaised roundedEnd checkSize coincides tagCoincides fill checkType validityFits entriesLength tagOf commitBytes
 compacted = (refl, refl)

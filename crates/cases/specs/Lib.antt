@@ -5,6 +5,7 @@ pub mod Commits
 pub mod Forward
 pub mod Refetch
 pub mod Room
+pub mod Erased
 pub mod Walks
 pub mod Rules
 pub mod Littlefs

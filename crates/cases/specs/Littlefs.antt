@@ -18,7 +18,8 @@ use Rattle.format.specs.Fetch.{geometryFits, pairFits, tooHigh, erasedOf, mdirO
 use Rattle.format.specs.Regular.{ruleOf, ruleHolds, countAfter, growsAfter, countRaised, regularFrom, Regular}
 use Rattle.format.specs.Directory.{empty, upd, reaching, apply, dir, act, acts, dirOf, moveOf}
 use Rattle.format.specs.Commit.{Item, commitBytes}
-use Rattle.format.specs.Stores.{allErased, coincides, fill, entriesLength, appending}
+use Rattle.format.specs.Erased.{allErased, checkType, validityFits}
+use Rattle.format.specs.Stores.{tagCoincides, coincides, fill, entriesLength, appending}
 use Rattle.format.specs.Room.{roomOf}
 use Rattle.format.specs.Entries.{judge, entryBody}
 use Rattle.format.specs.Writer.{accepted, refused, commitFits, roundedEnd, checkSize, unitCheck, forwardItem, carries}
@@ -128,14 +129,14 @@ unfolding fetchInput blockText dirLines refusedLine slotLines attrLines attrLine
 texts = (refl, refl, refl)
 
 -- a commit of nothing but the forward check: by the three numbers
-pub commits : (verdictOf geometry grown (blank 128) 0 1 0 0 0 [] [] ≡ refused Irregular)
-    × (verdictOf geometry grown (blank 128) 0 1 0 0 1 [] [] ≡ accepted false (forwardItem (unitCheck 16) ∷ []) 16)
-    × (verdictOf geometry grown (blank 128) 0 1 0 0 2 [] [] ≡ refused Invalid)
+pub commits : (verdictOf geometry grown (blank 128) 0 1 0 0 0 0xff [] [] ≡ refused Irregular)
+    × (verdictOf geometry grown (blank 128) 0 1 0 0 1 0xff [] [] ≡ accepted false (forwardItem (unitCheck 0xff 16) ∷ []) 16)
+    × (verdictOf geometry grown (blank 128) 0 1 0 0 2 0xff [] [] ≡ refused Invalid)
 unfolding withForward carriedFor carries verdictOf commitFits pairFits geometryFits fetchOf tooHigh view rank log
     committed walk walkFrom walkIn classOf readBehind bodyLength tagLength tagFlipped be32 le32 toBe32 toLe32 xor crc
     crcByte crcBits crcBit mdirOf erasedOf stoppedStraight span eventLength tagAfter countOf counted splitOf tailOf
     forwardOf seedOf appended Regular regularFrom ruleOf ruleHolds countAfter growsAfter countRaised judge entryBody
-    placed roundedEnd checkSize roomOf allErased coincides fill entriesLength tagOf appending commitBytes
+    placed roundedEnd checkSize roomOf allErased coincides tagCoincides fill checkType validityFits entriesLength tagOf appending commitBytes
 commits = (refl, refl, refl)
 
 -- what its compaction lays down: a create for each slot, the empty one too
@@ -153,13 +154,13 @@ wide =
     ∷ 0x35 ∷ 0x59 ∷ [])
     ++ blank 111
 
-pub no-room : (compactVerdict geometry wide (blank 128) 0 1 0 0 0 ≡ compactRefused Irregular)
-    × (compactVerdict geometry wide (blank 128) 0 1 0 0 1 ≡ compactRefused NoSpace)
-    × (compactVerdict geometry wide (blank 128) 0 1 0 0 2 ≡ compactRefused Invalid)
+pub no-room : (compactVerdict geometry wide (blank 128) 0 1 0 0 0 0xff ≡ compactRefused Irregular)
+    × (compactVerdict geometry wide (blank 128) 0 1 0 0 1 0xff ≡ compactRefused NoSpace)
+    × (compactVerdict geometry wide (blank 128) 0 1 0 0 2 0xff ≡ compactRefused Invalid)
 unfolding withForward carriedFor carries compactVerdict compactable placedAnew compactionItems dirItems slotItems dirOf
     dir acts act apply reaching upd empty moveOf pairFits geometryFits fetchOf tooHigh view rank log committed walk
     walkFrom walkIn classOf readBehind bodyLength tagLength tagFlipped be32 le32 toBe32 toLe32 xor crc crcByte crcBits
     crcBit mdirOf erasedOf stoppedStraight span eventLength tagAfter countOf counted splitOf tailOf forwardOf seedOf
-    Regular regularFrom ruleOf ruleHolds countAfter growsAfter countRaised roundedEnd checkSize coincides fill
+    Regular regularFrom ruleOf ruleHolds countAfter growsAfter countRaised roundedEnd checkSize coincides tagCoincides fill checkType validityFits
     entriesLength tagOf
 no-room = (refl, refl, refl)

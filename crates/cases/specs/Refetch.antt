@@ -17,7 +17,8 @@ use Rattle.format.specs.Refetch.{mdirBehind, refetchOf, knownTo}
 use Rattle.format.specs.Regular.{ruleOf, ruleHolds, countAfter, growsAfter, countRaised, regularFrom, Regular}
 use Rattle.format.specs.Directory.{upd, empty, reaching, apply, dir, act, acts, dirOf, moveOf}
 use Rattle.format.specs.Commit.{commitBytes}
-use Rattle.format.specs.Stores.{allErased, fill, entriesLength, appending, compactBytes, compacting, coincides}
+use Rattle.format.specs.Erased.{allErased, checkType, validityFits}
+use Rattle.format.specs.Stores.{fill, entriesLength, appending, compactBytes, compacting, tagCoincides, coincides}
 use Rattle.format.specs.Entries.{entryBody, judge}
 use Rattle.format.specs.Room.{roomOf}
 use Rattle.format.specs.Writer.{roundedEnd, checkSize, carries, carriedFor, withForward, commitFits, placed, appended}
@@ -61,7 +62,7 @@ abbrev before : LfsMdir
 before = recordAt 48 0x500f_fc0d 1 false noForward
 
 abbrev hourly : List ℕ
-hourly = commitImages geometry listing (blank 128) 0 1 0 0 0 (record { kind = 0x374; id = 0; off = 0; len = 4 } ∷ [])
+hourly = commitImages geometry listing (blank 128) 0 1 0 0 0 0xff (record { kind = 0x374; id = 0; off = 0; len = 4 } ∷ [])
     (0x10 ∷ 0x0e ∷ 0x00 ∷ 0x00 ∷ []) unlimited .b0
 
 -- the check of sixteen erased bytes, as littlefs itself writes it
@@ -75,7 +76,7 @@ unfolding refetchOf recordFits mdirBehind withForward carriedFor carries commitI
     pairFits geometryFits fetchOf tooHigh view rank log committed walk walkFrom walkIn classOf readBehind bodyLength
     tagLength tagFlipped be32 le32 toBe32 toLe32 xor crc crcByte crcBits crcBit mdirOf erasedOf stoppedStraight span
     eventLength tagAfter countOf counted splitOf tailOf forwardOf seedOf appended Regular regularFrom ruleOf ruleHolds
-    countAfter growsAfter countRaised judge entryBody placed roundedEnd checkSize roomOf allErased coincides fill
+    countAfter growsAfter countRaised judge entryBody placed roundedEnd checkSize roomOf allErased coincides tagCoincides fill checkType validityFits
     entriesLength tagOf appending commitBytes
 behind-commit = (refl, refl, refl)
 
@@ -140,7 +141,7 @@ past-the-end = (refl, refl, refl, refl)
 
 -- ---- a compaction: the other block is altered, and only a fetch sees it
 abbrev after : Images
-after = compactImages geometry listing (blank 128) 0 1 0 0 0 unlimited
+after = compactImages geometry listing (blank 128) 0 1 0 0 0 0xff unlimited
 
 pub behind-compaction : (refetchOf geometry (after .b0) (after .b1) 0 1 0 0x1ec4_df69 before ≡ Found before 0x1ec4_df69)
     × (fetchOf geometry (after .b0) (after .b1) 0 1 0 0 ≡ Found (record {
@@ -159,7 +160,7 @@ unfolding refetchOf recordFits mdirBehind withForward carriedFor carries compact
     moveOf pairFits geometryFits fetchOf tooHigh view rank log committed walk walkFrom walkIn classOf readBehind
     bodyLength tagLength tagFlipped be32 le32 toBe32 toLe32 xor crc crcByte crcBits crcBit mdirOf erasedOf
     stoppedStraight span eventLength tagAfter countOf counted splitOf tailOf forwardOf seedOf Regular regularFrom ruleOf
-    ruleHolds countAfter growsAfter countRaised roundedEnd checkSize coincides fill entriesLength tagOf commitBytes
+    ruleHolds countAfter growsAfter countRaised roundedEnd checkSize coincides tagCoincides fill checkType validityFits entriesLength tagOf commitBytes
 behind-compaction = (refl, refl)
 
 -- ---- the refusals, and what is no refusal
