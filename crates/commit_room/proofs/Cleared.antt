@@ -8,7 +8,7 @@ use native.Mathlib.Omega.{arith}
 use lib.Dec.{eqb}
 use lib.ListN.{length, getD, drop-of-length-le}
 use lib.Seq.{drop-cons}
-use borrow.Author.Tests.{eq-eqb, ne-eqb, eqb-true, lt-ltb, le-ltb}
+use borrow.Author.Tests.{eq-eqb, ne-eqb, eqb-true, lt-ltb, le-ltb, not-false}
 use Rattle.format.specs.Word.{le32, toBe32}
 use Rattle.format.specs.Tag.{tagValid}
 use Rattle.format.specs.Crc.{crc}
@@ -47,11 +47,11 @@ module _ (e : ℕ) (b : List ℕ) (i : ℕ) (h : i + 8 ≤ length b) where
       let n : i + k + 1 ≡ i + (k + 1) = omega arith in
       unerased-on e b (i + k) (omega arith) (eqb-true (getD b (i + k) 0) e q) ∙ ap (firstUnerased e b) n
 
-  pub eight-on : eqb (getD b i 0) e && is 1 && is 2 && is 3 && is 4 && is 5 && is 6 && is 7 ≡ true
+  pub eight-on : not (eqb (getD b i 0) e && is 1 && is 2 && is 3 && is 4 && is 5 && is 6 && is 7) ≡ false
       → firstUnerased e b i ≡ firstUnerased e b (i + 8)
   eight-on q =
       let z : Bool = eqb (getD b i 0) e in
-      let e7 = both (z && is 1 && is 2 && is 3 && is 4 && is 5 && is 6) (is 7) q in
+      let e7 = both (z && is 1 && is 2 && is 3 && is 4 && is 5 && is 6) (is 7) (not-false _ q) in
       let e6 = both (z && is 1 && is 2 && is 3 && is 4 && is 5) (is 6) (e7 .0) in
       let e5 = both (z && is 1 && is 2 && is 3 && is 4) (is 5) (e6 .0) in
       let e4 = both (z && is 1 && is 2 && is 3) (is 4) (e5 .0) in

@@ -66,7 +66,18 @@ pub fn lfs_dir_compact(
     ensures { λ _. ⌜ CompactLeaves g (now (b0 .entry)) (now (b1 .entry)) n0 n1 «block_count» seed rules erased
         (now (b0 .exit)) (now (b1 .exit)) ⌝ }
 {
-    match lfs_dir_compact_stores(g, b0, b1, n0, n1, block_count, seed, rules, erased, UNLIMITED) {
+    match lfs_dir_compact_stores(
+        g,
+        b0,
+        b1,
+        n0,
+        n1,
+        block_count,
+        seed,
+        rules,
+        erased,
+        UNLIMITED,
+    ) {
         Stored::Refused(r) => Committed::Refused(r),
         Stored::Made(_) => match fetch::lfs_dir_fetch(g, b0, b1, n0, n1, block_count, seed) {
             Fetched::Found(dir, read) => Committed::Done(dir, read),

@@ -78,7 +78,7 @@ module _ (b : List ℕ) (e : Emit) (dir : LfsMdir) (d : Read b e dir) (s a : Sta
         ∙ sym (emits-app (dirItems 0 (dirOf (log b))) (I ++ M) s ∙ emits-app I M (emits s (dirItems 0 (dirOf (log b)))))
 
 -- ---- with the forward check behind them: a stands behind the entries, f is what `forward` answers, r stands behind it
-module _ (byte prog : ℕ) (b : List ℕ) (e : Emit) (dir : LfsMdir) (d : Renewing prog b e dir) (s a : Standing)
+module _ (prog : ℕ) (b : List ℕ) (e : Emit) (dir : LfsMdir) (d : Renewing prog b e dir) (s a : Standing)
     (es : s .end ≡ e .end) (ea : a ≡ emits s (compactionItems (log b))) where
   pub held-within : a .end ≤ 271_847_950
   held-within =
@@ -97,10 +97,11 @@ module _ (byte prog : ℕ) (b : List ℕ) (e : Emit) (dir : LfsMdir) (d : Renewi
   pub forward-prog : Prog prog (a .end + forwardLength)
   forward-prog = record { low = d .low; high = d .high; near = omega (arith, held-within) }
 
-  pub all-done : (f : LfsFcrc) → f ≡ carriedFor byte prog (length b) (a .end) → (r : Standing) → r ≡ emits a (forwardItems f)
-      → r ≡ emits s (withForward byte prog (length b) 4 (compactionItems (log b)))
+  -- `byte` is the erased one
+  pub all-done : (byte : ℕ) (f : LfsFcrc) → f ≡ carriedFor byte prog (length b) (a .end) → (r : Standing)
+      → r ≡ emits a (forwardItems f) → r ≡ emits s (withForward byte prog (length b) 4 (compactionItems (log b)))
   unfolding withForward
-  all-done f ef r er =
+  all-done byte f ef r er =
       let I : List Item = compactionItems (log b) in
       let end : a .end ≡ 4 + entriesLength I = ap (λ (z : Standing). z .end) ea ∙ emits-end I s
       ∙ ap (λ (k : ℕ). k + entriesLength I) (es ∙ d .start) in

@@ -51,5 +51,16 @@ pub extern "C" fn lanolin_compact_stores(
     ensures { λ _. ⌜ CompactStoresLeaves g (now (b0 .entry)) (now (b1 .entry)) n0 n1 «block_count» seed rules erased
         stores (now (b0 .exit)) (now (b1 .exit)) ⌝ }
 {
-    stored_out(compact::lfs_dir_compact_stores(g, b0, b1, n0, n1, block_count, seed, rules, erased, stores))
+    stored_out(compact::lfs_dir_compact_stores(
+        g,
+        b0,
+        b1,
+        n0,
+        n1,
+        block_count,
+        seed,
+        rules,
+        erased,
+        stores,
+    ))
 }

@@ -5,7 +5,6 @@ use mathlib.Core.Path.{_≡_, refl, sym, _∙_}
 use Prim.Native.Nat.{_-_}
 use native.Mathlib.Omega.{arith}
 use lib.ListN.{length}
-use borrow.Author.Tests.{not-false}
 use Rattle.format.specs.Room.{firstUnerased}
 use Rattle.commit_room.proofs.Cleared.{eight-on}
 use Rattle.commit_room.proofs.past_eights.Statement.{statement}
@@ -27,8 +26,10 @@ returns-2 : tie.Need-returns-2 Inv-loop μ-loop
 returns-2 c = c .before .before .before .before .before .before .before .before .before .before .before .loop .inv
 
 loop-again : tie.Need-loop-again Inv-loop μ-loop
-loop-again c = sym (eight-on _ _ _ (omega arith) (not-false _ (c .if2 .left)))
-    ∙ c .before .before .before .before .before .before .before .before .before .before .before .loop .inv
+loop-again c =
+    let at = c .before .before .before .before .before .before .before .before .before .before .before in
+    sym (eight-on (at .before .args .erased) (at .before .args .b .now) (at .loop .at) (omega arith) (c .if2 .left))
+    ∙ at .loop .inv
 
 returns-3 : tie.Need-returns-3 Inv-loop μ-loop
 returns-3 c = c .before .loop .inv

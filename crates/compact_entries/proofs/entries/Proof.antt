@@ -10,19 +10,19 @@ held-requires : tie.Need-held-requires
 held-requires c κs = c .before .before .before .pre .read
 
 forward-requires : tie.Need-forward-requires
-forward-requires c κs = forward-prog 0xff _ _ _ _ (c .before .before .before .before .before .before .pre) _ _ refl
+forward-requires c κs = forward-prog _ _ _ _ (c .before .before .before .before .before .before .pre) _ _ refl
     (c .before .before .held .ensures)
 
 forward-requires-2 : tie.Need-forward-requires-2
 forward-requires-2 c κs = omega (
   arith,
-  held-within 0xff _ _ _ _ (c .before .before .before .before .before .before .before .before .pre) _ _ refl
+  held-within _ _ _ _ (c .before .before .before .before .before .before .before .before .pre) _ _ refl
       (c .before .before .before .before .held .ensures),
 )
 
 returns : tie.Need-returns
-returns c = all-done _ _ _ _ _ (c .before .before .before .before .before .before .before .before .before .before .before
-    .pre) _ _ refl (c .before .before .before .before .before .before .before .held .ensures) _
+returns c = all-done _ _ _ _ (c .before .before .before .before .before .before .before .before .before .before .before
+    .pre) _ _ refl (c .before .before .before .before .before .before .before .held .ensures) _ _
     (c .before .before .before .before .forward .ensures) _ (c .before .before .forward2 .ensures)
 
 pub entries-spec : {M : Type 1} → statement M
