@@ -111,6 +111,6 @@ unfolding withForward carriedFor carries commitImages commitOf commitStoresOf ve
     fetchOf tooHigh view rank log committed walk walkFrom walkIn classOf readBehind bodyLength tagLength tagFlipped be32
     le32 toBe32 toLe32 xor crc crcByte crcBits crcBit mdirOf erasedOf stoppedStraight span eventLength tagAfter countOf
     counted splitOf tailOf forwardOf seedOf appended Regular regularFrom ruleOf ruleHolds countAfter growsAfter
-    countRaised judge entryBody placed roundedEnd checkSize roomOf erasedRun firstUnerased allErased coincides tagCoincides fill checkType validityFits
-    entriesLength tagOf appending commitBytes
+    countRaised judge entryBody placed roundedEnd checkSize roomOf erasedRun firstUnerased allErased coincides
+    tagCoincides fill checkType validityFits entriesLength tagOf appending commitBytes
 listing = (refl, refl, refl, refl, refl, refl, refl, refl, refl, refl, refl, refl, refl, refl)

@@ -1,5 +1,6 @@
 -- Document 02, L7, by computation: the two erased bytes and no other; a pair that is moved to a board which erases to
--- 0x00: refused, then compacted and committed to, byte for byte, and stopped; a log of both kinds; the coincidence. The bytes were worked out apart, by samples/writer.py. Assumes nothing.
+-- 0x00: refused, then compacted and committed to, byte for byte, and stopped; a log of both kinds; the coincidence. The
+-- bytes were worked out apart, by samples/writer.py. Assumes nothing.
 use mathlib.Core.Path.{_≡_, refl}
 use mathlib.Core.Bool.{true, false}
 use mathlib.Core.List.{List, [], _∷_, _++_, map}
@@ -108,8 +109,8 @@ unfolding withForward carriedFor carries commitImages commitOf verdictOf commitF
     allErased validityFits checkType coincides tagCoincides fill entriesLength tagOf appending commitBytes
 written = (refl, refl, refl, refl)
 
--- Moved, and not compacted first: the validity bit is wrong, either way. Another byte is -22, of a pair that fetch would
--- refuse with -84 too.
+-- Moved, and not compacted first: the validity bit is wrong, either way. Another byte is -22, of a pair that fetch
+-- would refuse with -84 too.
 pub refused : (commit 0x00 listing (blank 128) hour ≡ committed.Refused WrongValidity)
     × (commit 0xff listing renewed hour ≡ committed.Refused WrongValidity)
     × (commit 0x01 listing (blank 128) hour ≡ committed.Refused Invalid)

@@ -78,8 +78,8 @@ unfolding withForward carriedFor carries commitImages commitOf verdictOf commitF
     tooHigh view rank log committed walk walkFrom walkIn classOf readBehind bodyLength tagLength tagFlipped be32 le32
     toBe32 toLe32 xor crc crcByte crcBits crcBit mdirOf erasedOf stoppedStraight span eventLength tagAfter countOf
     counted splitOf tailOf forwardOf seedOf appended Regular regularFrom ruleOf ruleHolds countAfter growsAfter
-    countRaised judge entryBody placed roundedEnd checkSize roomOf allErased coincides tagCoincides fill checkType validityFits entriesLength tagOf
-    appending commitBytes
+    countRaised judge entryBody placed roundedEnd checkSize roomOf allErased coincides tagCoincides fill checkType
+    validityFits entriesLength tagOf appending commitBytes
 edges = (refl, refl)
 
 -- The smallest fresh pair that stays unerased: one slot, an end of 16, an attribute of 84 bytes.
@@ -92,7 +92,8 @@ fresh =
 -- the third commit, of 9 bytes, carries none. "a forward check was seen in ANY commit so far", and the last one's fits:
 -- sixteen bytes behind the new end are erased.
 abbrev hourly : List ℕ
-hourly = commitImages geometry listing (blank 128) 0 1 0 0 0 0xff (record { kind = 0x374; id = 0; off = 0; len = 4 } ∷ [])
+hourly = commitImages geometry listing (blank 128) 0 1 0 0 0 0xff
+    (record { kind = 0x374; id = 0; off = 0; len = 4 } ∷ [])
     (0x10 ∷ 0x0e ∷ 0x00 ∷ 0x00 ∷ []) unlimited .b0
 
 -- "the last committed forward check, or none": one that is not committed, behind the fresh pair's end.
@@ -111,8 +112,8 @@ unfolding withForward carriedFor carries commitImages commitOf verdictOf commitF
     tooHigh view rank log committed walk walkFrom walkIn classOf readBehind bodyLength tagLength tagFlipped be32 le32
     toBe32 toLe32 xor crc crcByte crcBits crcBit mdirOf erasedOf stoppedStraight span eventLength tagAfter countOf
     counted splitOf tailOf forwardOf seedOf appended Regular regularFrom ruleOf ruleHolds countAfter growsAfter
-    countRaised judge entryBody placed roundedEnd checkSize roomOf allErased coincides tagCoincides fill checkType validityFits entriesLength tagOf
-    appending commitBytes
+    countRaised judge entryBody placed roundedEnd checkSize roomOf allErased coincides tagCoincides fill checkType
+    validityFits entriesLength tagOf appending commitBytes
 marks = (refl, refl, refl)
 
 -- The compaction of the listing: the revision, its four entries, the forward check, the check, and erased bytes.

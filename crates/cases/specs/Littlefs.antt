@@ -130,13 +130,15 @@ texts = (refl, refl, refl)
 
 -- a commit of nothing but the forward check: by the three numbers
 pub commits : (verdictOf geometry grown (blank 128) 0 1 0 0 0 0xff [] [] ≡ refused Irregular)
-    × (verdictOf geometry grown (blank 128) 0 1 0 0 1 0xff [] [] ≡ accepted false (forwardItem (unitCheck 0xff 16) ∷ []) 16)
+    × (verdictOf geometry grown (blank 128) 0 1 0 0 1 0xff [] []
+    ≡ accepted false (forwardItem (unitCheck 0xff 16) ∷ []) 16)
     × (verdictOf geometry grown (blank 128) 0 1 0 0 2 0xff [] [] ≡ refused Invalid)
 unfolding withForward carriedFor carries verdictOf commitFits pairFits geometryFits fetchOf tooHigh view rank log
     committed walk walkFrom walkIn classOf readBehind bodyLength tagLength tagFlipped be32 le32 toBe32 toLe32 xor crc
     crcByte crcBits crcBit mdirOf erasedOf stoppedStraight span eventLength tagAfter countOf counted splitOf tailOf
     forwardOf seedOf appended Regular regularFrom ruleOf ruleHolds countAfter growsAfter countRaised judge entryBody
-    placed roundedEnd checkSize roomOf allErased coincides tagCoincides fill checkType validityFits entriesLength tagOf appending commitBytes
+    placed roundedEnd checkSize roomOf allErased coincides tagCoincides fill checkType validityFits entriesLength tagOf
+    appending commitBytes
 commits = (refl, refl, refl)
 
 -- what its compaction lays down: a create for each slot, the empty one too
@@ -161,6 +163,6 @@ unfolding withForward carriedFor carries compactVerdict compactable placedAnew c
     dir acts act apply reaching upd empty moveOf pairFits geometryFits fetchOf tooHigh view rank log committed walk
     walkFrom walkIn classOf readBehind bodyLength tagLength tagFlipped be32 le32 toBe32 toLe32 xor crc crcByte crcBits
     crcBit mdirOf erasedOf stoppedStraight span eventLength tagAfter countOf counted splitOf tailOf forwardOf seedOf
-    Regular regularFrom ruleOf ruleHolds countAfter growsAfter countRaised roundedEnd checkSize coincides tagCoincides fill checkType validityFits
-    entriesLength tagOf
+    Regular regularFrom ruleOf ruleHolds countAfter growsAfter countRaised roundedEnd checkSize coincides tagCoincides
+    fill checkType validityFits entriesLength tagOf
 no-room = (refl, refl, refl)

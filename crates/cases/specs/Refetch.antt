@@ -62,7 +62,8 @@ abbrev before : LfsMdir
 before = recordAt 48 0x500f_fc0d 1 false noForward
 
 abbrev hourly : List ℕ
-hourly = commitImages geometry listing (blank 128) 0 1 0 0 0 0xff (record { kind = 0x374; id = 0; off = 0; len = 4 } ∷ [])
+hourly = commitImages geometry listing (blank 128) 0 1 0 0 0 0xff
+    (record { kind = 0x374; id = 0; off = 0; len = 4 } ∷ [])
     (0x10 ∷ 0x0e ∷ 0x00 ∷ 0x00 ∷ []) unlimited .b0
 
 -- the check of sixteen erased bytes, as littlefs itself writes it
@@ -76,8 +77,8 @@ unfolding refetchOf recordFits mdirBehind withForward carriedFor carries commitI
     pairFits geometryFits fetchOf tooHigh view rank log committed walk walkFrom walkIn classOf readBehind bodyLength
     tagLength tagFlipped be32 le32 toBe32 toLe32 xor crc crcByte crcBits crcBit mdirOf erasedOf stoppedStraight span
     eventLength tagAfter countOf counted splitOf tailOf forwardOf seedOf appended Regular regularFrom ruleOf ruleHolds
-    countAfter growsAfter countRaised judge entryBody placed roundedEnd checkSize roomOf allErased coincides tagCoincides fill checkType validityFits
-    entriesLength tagOf appending commitBytes
+    countAfter growsAfter countRaised judge entryBody placed roundedEnd checkSize roomOf allErased coincides
+    tagCoincides fill checkType validityFits entriesLength tagOf appending commitBytes
 behind-commit = (refl, refl, refl)
 
 -- ---- why it needs the forward check
@@ -160,7 +161,8 @@ unfolding refetchOf recordFits mdirBehind withForward carriedFor carries compact
     moveOf pairFits geometryFits fetchOf tooHigh view rank log committed walk walkFrom walkIn classOf readBehind
     bodyLength tagLength tagFlipped be32 le32 toBe32 toLe32 xor crc crcByte crcBits crcBit mdirOf erasedOf
     stoppedStraight span eventLength tagAfter countOf counted splitOf tailOf forwardOf seedOf Regular regularFrom ruleOf
-    ruleHolds countAfter growsAfter countRaised roundedEnd checkSize coincides tagCoincides fill checkType validityFits entriesLength tagOf commitBytes
+    ruleHolds countAfter growsAfter countRaised roundedEnd checkSize coincides tagCoincides fill checkType validityFits
+    entriesLength tagOf commitBytes
 behind-compaction = (refl, refl)
 
 -- ---- the refusals, and what is no refusal

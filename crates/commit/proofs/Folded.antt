@@ -50,5 +50,6 @@ module _ (second : Bool) (r : Refusal) (b0 b1 : List ℕ) where
       → sealT (passOf es dat (decideT byte g n (passOf es dat (trio (state second (Refused r)) b0 b1))))
       ≡ trio (state second (Refused r)) b0 b1
   all-refused byte g n es dat =
-      ap (λ (t : Trio). sealT (passOf es dat (decideT byte g n t))) (pass-fold es dat (trio (state second (Refused r)) b0 b1)
+      ap (λ (t : Trio). sealT (passOf es dat (decideT byte g n t)))
+      (pass-fold es dat (trio (state second (Refused r)) b0 b1)
       ∙ fold-refused dat es) ∙ decided-refused byte g n es dat

@@ -36,8 +36,8 @@ module _ (es : List Entry) (dat b0 b1 : List ℕ) (st : State) where
 -- ---- demand 3, of what a call left
 stopped : (g : Geometry) (b0 b1 : List ℕ) (n0 n1 count seed rules byte : ℕ) (es : List Entry) (dat : List ℕ) (n : ℕ)
     (x0 y0 : List ℕ)
-    → x0 ≡ commitImages g b0 b1 n0 n1 count seed rules byte es dat n .b0 → y0 ≡ commitImages g b0 b1 n0 n1 count seed rules byte
-    es dat n .b1
+    → x0 ≡ commitImages g b0 b1 n0 n1 count seed rules byte es dat n .b0
+    → y0 ≡ commitImages g b0 b1 n0 n1 count seed rules byte es dat n .b1
     → CommitStopped g b0 b1 n0 n1 count seed rules byte es dat x0 y0
 stopped g b0 b1 n0 n1 count seed rules byte es dat n x0 y0 ex ey = rw (ex, ey)
     (stopped-commit g b0 b1 n0 n1 count seed rules byte es dat n)
@@ -54,7 +54,8 @@ module _ (b0 b1 : List ℕ) (es : List Entry) (dat : List ℕ) (g : Geometry) (n
       → trio r4 x4 y4 ≡ ranOf g b0 b1 n0 n1 count seed rules byte es dat stores
   unfolding ranOf
   run-glue stores r0 r1 x1 y1 r2 r3 x3 y3 r4 x4 y4 e0 e1 e2 e3 e4 =
-      let f1 : trio r1 x1 y1 ≡ passOf es dat (trio (begunOf g b0 b1 n0 n1 count seed rules byte (length es) dat) b0 b1) =
+      let f1 : trio r1 x1 y1 ≡ passOf es dat (trio
+      (begunOf g b0 b1 n0 n1 count seed rules byte (length es) dat) b0 b1) =
       e1 ∙ ap (λ (s : State). eachOf (length es) es dat b0 b1 s) e0 in
       let f2 : trio r2 x1 y1 ≡ decideT byte g stores (trio r1 x1 y1) = ap (λ (s : State). trio s x1 y1) e2 in
       let f3 : trio r3 x3 y3 ≡ passOf es dat (decideT byte g stores (trio r1 x1 y1)) = e3 ∙ ap (passOf es dat) f2 in
@@ -80,7 +81,8 @@ module _ (b0 b1 : List ℕ) (es : List Entry) (dat : List ℕ) (g : Geometry) (n
       let answers : r1 ≡ commitOf g b0 b1 n0 n1 count seed rules byte es dat =
       e1 ∙ ap (λ (u : Trio). answeredOf (u .st) (refetchOf g x0 y0 n0 n1 count)) e
       ∙ t .answers (refetchOf g x0 y0 n0 n1 count) (fetchOf g x0 y0 n0 n1 count seed) again
-      ∙ (λ i. answerOf (fetchOf g (ex i) (ey i) n0 n1 count seed) (verdictOf g b0 b1 n0 n1 count seed rules byte es dat)) in
+      ∙ (λ i. answerOf (fetchOf g (ex i) (ey i) n0 n1 count seed)
+      (verdictOf g b0 b1 n0 n1 count seed rules byte es dat)) in
       (answers, (ex, ey, stopped-commit g b0 b1 n0 n1 count seed rules byte es dat))
 
   pub stores-glue : (stores : ℕ) (r0 : State) (x0 y0 : List ℕ) (r1 : Stored)

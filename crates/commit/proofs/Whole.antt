@@ -24,7 +24,8 @@ use Rattle.format.specs.Entries.{itemsOf, Judged, judge, bad, good}
 use Rattle.format.specs.Room.{roomOf}
 use Rattle.format.specs.Writer.{roundedEnd, checkSize, checkAt, allStores, mostData, mostEntries, commitFits}
 use Rattle.format.specs.Writer.{Verdict, refused, accepted, blockAt, roomThen, placed, judgedBy, appended, isSecond}
-use Rattle.format.specs.Writer.{writesFit, fetchedThen, verdictOf, imagesAfter, storedTo, committedAs, answerOf, storesMade}
+use Rattle.format.specs.Writer.{writesFit, fetchedThen, verdictOf, imagesAfter, storedTo, committedAs, answerOf}
+use Rattle.format.specs.Writer.{storesMade}
 use Rattle.format.specs.Writer.{unitCheck, forwardTag, forwardItem, carries, carriedFor, forwardItems, withForward}
 use Rattle.format.specs.declared.LfsFcrc.{LfsFcrc}
 use Rattle.format.specs.declared.Geometry.{Geometry}
@@ -89,16 +90,19 @@ made-count n k = omega arith
 
 module _ (byte : ℕ) (b : List ℕ) (is : List Item) (size n : ℕ) (made : AllMade is)
     (room : logEnd (log b) + allStores is ≤ length b) where
-  stores-are : putsOf (laid (runAt (logEnd (log b)) n) b) (commitBytes allOnes (logEndTag (log b)) is (checkTag byte size))
+  stores-are : putsOf (laid (runAt (logEnd (log b)) n) b)
+      (commitBytes allOnes (logEndTag (log b)) is (checkTag byte size))
       ≡ laid (runAt (logEnd (log b) + min n (allStores is)) (n - allStores is)) (storedTo byte b is size n)
   unfolding appending
   stores-are =
       let l : length (commitBytes allOnes (logEndTag (log b)) is (checkTag byte size)) ≡ allStores is =
       bytes-length is allOnes (logEndTag (log b)) (checkTag byte size) made in
-      puts-paste (commitBytes allOnes (logEndTag (log b)) is (checkTag byte size)) (logEnd (log b)) n b (omega arith) ∙ rw l
+      puts-paste (commitBytes allOnes (logEndTag (log b)) is (checkTag byte size)) (logEnd (log b)) n b (omega arith)
+      ∙ rw l
 
 -- the block at place w holds them
-ran-accepted : (byte : ℕ) (F : Fetched) (b0 b1 : List ℕ) (n : ℕ) (w : Bool) (is : List Item) (size a : ℕ) (l : Laying) (p : ℕ)
+ran-accepted : (byte : ℕ) (F : Fetched) (b0 b1 : List ℕ) (n : ℕ) (w : Bool) (is : List Item) (size a : ℕ) (l : Laying)
+    (p : ℕ)
     (t : Trio) → F ≡ fetched.Found (l .old .dir) (l .old .seed) → t ≡ into w b0 b1 (laidTo l p (laid (runAt a
     (n - allStores is)) (storedTo byte (blockAt w b0 b1) is size n)))
     → Ran byte F b0 b1 n (accepted w is size) t
@@ -126,7 +130,8 @@ lay-both dat es l false b0 b1 h = lay-first dat es l b0 b1 h
 lay-both dat es l true b0 b1 h = lay-second dat es l b0 b1 h
 
 -- ---- good entries: the block B at place w answers, the record m was found, with the seed s behind it
-module _ (byte : ℕ) (F : Fetched) (dat : List ℕ) (entries : List Entry) (w : Bool) (b0 b1 : List ℕ) (n prog : ℕ) (m : LfsMdir)
+module _ (byte : ℕ) (F : Fetched) (dat : List ℕ) (entries : List Entry) (w : Bool) (b0 b1 : List ℕ) (n prog : ℕ)
+    (m : LfsMdir)
     (s : ℕ) (found : F ≡ fetched.Found m s) (ends : m .off ≡ logEnd (log (blockAt w b0 b1)))
     (end-tag : m .etag ≡ logEndTag (log (blockAt w b0 b1))) where
   abbrev B : List ℕ
@@ -249,7 +254,8 @@ module _ (byte : ℕ) (F : Fetched) (dat : List ℕ) (entries : List Entry) (w :
     ran-tests false room.Clean false e =
         let fit : roundedEnd prog (checkAt (log B) I) ≤ length B =
         ltb-false (length B) (roundedEnd prog (checkAt (log B) I)) e in
-        ran-accepted byte F b0 b1 n w I (checkSize prog (checkAt (log B) I)) (logEnd (log B) + min n (allStores I)) laying
+        ran-accepted byte F b0 b1 n w I (checkSize prog (checkAt (log B) I))
+        (logEnd (log B) + min n (allStores I)) laying
         (lastTag (logEndTag (log B)) I) _ found
         (laid-all h made (omega (arith, rounded prog (checkAt (log B) I) some .0)))
 
@@ -257,9 +263,11 @@ module _ (byte : ℕ) (F : Fetched) (dat : List ℕ) (entries : List Entry) (w :
         → Ran byte F b0 b1 n (placed byte prog w B (log B) I) (laidBy (placedOf byte (after J0 E len c) prog B n))
     unfolding placed
     ran-placed len c few =
-        subst (λ (p : Phase). Ran byte F b0 b1 n (placed byte prog w B (log B) I) (laidBy p)) (sym (placed-phase len c few))
+        subst (λ (p : Phase). Ran byte F b0 b1 n (placed byte prog w B (log B) I) (laidBy p))
+        (sym (placed-phase len c few))
         (ran-tests (ltb (length B) (roundedEnd prog (checkAt (log B) I)))
-        (roomOf byte prog B (logEnd (log B)) (logEndTag (log B))) (coincides byte allOnes (logEndTag (log B)) I ct) refl)
+        (roomOf byte prog B (logEnd (log B)) (logEndTag (log B)))
+        (coincides byte allOnes (logEndTag (log B)) I ct) refl)
 
 -- ---- all of it
 module _ (g : Geometry) (b0 b1 : List ℕ) (n0 n1 count seed rules byte : ℕ) (entries : List Entry) (dat : List ℕ)
@@ -313,17 +321,20 @@ module _ (g : Geometry) (b0 b1 : List ℕ) (n0 n1 count seed rules byte : ℕ) (
       decided-good c = rw images
 
       ran-judged : (j : Judged) → judge dat 0 (countOf 0 (log (blockAt w b0 b1))) entries ≡ j
-          → Ran byte F b0 b1 n (judgedBy j (placed byte (g .«prog_size») w (blockAt w b0 b1) (log (blockAt w b0 b1)) (laidAt w)))
+          → Ran byte F b0 b1 n (judgedBy j (placed byte (g .«prog_size») w (blockAt w b0 b1) (log (blockAt w b0 b1))
+          (laidAt w)))
           (decidedT (trio (state w (phaseOf j start (itemsOf dat entries) (length entries))) b0 b1))
       ran-judged (bad k) e = ran-refused byte F b0 b1 n w (BadEntry k) _ (decided-refused w
           (BadEntry k) b0 b1 byte g n entries dat)
       ran-judged (good c) e =
           let good-all = judged-good dat entries 0 (countOf 0 (log (blockAt w b0 b1))) c low e in
-          subst (λ (t : Trio). Ran byte F b0 b1 n (placed byte (g .«prog_size») w (blockAt w b0 b1) (log (blockAt w b0 b1))
+          subst (λ (t : Trio). Ran byte F b0 b1 n (placed byte (g .«prog_size») w (blockAt w b0 b1)
+          (log (blockAt w b0 b1))
           (laidAt w)) (sealT (passOf entries dat t))) (sym (decided-good c))
           (ran-placed byte F dat entries w b0 b1 n (g .«prog_size») m s found ends end-tag (fits-prog g geometry .0)
           (judged-tagged dat entries 0 (countOf 0 (log (blockAt w b0 b1))) c low e)
-          (with-made byte (g .«prog_size») (length (blockAt w b0 b1)) (logEnd (log (blockAt w b0 b1))) (itemsOf dat entries)
+          (with-made byte (g .«prog_size») (length (blockAt w b0 b1)) (logEnd (log (blockAt w b0 b1)))
+          (itemsOf dat entries)
           (good-all .made)) (length entries) c few)
 
       ran-regular : Ran byte F b0 b1 n (judgedBy (judge dat 0 (countOf 0 (log (blockAt w b0 b1))) entries)
@@ -364,7 +375,8 @@ module _ (g : Geometry) (b0 b1 : List ℕ) (n0 n1 count seed rules byte : ℕ) (
         go : (x : Bool) → Regular (rulesOf rules) (log (blockAt w b0 b1)) ≡ x
             → Ran byte F b0 b1 n (cond (not x) (refused Irregular) later)
             (T (cond (not x) (refusedState Irregular) (state w (Judge (judgingFrom m s)))))
-        go false e = ran-refused byte F b0 b1 n false Irregular _ (all-refused false Irregular b0 b1 byte g n entries dat)
+        go false e = ran-refused byte F b0 b1 n false Irregular _
+            (all-refused false Irregular b0 b1 byte g n entries dat)
         go true e = subst (λ (j : Judging). Ran byte F b0 b1 n later (T (state w (Judge j)))) (sym from-record)
             (ran-regular w m s found eo et (widest (rulesOf rules) _ e))
 
@@ -374,7 +386,8 @@ module _ (g : Geometry) (b0 b1 : List ℕ) (n0 n1 count seed rules byte : ℕ) (
 
     ran-fetched : (f : Fetched) → fetchOf g b0 b1 n0 n1 count seed ≡ f
         → Ran byte F b0 b1 n (fetchedThen f on) (T (fetchedBy (rulesOf rules) f n0 b0 b1))
-    ran-fetched (fetched.Refused r) e = ran-refused byte F b0 b1 n false r _ (all-refused false r b0 b1 byte g n entries dat)
+    ran-fetched (fetched.Refused r) e = ran-refused byte F b0 b1 n false r _
+        (all-refused false r b0 b1 byte g n entries dat)
     ran-fetched (fetched.Found m s) e =
         let a = found-answers g b0 b1 n0 n1 count seed m s e in
         subst (λ (v : Bool). Ran byte F b0 b1 n (appended (rulesOf rules) byte (g .«prog_size») v (blockAt v b0 b1)
@@ -388,7 +401,8 @@ module _ (g : Geometry) (b0 b1 : List ℕ) (n0 n1 count seed rules byte : ℕ) (
     where
       go : (x : Bool) → commitFits g (length b0) (length b1) n0 n1 rules byte (length entries) (length dat) ≡ x
           → Ran byte F b0 b1 n (cond (not x) (refused Invalid)
-          (fetchedThen F (λ m. appended (rulesOf rules) byte (g .«prog_size») (isSecond n0 m) (blockAt (isSecond n0 m) b0 b1)
+          (fetchedThen F (λ m. appended (rulesOf rules) byte (g .«prog_size») (isSecond n0 m)
+          (blockAt (isSecond n0 m) b0 b1)
           (log (blockAt (isSecond n0 m) b0 b1)) entries dat)))
           (T (cond (not x) (refusedState Invalid) (fetchedBy (rulesOf rules) F n0 b0 b1)))
       go false e = ran-refused byte F b0 b1 n false Invalid _ (all-refused false Invalid b0 b1 byte g n entries dat)

@@ -154,8 +154,8 @@ pub fn room(erased: u8, prog: u32, b: &[u8], end: usize, etag: u32) -> Room
     Room::Clean
 }
 
-// "put 1, 2 or 3 bytes of the check tag and fill its four" with erased bytes; if any of the three checksums is what four
-// erased bytes are, refuse. `word` is the tag as it is stored, `sum` the checksum before it.
+// "put 1, 2 or 3 bytes of the check tag and fill its four" with erased bytes; if any of the three checksums is what
+// four erased bytes are, refuse. `word` is the tag as it is stored, `sum` the checksum before it.
 pub fn coincides(erased: u8, sum: u32, word: u32) -> bool
     ensures { λ r. ⌜ r ≡ tagCoincides erased sum word ⌝ }
 {

@@ -45,7 +45,8 @@ placed-at : (r : Rules) (e prog : ℕ) (w : Bool) (x : List ℕ)
 unfolding compactable placedAnew
 placed-at r e prog w x =
     go (not (Regular r (log x))) (ltb (length x) (roundedEnd prog at))
-    (coincides e (crc allOnes (toLe32 (plus32 (le32 x) 1))) allOnes (renewedItems e prog x) (checkTag e (checkSize prog at)))
+    (coincides e (crc allOnes (toLe32 (plus32 (le32 x) 1))) allOnes (renewedItems e prog x)
+    (checkTag e (checkSize prog at)))
   where
     at : ℕ
     at = compactCheckAt (renewedItems e prog x)
@@ -88,7 +89,8 @@ module _ (g : Geometry) (b0 b1 : List ℕ) (n0 n1 count seed rules e : ℕ) wher
 
   -- with demand 3, which a call keeps whatever it leaves
   pub kept : (n : ℕ) (r : Stored) (c0 c1 : List ℕ) → Bytes b0 → Bytes b1 → Called n r c0 c1
-      → (r ≡ compactStoresOf g b0 b1 n0 n1 count seed rules e n) × CompactStoresLeaves g b0 b1 n0 n1 count seed rules e n c0
+      → (r ≡ compactStoresOf g b0 b1 n0 n1 count seed rules e n)
+      × CompactStoresLeaves g b0 b1 n0 n1 count seed rules e n c0
       c1
   kept n r c0 c1 y0 y1 h =
       (h .0, (h .1 .0, h .1 .1, rw (h .1 .0, h .1 .1) (stopped-compaction g b0 b1 n0 n1 count seed rules e n y0 y1)))
@@ -120,7 +122,8 @@ module _ (g : Geometry) (b0 b1 : List ℕ) (n0 n1 count seed rules e : ℕ) wher
         unfolding compactVerdict
         verdict-of w q = rw (← et, k, ← f, q) (placed-at (rulesOf rules) e (g .«prog_size») w (blockAt w b0 b1))
 
-        renewable : (w : Bool) → isSecond n0 m ≡ w → Renewable (g .«prog_size») (blockAt w b0 b1) (blockAt (not w) b0 b1) m
+        renewable : (w : Bool) → isSecond n0 m ≡ w
+            → Renewable (g .«prog_size») (blockAt w b0 b1) (blockAt (not w) b0 b1) m
         renewable w q =
             let z = found-sized g b0 b1 n0 n1 count seed m s (sym f) in
             let a = found-reads g b0 b1 n0 n1 count seed m s (sym f) in
@@ -158,7 +161,8 @@ module _ (g : Geometry) (b0 b1 : List ℕ) (n0 n1 count seed rules e : ℕ) wher
 
           pub called-first : (n : ℕ) (r : Stored) (c : List ℕ)
               → r ≡ compactMade n (compactable (rulesOf rules) e (g .«prog_size») false b0 (log b0))
-              → c ≡ renewedTo e n b1 (compactable (rulesOf rules) e (g .«prog_size») false b0 (log b0)) → Called n r b0 c
+              → c ≡ renewedTo e n b1 (compactable (rulesOf rules) e (g .«prog_size») false b0 (log b0))
+              → Called n r b0 c
           called-first n r c er ec = leaves n _ (verdict-of false place-first) r b0 c
               (first-leaves e n b0 b1 (compactable (rulesOf rules) e (g .«prog_size») false b0 (log b0)) r c er ec)
 
@@ -172,13 +176,15 @@ module _ (g : Geometry) (b0 b1 : List ℕ) (n0 n1 count seed rules e : ℕ) wher
 
           pub called-second : (n : ℕ) (r : Stored) (c : List ℕ)
               → r ≡ compactMade n (compactable (rulesOf rules) e (g .«prog_size») false b1 (log b1))
-              → c ≡ renewedTo e n b0 (compactable (rulesOf rules) e (g .«prog_size») false b1 (log b1)) → Called n r c b1
+              → c ≡ renewedTo e n b0 (compactable (rulesOf rules) e (g .«prog_size») false b1 (log b1))
+              → Called n r c b1
           called-second n r c er ec = leaves n _ (verdict-of true place-second) r c b1
               (second-leaves e n b0 b1 (compactable (rulesOf rules) e (g .«prog_size») false b1 (log b1)) r c er ec)
 
   -- ---- the call with no limit: c0 and c1 are what the other leaves
   abbrev pub Answered : Committed → List ℕ → List ℕ → Type 0
-  Answered r c0 c1 = (r ≡ compactOf g b0 b1 n0 n1 count seed rules e) × CompactLeaves g b0 b1 n0 n1 count seed rules e c0 c1
+  Answered r c0 c1 = (r ≡ compactOf g b0 b1 n0 n1 count seed rules e)
+      × CompactLeaves g b0 b1 n0 n1 count seed rules e c0 c1
 
   module _ (c0 c1 : List ℕ) (y0 : Bytes b0) (y1 : Bytes b1)
       (l : CompactStoresLeaves g b0 b1 n0 n1 count seed rules e unlimited c0 c1) where

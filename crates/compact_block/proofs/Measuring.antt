@@ -48,7 +48,8 @@ emits-spent (i ∷ is) s h =
     emits-spent is (emitted s i) (ap (λ (l : Laid). l .run .left) e ∙ h) ∙ e
 
 -- ---- what the pass knows: e stands behind the entries, b is the block then
-module _ (byte rev : ℕ) (is : List Item) (s e : Emit) (es : s ≡ begins rev (record { at = 0; left = 0 })) (b new : List ℕ)
+module _ (byte rev : ℕ) (is : List Item) (s e : Emit) (es : s ≡ begins rev (record { at = 0; left = 0 }))
+    (b new : List ℕ)
     (ee : standing e b ≡ emits (standing s new) is) where
   begun : standing e b ≡ emits (standing (begins rev (record { at = 0; left = 0 })) new) is
   begun = ee ∙ ap (λ (z : Emit). emits (standing z new) is) es
@@ -63,7 +64,8 @@ module _ (byte rev : ℕ) (is : List Item) (s e : Emit) (es : s ≡ begins rev (
   measured-end = ap (λ (z : Standing). z .end) begun
       ∙ emits-end is (standing (begins rev (record { at = 0; left = 0 })) new)
 
-  pub measured-meets : (ct : ℕ) → tagCoincides byte (e .sum) (bitXor ct (e .prev)) ≡ coincides byte (crc allOnes (toLe32 rev)) allOnes is
+  pub measured-meets : (ct : ℕ) → tagCoincides byte (e .sum) (bitXor ct (e .prev))
+      ≡ coincides byte (crc allOnes (toLe32 rev)) allOnes is
       ct
   unfolding begins xor
   measured-meets ct =
@@ -91,12 +93,14 @@ module _ (r : Rules) (byte prog : ℕ) (w : Bool) (x : List ℕ) where
     verdict-full h = rw (regular, lt-ltb (length x) (roundedEnd prog at) h)
 
     module _ (fits : roundedEnd prog at ≤ length x) where
-      pub verdict-coincides : coincides byte (crc allOnes (toLe32 next)) allOnes I (checkTag byte (checkSize prog at)) ≡ true
+      pub verdict-coincides : coincides byte (crc allOnes (toLe32 next)) allOnes I (checkTag byte (checkSize prog at))
+          ≡ true
           → compactable r byte prog w x (log x) ≡ compactRefused Coincidence
       unfolding compactable placedAnew
       verdict-coincides h = rw (regular, le-ltb (length x) (roundedEnd prog at) fits, h)
 
-      pub verdict-accepted : coincides byte (crc allOnes (toLe32 next)) allOnes I (checkTag byte (checkSize prog at)) ≡ false
+      pub verdict-accepted : coincides byte (crc allOnes (toLe32 next)) allOnes I (checkTag byte (checkSize prog at))
+          ≡ false
           → compactable r byte prog w x (log x) ≡ compactAccepted w next I (checkSize prog at)
       unfolding compactable placedAnew
       verdict-accepted h = rw (regular, le-ltb (length x) (roundedEnd prog at) fits, h)
@@ -153,7 +157,8 @@ module _ (byte prog : ℕ) (old new : List ℕ) (dir : LfsMdir) (n : ℕ) (w : R
       rounded-is = ez ∙ ap (roundedEnd prog) end-is
 
       pub renew-full : length old < z → Answered byte n new v (stored.Refused NoSpace) b
-      renew-full h = refuses byte n new b v NoSpace (verdict-full (rulesOf rules) byte prog false old ruled (rw (← rounded-is) h))
+      renew-full h = refuses byte n new b v NoSpace
+          (verdict-full (rulesOf rules) byte prog false old ruled (rw (← rounded-is) h))
           same
 
       module _ (hz : z ≤ length old) (ct : ℕ) (ect : ct ≡ checkTag byte (checkSize prog (e .end))) (y : Bool)

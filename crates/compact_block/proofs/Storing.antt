@@ -68,7 +68,8 @@ module _ (byte B left rev ct : ℕ) (is : List Item) (p : Laid) (e : Emit) (b : 
   one-run =
       eq ∙ ap (checkLaid ct) es ∙ emits-commit is (standing (begins rev (p .run)) (p .block)) ct
       ∙ ap (λ (z : Laid). putsOf z (commitBytes (crc allOnes (toLe32 rev)) allOnes is ct)) ep
-      ∙ puts-app (toLe32 rev) (commitBytes (crc allOnes (toLe32 rev)) allOnes is ct) (laid (runAt 0 left) (erased byte B))
+      ∙ puts-app (toLe32 rev) (commitBytes (crc allOnes (toLe32 rev)) allOnes is ct)
+      (laid (runAt 0 left) (erased byte B))
 
   module _ (good : AllGood is) (room : 4 + (entriesLength is + 8) ≤ B) where
     abbrev made : ℕ
@@ -83,7 +84,8 @@ module _ (byte B left rev ct : ℕ) (is : List Item) (p : Laid) (e : Emit) (b : 
     stored-made n el h = omega (arith, ap (λ (z : Laid). z .run .at) stored, bytes-length rev is ct good)
 
     pub stored-block : (o : List ℕ) (n : ℕ) → length o ≡ B → left ≡ n - 1 → (n ≡ 0 → ⊥)
-        → q .block ≡ compacting byte o rev is ct (length o - (compactCheckAt is + checkLength)) (min n (compactStores is))
+        → q .block ≡ compacting byte o rev is ct (length o - (compactCheckAt is + checkLength))
+        (min n (compactStores is))
     stored-block o n eo el h =
         let k : ℕ = min left (4 + (entriesLength is + 8)) in
         let more : suc k ≡ min n (compactStores is) = one-more n left (entriesLength is) el h in
@@ -138,7 +140,8 @@ module _ (byte prog : ℕ) (old new : List ℕ) (dir : LfsMdir) (w : Writable by
   entries = ee ∙ ap (λ (z : Emit). emits (standing z (p .block)) I) es
 
   pub pass-made : 1 + q .run .at ≡ min n (compactStores I)
-  pass-made = stored-made byte (length new) (n - 1) rev ct I p e b q from entries eq (compaction-good old (w .regular) byte prog)
+  pass-made = stored-made byte (length new) (n - 1) rev ct I p e b q from entries eq
+      (compaction-good old (w .regular) byte prog)
       (omega (arith, w .room)) n refl some
 
   pub pass-block : q .block ≡ writtenTo byte prog old new rev ct n

@@ -57,7 +57,8 @@ pub record Writable (byte prog : ℕ) (old new : List ℕ) (dir : LfsMdir) : Typ
 -- the other block after the first n stores of the check tag ct
 abbrev pub writtenTo : ℕ → ℕ → List ℕ → List ℕ → ℕ → ℕ → ℕ → List ℕ
 writtenTo byte prog old new rev ct n =
-    compacting byte new rev (renewedItems byte prog old) ct (length new - (compactCheckAt (renewedItems byte prog old) + checkLength))
+    compacting byte new rev (renewedItems byte prog old) ct
+    (length new - (compactCheckAt (renewedItems byte prog old) + checkLength))
     (min n (compactStores (renewedItems byte prog old)))
 
 -- the other block after the first n stores, by the verdict

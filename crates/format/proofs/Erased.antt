@@ -1,9 +1,9 @@
--- Laws of the erased byte: which two it is, what erased bytes are as a tag behind a previous one, and the check tag that
--- goes with it. Assumes nothing.
-use mathlib.Core.Path.{_≡_, refl, _∙_}
+-- Laws of the erased byte: which two it is, what erased bytes are as a tag behind a previous one, and the check tag
+-- that goes with it. Assumes nothing.
+use mathlib.Core.Path.{_≡_, refl}
 use mathlib.Core.Logic.{_⊎_, inl, inr}
 use mathlib.Core.Bool.{Bool, true, false, not, cond, _||_}
-use Prim.Native.Nat.{ℕ, _+_, _*_, _^_, _≤_, _<_}
+use Prim.Native.Nat.{ℕ, _^_, _≤_, _<_}
 use native.Mathlib.Omega.{arith}
 use lib.Dec.{eqb}
 use borrow.Author.Tests.{eqb-true, ltb-true, ltb-false, lt-ltb, le-ltb}
@@ -87,7 +87,8 @@ erased-stops e p byte v = go (bit-fits e p byte v)
 pub erased-repeats : (e p : ℕ) → Erases e → p < 2 ^ 31 → xor (be32 (erased e 4)) p < 2 ^ 31
     → xor (be32 (erased e 4)) p ≡ p
 erased-repeats e p (inl h) small v =
-    let w : xor allOnes p < 2 ^ 31 = rw (h, ones) at v in absurd (omega (arith, apart-invalid′ allOnes p (omega arith) small))
+    let w : xor allOnes p < 2 ^ 31 = rw (h, ones) at v in absurd
+    (omega (arith, apart-invalid′ allOnes p (omega arith) small))
 erased-repeats e p (inr h) small v = rw (h, zeros) (xor-zero p)
 
 -- ---- the check tag

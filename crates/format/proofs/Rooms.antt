@@ -25,7 +25,8 @@ module _ (e prog : ℕ) (b : List ℕ) (end etag : ℕ) where
       (cond (not erased) (Refused (NotErased (firstUnerased e b end)))
       Clean))
 
-  pub room-tested : roomOf e prog b end etag ≡ tested (eqb (end % prog) 0) (validityFits e etag) (allErased e (drop end b))
+  pub room-tested : roomOf e prog b end etag ≡ tested (eqb (end % prog) 0) (validityFits e etag)
+      (allErased e (drop end b))
   unfolding roomOf
   room-tested = refl
 

@@ -1,7 +1,7 @@
 -- Laws of tags as words: what the top byte decides, what the XOR keeps, what bit 31 does not touch, and the fields of a
 -- tag that was made. Each field law stands alone, since `omega` meets its bound where several are in reach. Assumes
 -- nothing.
-use mathlib.Core.Path.{_≡_, refl, sym, ap, _∙_}
+use mathlib.Core.Path.{_≡_, sym, ap, _∙_}
 use mathlib.Core.List.{List, _++_}
 use Prim.Native.Nat.{ℕ, zero, suc, _+_, _*_, _/_, _%_, _^_, _≤_, _<_}
 use native.Mathlib.Omega.{arith}

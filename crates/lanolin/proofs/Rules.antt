@@ -15,7 +15,8 @@ use Rattle.lanolin_answers.specs.declared.StoredOut.{StoredOut}
 
 module _ (b0 b1 : List ℕ) (es : List Entry) (dat : List ℕ) (g : Geometry) (n0 n1 count seed rules byte : ℕ) where
   pub commit-glue : (r0 : Committed) (x0 y0 : List ℕ) (r1 : CommittedOut)
-      → (r0 ≡ commitOf g b0 b1 n0 n1 count seed rules byte es dat) × CommitLeaves g b0 b1 n0 n1 count seed rules byte es dat x0 y0
+      → (r0 ≡ commitOf g b0 b1 n0 n1 count seed rules byte es dat)
+      × CommitLeaves g b0 b1 n0 n1 count seed rules byte es dat x0 y0
       → r1 ≡ committedOut seed r0
       → (r1 ≡ committedOut seed (commitOf g b0 b1 n0 n1 count seed rules byte es dat))
       × CommitLeaves g b0 b1 n0 n1 count seed rules byte es dat x0 y0

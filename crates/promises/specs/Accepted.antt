@@ -60,7 +60,8 @@ module _ (g : Geometry) (b0 b1 : List ℕ) (n0 n1 count seed rules e : ℕ) (ent
     pub check : size ≡ checkSize (g .«prog_size») (checkAt (log b) is)
 
 -- of a verdict that says the same
-alike : (g : Geometry) (b0 b1 : List ℕ) (n0 n1 count seed rules e : ℕ) (entries : List Entry) (dat : List ℕ) (w v : Bool)
+alike : (g : Geometry) (b0 b1 : List ℕ) (n0 n1 count seed rules e : ℕ) (entries : List Entry) (dat : List ℕ)
+    (w v : Bool)
     (is js : List Item) (k l : ℕ) → w ≡ v → is ≡ js → k ≡ l
     → CommitConditions g b0 b1 n0 n1 count seed rules e entries dat w (blockAt w b0 b1) is k
     → CommitConditions g b0 b1 n0 n1 count seed rules e entries dat v (blockAt v b0 b1) js l
@@ -89,7 +90,8 @@ module _ (g : Geometry) (b0 b1 : List ℕ) (n0 n1 count seed rules e : ℕ) (ent
       let j = good-then (judge dat 0 (countOf 0 (log b)) entries) _ second is size (q .1) in
       let r = past (ltb (length b) (roundedEnd prog (checkAt (log b) I))) NoSpace _ second is size (j .then) in
       let c = past-room (roomOf e prog b (logEnd (log b)) (logEndTag (log b))) _ second is size (r .1) in
-      let l = past (coincides e allOnes (logEndTag (log b)) I (checkTag e (checkSize prog (checkAt (log b) I)))) Coincidence
+      let l = past (coincides e allOnes (logEndTag (log b)) I (checkTag e (checkSize prog (checkAt (log b) I))))
+      Coincidence
       _ second is size (c .1) in
       let place : isSecond n0 (f .m) ≡ second = cc in
       let items : I ≡ is = cc in
@@ -171,7 +173,8 @@ module _ (g : Geometry) (b0 b1 : List ℕ) (n0 n1 count seed rules e : ℕ) (sec
   compact-conditions h =
       let p : ℕ = g .«prog_size» in
       let k = anew.past (not (writesFit rules e)) Invalid _ second rev is size h in
-      let f = anew.found-then (rulesOf rules) e p b0 b1 n0 (fetchOf g b0 b1 n0 n1 count seed) second rev is size (k .1) in
+      let f = anew.found-then (rulesOf rules) e p b0 b1 n0 (fetchOf g b0 b1 n0 n1 count seed) second rev is size
+      (k .1) in
       let t : compactable (rulesOf rules) e p (isSecond n0 (f .0)) (blockAt (isSecond n0 (f .0)) b0 b1)
       (log (blockAt (isSecond n0 (f .0)) b0 b1)) ≡ compactAccepted second rev is size = rw (f .2) at (k .1) in
       let b : List ℕ = blockAt (isSecond n0 (f .0)) b0 b1 in
@@ -185,7 +188,8 @@ module _ (g : Geometry) (b0 b1 : List ℕ) (n0 n1 count seed rules e : ℕ) (sec
       let next : R ≡ rev = cc in
       let items : I ≡ is = cc in
       let check : checkSize p (compactCheckAt I) ≡ size = cc in
-      alike-anew g b0 b1 n0 n1 count seed rules e (isSecond n0 (f .0)) second R rev I is (checkSize p (compactCheckAt I))
+      alike-anew g b0 b1 n0 n1 count seed rules e (isSecond n0 (f .0)) second R rev I is
+      (checkSize p (compactCheckAt I))
       size place next items check
       (record {
         writes = not-false _ (k .0);

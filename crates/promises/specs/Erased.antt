@@ -1,17 +1,15 @@
 -- Document 02, L7: the erased byte. Any other than the two is refused with -22, whatever the pair; and what the byte
--- decides, for each of the two: for 0xff what document 01 has. That demands 2 and 3 hold for both is said where they are
--- said, with the byte as a variable: Accepted, Room, Torn, Forward, Stopped. Assumes nothing.
+-- decides, for each of the two: for 0xff what document 01 has. That demands 2 and 3 hold for both is said where they
+-- are said, with the byte as a variable: Accepted, Room, Torn, Forward, Stopped. Assumes nothing.
 use mathlib.Core.Path.{_≡_, refl}
-use mathlib.Core.Bool.{Bool, true, false, not, cond, _&&_}
+use mathlib.Core.Bool.{Bool, true, false, not, _&&_}
 use mathlib.Core.List.{List}
 use Prim.Native.Nat.{ℕ}
-use lib.ListN.{length}
 use Rattle.format.specs.Word.{le32, allOnes}
 use Rattle.format.specs.Tag.{tagValid, tagOf}
 use Rattle.format.specs.Kind.{typeCheck, noSlot}
 use Rattle.format.specs.Erased.{erasedFits, erased, validityFits, checkType}
 use Rattle.format.specs.Commit.{checkTag}
-use Rattle.format.specs.Fetch.{pairFits}
 use Rattle.format.specs.Regular.{rulesFit}
 use Rattle.format.specs.Writer.{commitFits, refused, verdictOf, commitOf, commitStoresOf}
 use Rattle.format.specs.Compaction.{compactRefused, compactVerdict, compactOf, compactStoresOf}

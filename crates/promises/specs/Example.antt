@@ -112,8 +112,9 @@ unfolding upTo seenBy withForward carriedFor carries commitImages verdictOf comm
     tooHigh view rank log committed walk walkFrom walkIn classOf readBehind bodyLength tagLength tagFlipped be32 le32
     toBe32 toLe32 xor crc crcByte crcBits crcBit mdirOf erasedOf stoppedStraight span eventLength tagAfter countOf
     counted splitOf tailOf forwardOf seedOf appended Regular regularFrom ruleOf ruleHolds countAfter growsAfter
-    countRaised judge entryBody placed roundedEnd checkSize roomOf allErased coincides tagCoincides fill checkType validityFits entriesLength tagOf
-    appending commitBytes getsliceBuffer getsliceFits recordFits searched back backs wlook splicedAt asIds
+    countRaised judge entryBody placed roundedEnd checkSize roomOf allErased coincides tagCoincides fill checkType
+    validityFits entriesLength tagOf appending commitBytes getsliceBuffer getsliceFits recordFits searched back backs
+    wlook splicedAt asIds
 commit-cut = refl
 
 -- 52 stores, the first the erase: after each of the first 51 the old pair, after the last the second block with the
@@ -126,8 +127,8 @@ unfolding upTo seenBy withForward carriedFor carries compactImages compactVerdic
     bodyLength tagLength tagFlipped be32 le32 toBe32 toLe32 xor crc crcByte crcBits crcBit mdirOf erasedOf
     stoppedStraight span eventLength tagAfter countOf counted splitOf tailOf forwardOf seedOf appended Regular
     regularFrom ruleOf ruleHolds countAfter growsAfter countRaised judge entryBody placed roundedEnd checkSize roomOf
-    allErased coincides tagCoincides fill checkType validityFits entriesLength tagOf appending commitBytes getsliceBuffer getsliceFits recordFits searched
-    back backs wlook splicedAt asIds
+    allErased coincides tagCoincides fill checkType validityFits entriesLength tagOf appending commitBytes
+    getsliceBuffer getsliceFits recordFits searched back backs wlook splicedAt asIds
 compaction-cut = refl
 
 -- both are accepted, so `commit-stopped` and `compact-stopped` speak of them
@@ -137,8 +138,8 @@ unfolding withForward carriedFor carries verdictOf commitFits pairFits geometryF
     committed walk walkFrom walkIn classOf readBehind bodyLength tagLength tagFlipped be32 le32 toBe32 toLe32 xor crc
     crcByte crcBits crcBit mdirOf erasedOf stoppedStraight span eventLength tagAfter countOf counted splitOf tailOf
     forwardOf seedOf appended Regular regularFrom ruleOf ruleHolds countAfter growsAfter countRaised judge entryBody
-    placed roundedEnd checkSize roomOf allErased coincides tagCoincides fill checkType validityFits entriesLength tagOf appending commitBytes getsliceBuffer
-    getsliceFits recordFits searched back backs wlook splicedAt asIds
+    placed roundedEnd checkSize roomOf allErased coincides tagCoincides fill checkType validityFits entriesLength tagOf
+    appending commitBytes getsliceBuffer getsliceFits recordFits searched back backs wlook splicedAt asIds
 takes-commit = refl
 
 pub takes-compaction : compactVerdict geometry first second 0 1 0 0 0 0xff ≡ compactAccepted false 2
@@ -148,8 +149,8 @@ unfolding withForward carriedFor carries compactVerdict compactable placedAnew c
     log committed walk walkFrom walkIn classOf readBehind bodyLength tagLength tagFlipped be32 le32 toBe32 toLe32 xor
     crc crcByte crcBits crcBit mdirOf erasedOf stoppedStraight span eventLength tagAfter countOf counted splitOf tailOf
     forwardOf seedOf appended Regular regularFrom ruleOf ruleHolds countAfter growsAfter countRaised judge entryBody
-    placed roundedEnd checkSize roomOf allErased coincides tagCoincides fill checkType validityFits entriesLength tagOf appending commitBytes getsliceBuffer
-    getsliceFits recordFits searched back backs wlook splicedAt asIds
+    placed roundedEnd checkSize roomOf allErased coincides tagCoincides fill checkType validityFits entriesLength tagOf
+    appending commitBytes getsliceBuffer getsliceFits recordFits searched back backs wlook splicedAt asIds
 takes-compaction = refl
 
 -- so of the commit: whatever n, the finished images or the old reading; and what the finished pair holds
@@ -188,10 +189,12 @@ are-bytes = (refl, refl)
 
 pub compaction-example : (n : ℕ)
     → Stopped geometry 0 1 Document Document first second (compactImages geometry first second 0 1 0 0 0 0xff n .b0)
-    (compactImages geometry first second 0 1 0 0 0 0xff n .b1) (compactImages geometry first second 0 1 0 0 0 0xff unlimited)
+    (compactImages geometry first second 0 1 0 0 0 0xff n .b1)
+    (compactImages geometry first second 0 1 0 0 0 0xff unlimited)
     (machineOf (log first)) (machineOf (log first))
 compaction-example n =
-    compact-stopped geometry first second 0 1 0 0 0 0xff n (bytes-of first (are-bytes .0)) (bytes-of second (are-bytes .1))
+    compact-stopped geometry first second 0 1 0 0 0 0xff n (bytes-of first (are-bytes .0))
+    (bytes-of second (are-bytes .1))
     false 2 (compactionItems (log first) ++ (forwardItem (unitCheck 0xff 16) ∷ [])) 17 takes-compaction
 
 abbrev stopped : Images
@@ -204,6 +207,7 @@ unfolding seenBy withForward carriedFor carries commitImages verdictOf commitFit
     view rank log committed walk walkFrom walkIn classOf readBehind bodyLength tagLength tagFlipped be32 le32 toBe32
     toLe32 xor crc crcByte crcBits crcBit mdirOf erasedOf stoppedStraight span eventLength tagAfter countOf counted
     splitOf tailOf forwardOf seedOf appended Regular regularFrom ruleOf ruleHolds countAfter growsAfter countRaised
-    judge entryBody placed roundedEnd checkSize roomOf allErased coincides tagCoincides fill checkType validityFits entriesLength tagOf appending
-    commitBytes getsliceBuffer getsliceFits recordFits searched back backs wlook splicedAt asIds
+    judge entryBody placed roundedEnd checkSize roomOf allErased coincides tagCoincides fill checkType validityFits
+    entriesLength tagOf appending commitBytes getsliceBuffer getsliceFits recordFits searched back backs wlook splicedAt
+    asIds
 other-seed = refl

@@ -4,8 +4,8 @@
 pub mod Refused
 pub mod Writes
 -- Demand 2: when each call refuses or accepts, and why there is no room; the erased byte; what a forward check changes
--- of that, and what it says afterwards; that each contract decides; which refusals each call can give; and that an answer's number and
--- values determine it.
+-- of that, and what it says afterwards; that each contract decides; which refusals each call can give; and that an
+-- answer's number and values determine it.
 pub mod Exactly
 pub mod Accepted
 pub mod Room

@@ -25,7 +25,8 @@ use Rattle.format.specs.declared.LfsMdir.{LfsMdir}
 use Rattle.format.specs.declared.LfsGstate.{LfsGstate}
 use Rattle.format.specs.declared.Refusal.{Refusal}
 use Rattle.format.specs.declared.Refusal.the-variants.{Invalid, Corrupt, NoEntry, TooMany}
-use Rattle.format.specs.declared.Refusal.the-variants.{BadEntry, Irregular, NoSpace, Misaligned, WrongValidity, NotErased}
+use Rattle.format.specs.declared.Refusal.the-variants.{BadEntry, Irregular, NoSpace, Misaligned, WrongValidity}
+use Rattle.format.specs.declared.Refusal.the-variants.{NotErased}
 use Rattle.format.specs.declared.Refusal.the-variants.{Coincidence}
 use Rattle.format.specs.declared.Fetched.{Fetched}
 use Rattle.format.specs.declared.Fetched.the-variants as fetched
@@ -249,12 +250,14 @@ module _ (g : Geometry) (b0 b1 : List ℕ) (n0 n1 count seed rules e : ℕ) wher
   pub commit-told : (entries : List Entry) (dat : List ℕ)
       → CommittedTold seed (commitOf g b0 b1 n0 n1 count seed rules e entries dat)
   commit-told entries dat =
-      committed-determined CommitRefuses (λ r h. h) seed _ (commit-possible g b0 b1 n0 n1 count seed rules e entries dat)
+      committed-determined CommitRefuses (λ r h. h) seed _
+      (commit-possible g b0 b1 n0 n1 count seed rules e entries dat)
 
   pub commit-stores-told : (entries : List Entry) (dat : List ℕ) (n : ℕ)
       → StoredTold (commitStoresOf g b0 b1 n0 n1 count seed rules e entries dat n)
   commit-stores-told entries dat n =
-      stored-determined CommitRefuses (λ r h. h) _ (commit-stores-possible g b0 b1 n0 n1 count seed rules e entries dat n)
+      stored-determined CommitRefuses (λ r h. h) _
+      (commit-stores-possible g b0 b1 n0 n1 count seed rules e entries dat n)
 
   pub compact-told : CommittedTold seed (compactOf g b0 b1 n0 n1 count seed rules e)
   compact-told =

@@ -17,7 +17,8 @@ use Rattle.format.specs.declared.Geometry.{Geometry}
 use Rattle.format.specs.declared.LfsMdir.{LfsMdir}
 use Rattle.format.specs.declared.Refusal.{Refusal}
 use Rattle.format.specs.declared.Refusal.the-variants.{Invalid, Corrupt, NoEntry, TooMany}
-use Rattle.format.specs.declared.Refusal.the-variants.{BadEntry, Irregular, NoSpace, Misaligned, WrongValidity, NotErased}
+use Rattle.format.specs.declared.Refusal.the-variants.{BadEntry, Irregular, NoSpace, Misaligned, WrongValidity}
+use Rattle.format.specs.declared.Refusal.the-variants.{NotErased}
 use Rattle.format.specs.declared.Refusal.the-variants.{Coincidence}
 use Rattle.format.specs.declared.Fetched.{Fetched}
 use Rattle.format.specs.declared.Fetched.the-variants as fetched

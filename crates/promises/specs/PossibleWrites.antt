@@ -20,7 +20,8 @@ use Rattle.format.specs.Entries.{itemsOf, Judged, bad, good, judge}
 use Rattle.format.specs.Room.{roomOf}
 use Rattle.format.specs.Writer.{roundedEnd, checkSize, withForward, checkAt, commitFits, blockAt, roomThen, isSecond}
 use Rattle.format.specs.Writer.{Verdict, refused, accepted, placed, appended, judgedBy, fetchedThen, verdictOf}
-use Rattle.format.specs.Writer.{writesFit, Images, unlimited, answerOf, storesMade, commitImages, commitOf, commitStoresOf}
+use Rattle.format.specs.Writer.{writesFit, Images, unlimited, answerOf, storesMade, commitImages, commitOf}
+use Rattle.format.specs.Writer.{commitStoresOf}
 use Rattle.format.specs.Compaction.{CompactVerdict, compactRefused, compactAccepted, compactionItems, compactCheckAt}
 use Rattle.format.specs.Compaction.{placedAnew, compactable, compactFetched, compactVerdict, compactAnswer, compactMade}
 use Rattle.format.specs.Compaction.{compactImages, compactOf, compactStoresOf}
@@ -67,7 +68,8 @@ unfolding placed
 placed-possible e prog second b es is =
     through Commits (ltb (length b) (roundedEnd prog (checkAt es is))) commit28
     (room-then (roomOf e prog b (logEnd es) (logEndTag es)) _ (room-possible e prog b (logEnd es) (logEndTag es))
-    (through Commits (coincides e allOnes (logEndTag es) is (checkTag e (checkSize prog (checkAt es is)))) commit204 tt))
+    (through Commits (coincides e allOnes (logEndTag es) is (checkTag e (checkSize prog (checkAt es is)))) commit204
+    tt))
 
 appended-possible : (r : Rules) (e prog : ℕ) (second : Bool) (b : List ℕ) (es : List Event) (entries : List Entry)
     (dat : List ℕ) → Commits (appended r e prog second b es entries dat)

@@ -44,7 +44,8 @@ module _ (e : ℕ) (byte : erasedFits e ≡ true) (prog : ℕ) (b : List ℕ) (e
       ∙ run-before e (drop end b) (i - end) (omega (arith, run-all e (drop end b) h, length-drop end b))
 
   -- the byte behind the erased ones
-  unerased : allErased e (drop end b) ≡ false → (firstUnerased e b end < length b) × (getD b (firstUnerased e b end) 0 ≢ e)
+  unerased : allErased e (drop end b) ≡ false → (firstUnerased e b end < length b)
+      × (getD b (firstUnerased e b end) 0 ≢ e)
   unfolding firstUnerased
   unerased h =
       let r = run-ends e (drop end b) h in (
@@ -158,7 +159,8 @@ module _ (e : ℕ) (byte : erasedFits e ≡ true) (prog : ℕ) (b : List ℕ) (e
   only-first : (k : ℕ) → First k → firstUnerased e b end ≡ k
   only-first k f = go (ltb k (firstUnerased e b end)) (ltb (firstUnerased e b end) k) refl refl
     where
-      go : (x y : Bool) → ltb k (firstUnerased e b end) ≡ x → ltb (firstUnerased e b end) k ≡ y → firstUnerased e b end ≡ k
+      go : (x y : Bool) → ltb k (firstUnerased e b end) ≡ x → ltb (firstUnerased e b end) k ≡ y → firstUnerased e b end
+          ≡ k
       go true y h i = absurd (f .is (before-first k (f .from) (ltb-true k (firstUnerased e b end) h)))
       go false true h i = absurd (unerased (some-byte k f) .1
           (f .before (firstUnerased e b end) from-end (ltb-true (firstUnerased e b end) k i)))

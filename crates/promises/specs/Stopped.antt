@@ -49,7 +49,8 @@ module _ (g : Geometry) (b0 b1 : List ℕ) (n0 n1 count seed rules e : ℕ) wher
       → (m : LfsMdir) × (s : ℕ) × (compactOf g b0 b1 n0 n1 count seed rules e ≡ committed.Done m s)
   unfolding compactOf
   compact-done y0 y1 second rev is size h =
-      let f = compact-refetched g b0 b1 n0 n1 count seed rules e second rev is size h (block-bytes second b0 b1 y0 y1) in
+      let f = compact-refetched g b0 b1 n0 n1 count seed rules e second rev is size h
+      (block-bytes second b0 b1 y0 y1) in
       (f .0, f .1, rw (h, f .2))
 
   -- ---- so a refused one has altered nothing (demand 1, of the calls without a limit)

@@ -30,4 +30,5 @@ returns-2 c = forward-made _ _ _ _ _ (c .before .before .rounded-end .ensures) _
     (c .unit-sum .ensures)
 
 pub forward-spec : {M : Type 1} → statement M
-forward-spec = tie.close (tie.spec add-rounded-end rounded-end-requires add-if1 returns (λ c κs. search needs) returns-2)
+forward-spec = tie.close (tie.spec add-rounded-end rounded-end-requires add-if1 returns
+    (λ c κs. search needs) returns-2)

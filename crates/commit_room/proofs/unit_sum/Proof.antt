@@ -24,7 +24,8 @@ loop-holds c =
 
 loop-again : tie.Need-loop-again Inv-loop μ-loop
 loop-again c = c .before .before .loop .inv ∙ unit-on _ _ _ _ (c .before .loop-test .taken)
-    ∙ ap (λ (s : ℕ). crc s (erased (c .before .before .before .args .erased) (c .before .before .before .args .prog - (c .before .before .loop .n + 1))))
+    ∙ ap (λ (s : ℕ). crc s (erased (c .before .before .before .args .erased)
+    (c .before .before .before .args .prog - (c .before .before .loop .n + 1))))
     (sym (c .lfs-crc-byte .ensures))
 
 returns : tie.Need-returns Inv-loop μ-loop
@@ -33,4 +34,5 @@ returns c = sym (c .before .loop .inv ∙ unit-end _ _ _ _ (c .loop-test .left))
 pub unit-sum-spec : {M : Type 1} → statement M
 unit-sum-spec =
     tie.close
-    (tie.spec Inv-loop μ-loop loop-holds (λ c κs. search needs) (λ c. omega arith) (λ c. omega arith) loop-again returns)
+    (tie.spec Inv-loop μ-loop loop-holds (λ c κs. search needs) (λ c. omega arith)
+    (λ c. omega arith) loop-again returns)

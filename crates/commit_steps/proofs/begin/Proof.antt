@@ -12,7 +12,8 @@ returns c =
     let fits = c .before .before in
     let a = fits .before .before .before .before .before .args in
     begins-broken (a .g) (a .b0 .now) (a .b1 .now) (a .n0) (a .n1) (a .block-count) (a .seed) (a .rules) (a .erased)
-    (a .entries) (a .dat .now) _ _ (fits .before .pair-fits .ensures) (fits .writes-fit .ensures) _ (c .before .if1 .taken)
+    (a .entries) (a .dat .now) _ _ (fits .before .pair-fits .ensures) (fits .writes-fit .ensures) _
+    (c .before .if1 .taken)
     (c .refused .ensures)
 
 start-requires : tie.Need-start-requires
@@ -40,7 +41,8 @@ returns-3 c =
     begins-first (a .g) (a .b0 .now) (a .b1 .now) (a .n0) (a .n1) (a .block-count) (a .seed) (a .rules) (a .erased)
     (a .entries) (a .dat .now) _ _ (fits .before .pair-fits .ensures) (fits .writes-fit .ensures)
     (c .before .before .before .before .before .before .before .if1 .left) _ _
-    (sym (c .before .before .before .before .before .before .lfs-dir-fetch .ensures) ∙ c .before .before .before .before .m .given .1) _ (c .before .if2 .taken)
+    (sym (c .before .before .before .before .before .before .lfs-dir-fetch .ensures)
+    ∙ c .before .before .before .before .m .given .1) _ (c .before .if2 .taken)
     (c .start .ensures)
 
 returns-4 : tie.Need-returns-4
@@ -50,11 +52,13 @@ returns-4 c =
     begins-second (a .g) (a .b0 .now) (a .b1 .now) (a .n0) (a .n1) (a .block-count) (a .seed) (a .rules) (a .erased)
     (a .entries) (a .dat .now) _ _ (fits .before .pair-fits .ensures) (fits .writes-fit .ensures)
     (c .before .before .before .before .before .before .before .if1 .left) _ _
-    (sym (c .before .before .before .before .before .before .lfs-dir-fetch .ensures) ∙ c .before .before .before .before .m .given .1) _ (c .before .if2 .left)
+    (sym (c .before .before .before .before .before .before .lfs-dir-fetch .ensures)
+    ∙ c .before .before .before .before .m .given .1) _ (c .before .if2 .left)
     (c .start2 .ensures)
 
 pub begin-spec : {M : Type 1} → statement M
 begin-spec =
     tie.close
-    (tie.spec (λ c κs. search needs) (λ c κs. search needs) (λ c κs. search needs) returns (λ c κs. search needs) (λ c. search needs)
+    (tie.spec (λ c κs. search needs) (λ c κs. search needs) (λ c κs. search needs) returns (λ c κs. search needs)
+    (λ c. search needs)
     (λ c κs. search needs) (λ c. search needs) start-requires start-requires-2 returns-2 returns-3 returns-4)

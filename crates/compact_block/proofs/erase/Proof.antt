@@ -38,7 +38,8 @@ same-length : tie.Need-same-length Inv-loop μ-loop
 same-length c = erase-length _ (c .before .loop .i) _ _ (c .before .loop .inv .0) (c .before .loop .inv .1)
 
 returns : tie.Need-returns Inv-loop μ-loop
-returns c = erase-all _ (c .before .loop .i) _ _ (c .before .loop .inv .0) (c .loop-test .left) (c .before .loop .inv .1)
+returns c = erase-all _ (c .before .loop .i) _ _ (c .before .loop .inv .0) (c .loop-test .left)
+    (c .before .loop .inv .1)
 
 pub erase-spec : {M : Type 1} → statement M
 erase-spec =

@@ -65,8 +65,8 @@ check-tag-requires c κs =
 
 returns-3 : tie.Need-returns-3
 returns-3 c =
-    renew-coincides _ _ _ _ _ _ (c .before .before .before .before .before .before .before .before .before .before .before
-    .before .before .before .before .before .before .before .pre)
+    renew-coincides _ _ _ _ _ _ (c .before .before .before .before .before .before .before .before .before .before
+    .before .before .before .before .before .before .before .before .pre)
     (c .before .before .before .before .before .before .before .before .before .before .before .before .before .before
     .before .before .before .before .args .rules) _ (c .before .before .before .before .before .before .before .before
     .before .before .before .before .before .before .rules-of .ensures) _

@@ -7,7 +7,8 @@ use Rattle.compact_block.proofs.write.Statement.{statement}
 use Rattle.compact_block.proofs.write.Tie as tie
 
 returns : tie.Need-returns
-returns c = pass-none (c .before .before .before .args .erased) (c .before .before .before .args .prog) (c .before .before .before .args .old .now) _ _
+returns c = pass-none (c .before .before .before .args .erased) (c .before .before .before .args .prog)
+    (c .before .before .before .args .old .now) _ _
     (c .before .before .before .args .tag) _ (c .if1 .taken)
 
 entries-requires : tie.Need-entries-requires

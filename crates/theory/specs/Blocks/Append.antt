@@ -1,10 +1,10 @@
 -- Demand 3 for an append, over blocks as they stand: stopped after any store, the finished block or the old view.
 -- Assumes nothing.
 use mathlib.Core.Path.{_≡_, refl, sym, ap, _∙_}
-use mathlib.Core.Logic.{_≢_, _⊎_, inl}
+use mathlib.Core.Logic.{_≢_, _⊎_}
 use mathlib.Core.Bool.{Bool, true}
 use mathlib.Core.List.{List, [], _∷_, _++_, append-assoc}
-use Prim.Native.Nat.{ℕ, zero, suc, _+_, _-_, _^_, _≤_, _<_}
+use Prim.Native.Nat.{ℕ, zero, suc, _+_, _-_, _≤_}
 use native.Mathlib.Omega.{arith}
 use lib.ListN.{take, length, drop, length-append, take-append-drop}
 use lib.Seq.{length-take-le, drop-drop}
@@ -99,7 +99,8 @@ appends e b es is ct a =
       all = omega (arith, a .fits, a .check .long, length-commit is allOnes (logEndTag es) ct (a .items));
     }
 
-as-room : (e : ℕ) (b : List ℕ) (es : List Event) (is : List Item) (ct k : ℕ) → AppendOk e b es is ct → k ≤ entriesLength is + 8
+as-room : (e : ℕ) (b : List ℕ) (es : List Event) (is : List Item) (ct k : ℕ) → AppendOk e b es is ct
+    → k ≤ entriesLength is + 8
     → appending b es is ct k ≡ take (logEnd es) b ++ room e allOnes (logEndTag es) is ct
     (length b - (logEnd es) - (entriesLength is + 8)) k
 unfolding appending room
@@ -168,6 +169,7 @@ demand3-append e w b o v es is ct k h a hk =
     record {
       either = rw (as-room e b es is ct k a hk, as-filled e b es is ct a)
           (crash-append e w o (take (logEnd es) b) M v es is ct m k h′ (appends e b es is ct a));
-      finished = rw (as-filled e b es is ct a) (done-append e w o (take (logEnd es) b) M v es is ct m h′ (appends e b es is ct a));
+      finished = rw (as-filled e b es is ct a) (done-append e w o (take (logEnd es) b) M v es is ct m h′
+          (appends e b es is ct a));
       applied = commit-dir es allOnes (logEndTag es) is ct;
     }

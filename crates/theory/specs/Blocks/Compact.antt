@@ -98,9 +98,11 @@ demand3-compact e w x o v es ts ct m n h small ok few st f =
     }
 
 -- DEMAND 3, COMPACTION: the stores. After the erase, k single bytes rising over a block of B erased bytes
-pub compact-stores : (e B rev : ℕ) (o : List ℕ) (is : List Item) (ct k : ℕ) → AllGood is → 4 + (entriesLength is + 8) ≤ B
+pub compact-stores : (e B rev : ℕ) (o : List ℕ) (is : List Item) (ct k : ℕ) → AllGood is
+    → 4 + (entriesLength is + 8) ≤ B
     → k ≤ 4 + (entriesLength is + 8)
-    → compacting e o rev is ct (B - (4 + (entriesLength is + 8))) (suc k) ≡ paste (erased e B) 0 (compactBytes rev is ct) k
+    → compacting e o rev is ct (B - (4 + (entriesLength is + 8))) (suc k)
+    ≡ paste (erased e B) 0 (compactBytes rev is ct) k
 unfolding compacting compactBytes
 compact-stores e B rev o is ct k g fits h =
     let N : List ℕ = toLe32 rev ++ commitBytes (crc allOnes (toLe32 rev)) allOnes is ct in

@@ -158,7 +158,8 @@ module _ (g : Geometry) (l0 l1 n0 n1 rules e k d : ℕ) (fits : commitFits g l0 
       both-true (geometryFits g) (eqb l0 (g .«block_size»)) (u .0) .0
 
 -- ---- the tests of good entries
-module _ (e : ℕ) (byte : erasedFits e ≡ true) (prog : ℕ) (some : 4 ≤ prog) (most : prog ≤ 512) (b : List ℕ) (es : List Event) (old : log b ≡ es)
+module _ (e : ℕ) (byte : erasedFits e ≡ true) (prog : ℕ) (some : 4 ≤ prog) (most : prog ≤ 512) (b : List ℕ)
+    (es : List Event) (old : log b ≡ es)
     (nonempty : es ≢ []) (regular : Regular Littlefs es ≡ true) (dat : List ℕ) (entries : List Entry) (c : ℕ)
     (all : judge dat 0 (countOf 0 es) entries ≡ good c) where
   -- what is laid
@@ -172,9 +173,11 @@ module _ (e : ℕ) (byte : erasedFits e ≡ true) (prog : ℕ) (some : 4 ≤ pro
       let I : List Item = withForward e prog (length b) (logEnd es) (itemsOf dat entries) in
       let p = past (ltb (length b) (roundedEnd prog (checkAt es I))) NoSpace _ w is size h in
       let q = past-room (roomOf e prog b (logEnd es) (logEndTag es)) _ w is size (p .1) in
-      let r = past (coincides e allOnes (logEndTag es) I (checkTag e (checkSize prog (checkAt es I)))) Coincidence _ w is
+      let r = past (coincides e allOnes (logEndTag es) I (checkTag e (checkSize prog (checkAt es I)))) Coincidence _ w
+      is
       size (q .1) in
-      let clean = both-true (allErased e (drop (logEnd es) b) && eqb (logEnd es % prog) 0) (validityFits e (logEndTag es))
+      let clean = both-true (allErased e (drop (logEnd es) b) && eqb (logEnd es % prog) 0)
+      (validityFits e (logEndTag es))
       (clean-holds e prog b (logEnd es) (logEndTag es) (q .0)) in
       let empty = both-true (allErased e (drop (logEnd es) b)) (eqb (logEnd es % prog) 0) (clean .0) in
       let slots : countOf 0 es ≡ slotsAfterAll 0 (acts es) = regular-slots es regular in
@@ -197,7 +200,8 @@ module _ (e : ℕ) (byte : erasedFits e ≡ true) (prog : ℕ) (some : 4 ≤ pro
             le-leb 4 (checkSize prog (checkAt es I)) (k .0),
             le-leb (checkSize prog (checkAt es I)) 1_022 (k .1),
           );
-          fits = le-leb (logEnd es + entriesLength I + tagLength (checkTag e (checkSize prog (checkAt es I)))) (length b)
+          fits = le-leb (logEnd es + entriesLength I + tagLength (checkTag e (checkSize prog (checkAt es I))))
+              (length b)
               (omega (
                 arith,
                 ltb-false (length b) (roundedEnd prog (checkAt es I)) (p .0),
@@ -234,7 +238,8 @@ module _ (g : Geometry) (b0 b1 : List ℕ) (n0 n1 count seed rules e : ℕ) (ent
       let p = past (not (commitFits g (length b0) (length b1) n0 n1 rules e (length entries) (length dat))) Invalid _
       second is size h in
       let fits = not-false _ (p .0) in
-      let prog = fits-prog g (fits-geometry g (length b0) (length b1) n0 n1 rules e (length entries) (length dat) fits) in
+      let prog = fits-prog g (fits-geometry g (length b0) (length b1) n0 n1 rules e (length entries)
+      (length dat) fits) in
       let byte = fits-byte g (length b0) (length b1) n0 n1 rules e (length entries) (length dat) fits in
       let f = found-then (fetchOf g b0 b1 n0 n1 count seed) _ second is size (p .1) in
       let a = found-answers g b0 b1 n0 n1 count seed (f .m) (f .s) (f .found) in
@@ -245,7 +250,8 @@ module _ (g : Geometry) (b0 b1 : List ℕ) (n0 n1 count seed rules e : ℕ) (ent
       let j = good-then (judge dat 0 (countOf 0 (log (blockAt (a .w) b0 b1))) entries) _ second is size (q .1) in
       let some : log (blockAt (a .w) b0 b1) ≢ [] = view-log (a .w) (blockAt (a .w) b0 b1) (blockAt (not (a .w)) b0 b1)
       (a .rev) (log (blockAt (a .w) b0 b1)) (a .answers) .1 in
-      let k = placed-accepts e byte (g .«prog_size») (prog .0) (prog .1) (blockAt (a .w) b0 b1) (log (blockAt (a .w) b0 b1))
+      let k = placed-accepts e byte (g .«prog_size») (prog .0) (prog .1) (blockAt (a .w) b0 b1)
+      (log (blockAt (a .w) b0 b1))
       refl some (widest (rulesOf rules) _ (not-false _ (q .0))) dat entries (j .c) (j .all) (a .w) second is size
       (j .then) in
       rw (k .0) (record {

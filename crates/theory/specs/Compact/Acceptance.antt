@@ -1,6 +1,6 @@
 -- Document 01's acceptance of a compaction as one record of Booleans, and what follows of it: demand 3, and that the
 -- lookups stay. Assumes nothing.
-use mathlib.Core.Path.{_≡_, refl}
+use mathlib.Core.Path.{_≡_}
 use mathlib.Core.Bool.{Bool, true, false}
 use mathlib.Core.List.{List}
 use Prim.Native.Nat.{ℕ, _+_, _^_, _≤_, _<_}
@@ -53,9 +53,11 @@ pub record Compacts (e : ℕ) (x : List ℕ) (v : ℕ) (es : List Event) (ts : L
   -- "-28 | the rounded end passes the block"
   pub room : leb (tagLength (checkTag e size)) (8 + m) ≡ true
   -- "-204 | the checksum coincidence"
-  pub lucky : coincides e (crc allOnes (toLe32 (plus32 v 1))) allOnes (compactItems (dirOf es) ts) (checkTag e size) ≡ false
+  pub lucky : coincides e (crc allOnes (toLe32 (plus32 v 1))) allOnes (compactItems (dirOf es) ts) (checkTag e size)
+      ≡ false
 
-module _ (e : ℕ) (x : List ℕ) (v : ℕ) (es : List Event) (ts : List Item) (size m : ℕ) (a : Compacts e x v es ts size m) where
+module _ (e : ℕ) (x : List ℕ) (v : ℕ) (es : List Event) (ts : List Item) (size m : ℕ)
+    (a : Compacts e x v es ts size m) where
   check-size : (4 ≤ size) × (size ≤ 1_022)
   check-size = let r = both-true (leb 4 size) (leb size 1_022) (a .check) in
       (leb-true 4 size (r .0), leb-true size 1_022 (r .1))
@@ -69,7 +71,8 @@ module _ (e : ℕ) (x : List ℕ) (v : ℕ) (es : List Event) (ts : List Item) (
   few : length (dirOf es) ≤ mostSlots
   few = rw (length-dirOf es (was .base .rules)) (regular-count x es (a .old) (a .regular))
 
-  pub compact-fits : CommitFits e (crc allOnes (toLe32 (plus32 v 1))) allOnes (compactItems (dirOf es) ts) (checkTag e size)
+  pub compact-fits : CommitFits e (crc allOnes (toLe32 (plus32 v 1))) allOnes (compactItems (dirOf es) ts)
+      (checkTag e size)
       m
   compact-fits =
       record {
@@ -80,7 +83,8 @@ module _ (e : ℕ) (x : List ℕ) (v : ℕ) (es : List Event) (ts : List Item) (
         flips = check-fits e size (omega (arith, check-size .1));
         room = leb-true (tagLength (checkTag e size)) (8 + m) (a .room);
         start = quiet-start e (erases e (a .byte));
-        lucky = no-coincidence e (compactItems (dirOf es) ts) (crc allOnes (toLe32 (plus32 v 1))) allOnes (checkTag e size)
+        lucky = no-coincidence e (compactItems (dirOf es) ts) (crc allOnes (toLe32 (plus32 v 1))) allOnes
+            (checkTag e size)
             (a .lucky);
       }
 

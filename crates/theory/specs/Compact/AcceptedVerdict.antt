@@ -136,7 +136,8 @@ module _ (r : Rules) (e : ℕ) (byte : erasedFits e ≡ true) (prog : ℕ) (some
     pub rounded′ : size ≡ checkSize prog (compactCheckAt is)
     pub room : compactCheckAt is + checkLength ≤ length o
     pub ruled : Regular r (log x) ≡ true
-    pub compacts : Compacts e x (le32 x) (log x) (laidBehind e prog x) size (length o - (compactCheckAt is + checkLength))
+    pub compacts : Compacts e x (le32 x) (log x) (laidBehind e prog x) size
+        (length o - (compactCheckAt is + checkLength))
 
   pub placed : (second w : Bool) (rev : ℕ) (is : List Item) (size : ℕ)
       → compactable r e prog second x (log x) ≡ compactAccepted w rev is size → Placed second rev is size w
@@ -224,7 +225,8 @@ module _ (g : Geometry) (b0 b1 : List ℕ) (n0 n1 count seed rules e : ℕ) (w :
       let v = past (not (writesFit rules e)) Invalid _ w rev is size h in
       let k = v .1 in
       let byte = both-true (rulesFit rules) (erasedFits e) (not-false _ (v .0)) .1 in
-      let f = found-then (rulesOf rules) e (g .«prog_size») b0 b1 n0 (fetchOf g b0 b1 n0 n1 count seed) w rev is size k in
+      let f = found-then (rulesOf rules) e (g .«prog_size») b0 b1 n0
+      (fetchOf g b0 b1 n0 n1 count seed) w rev is size k in
       let z = found-sized g b0 b1 n0 n1 count seed (f .0) (f .1) (f .2) in
       let a = found-answers g b0 b1 n0 n1 count seed (f .0) (f .1) (f .2) in
       let t : compactable (rulesOf rules) e (g .«prog_size») (a .w) (blockAt (a .w) b0 b1) (log (blockAt (a .w) b0 b1))
@@ -314,7 +316,8 @@ module _ (g : Geometry) (b0 b1 : List ℕ) (n0 n1 count seed rules e : ℕ) (w :
       (subst (λ (l : List Item). AfterCompact w x (le32 x) (log x) l (checkTag e size)
       (compacting e o (plus32 (le32 x) 1) l (checkTag e size) rest k)
       (compacted e (plus32 (le32 x) 1) l (checkTag e size) rest))
-      (sym (a .items)) (compact-stopped e x (le32 x) (log x) (laidBehind e (g .«prog_size») x) size rest (a .compacts) w o
+      (sym (a .items)) (compact-stopped e x (le32 x) (log x) (laidBehind e (g .«prog_size») x) size rest
+      (a .compacts) w o
       (a .answers) word k))
 
   -- the finished record's tail, split mark and move state are the old ones

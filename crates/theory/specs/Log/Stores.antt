@@ -4,7 +4,7 @@ use mathlib.Core.Path.{_≡_, refl, ap, _∙_}
 use mathlib.Core.Logic.{_≢_, _⊎_, inl, inr}
 use mathlib.Core.Bool.{Bool, true, false}
 use mathlib.Core.List.{List, [], _∷_, _++_, append-assoc, append-nil}
-use Prim.Native.Nat.{ℕ, _+_, _-_, _^_, _≤_, _<_}
+use Prim.Native.Nat.{ℕ, _+_, _-_, _≤_}
 use native.Mathlib.Omega.{arith}
 use lib.ListN.{drop, length, take}
 use lib.Seq.{take-at, drop-at}
@@ -98,25 +98,29 @@ unfoldable pub filled : ℕ → ℕ → ℕ → List Item → ℕ → ℕ → Li
 filled e sum p is ct m = commitBytes sum p is ct ++ erased e m
 
 -- an append stopped after k bytes: the finished block, or the old log
-pub append-cut : (e : ℕ) (pre : List ℕ) (M : ℕ) (es : List Event) (is : List Item) (ct m k : ℕ) → Appends e pre M es is ct m
+pub append-cut : (e : ℕ) (pre : List ℕ) (M : ℕ) (es : List Event) (is : List Item) (ct m k : ℕ)
+    → Appends e pre M es is ct m
     → (room e allOnes (logEndTag es) is ct m k ≡ filled e allOnes (logEndTag es) is ct m)
     ⊎ (log (pre ++ room e allOnes (logEndTag es) is ct m k) ≡ es)
 unfolding room filled Cut
 append-cut e pre M es is ct m k a =
-    go (cut e (a .fits .byte) is allOnes (logEndTag es) ct k m (omega arith) (a .fits .items) (a .fits .check) (a .fits .room)
+    go (cut e (a .fits .byte) is allOnes (logEndTag es) ct k m (omega arith) (a .fits .items) (a .fits .check)
+    (a .fits .room)
     (a .fits .start) (a .fits .lucky))
   where
     N : List ℕ
     N = commitBytes allOnes (logEndTag es) is ct
 
-    go : (fill e k N ++ erased e m ≡ N ++ erased e m) ⊎ NoCheck (walkFrom allOnes (logEndTag es) (fill e k N ++ erased e m))
+    go : (fill e k N ++ erased e m ≡ N ++ erased e m)
+        ⊎ NoCheck (walkFrom allOnes (logEndTag es) (fill e k N ++ erased e m))
         → (fill e k N ++ erased e m ≡ N ++ erased e m) ⊎ (log (pre ++ (fill e k N ++ erased e m)) ≡ es)
     go (inl q) = inl q
     go (inr n) =
         inr (reach e pre M es (a .old) (a .nonempty) (a .reg) (a .end) (fill e k N ++ erased e m)
         ∙ rw (committed-none (walkFrom allOnes (logEndTag es) (fill e k N ++ erased e m)) n) (append-nil es))
 
-pub append-done : (e : ℕ) (pre : List ℕ) (M : ℕ) (es : List Event) (is : List Item) (ct m : ℕ) → Appends e pre M es is ct m
+pub append-done : (e : ℕ) (pre : List ℕ) (M : ℕ) (es : List Event) (is : List Item) (ct m : ℕ)
+    → Appends e pre M es is ct m
     → log (pre ++ filled e allOnes (logEndTag es) is ct m) ≡ es ++ commitEvents allOnes (logEndTag es) is ct
 unfolding filled
 append-done e pre M es is ct m a =
@@ -165,7 +169,8 @@ compact-cut e rev is ct m k f = go (leb k 4) refl
           take-at R (fill e (k - 4) N ++ erased e m) 4 four,
           drop-at R (fill e (k - 4) N ++ erased e m) 4 four,
         )
-        (fin (cut e (f .byte) is (crc allOnes R) allOnes ct (k - 4) m (crc-word R allOnes (omega arith)) (f .items) (f .check)
+        (fin (cut e (f .byte) is (crc allOnes R) allOnes ct (k - 4) m (crc-word R allOnes (omega arith)) (f .items)
+        (f .check)
         (f .room) (f .start) (f .lucky)))
       where
         fin : (fill e (k - 4) N ++ erased e m ≡ N ++ erased e m) ⊎ NoCheck

@@ -163,7 +163,8 @@ crash-append e w o pre M v es is ct m k h a = go (append-cut e pre M es is ct m 
     go : (X ≡ filled e allOnes (logEndTag es) is ct m) ⊎ (log (pre ++ X) ≡ es)
         → (pre ++ X ≡ pre ++ filled e allOnes (logEndTag es) is ct m) ⊎ (viewAt w (pre ++ X) o ≡ at w v es)
     go (inl q) = inl (ap (λ z. pre ++ z) q)
-    go (inr q) = inr (view-same w (pre ++ X) (pre ++ erased e M) o (le32-front pre X (erased e M) (omega (arith, a .end)))
+    go (inr q) = inr (view-same w (pre ++ X) (pre ++ erased e M) o
+        (le32-front pre X (erased e M) (omega (arith, a .end)))
         (q ∙ sym (a .old)) ∙ h)
 
 pub done-append : (e : ℕ) (w : Bool) (o pre : List ℕ) (M : ℕ) (v : ℕ) (es : List Event) (is : List Item) (ct m : ℕ)

@@ -58,7 +58,8 @@ module _ (g : Geometry) (b0 b1 : List ℕ) (n0 n1 count seed rules e : ℕ) (ent
   unfolding verdictOf
   commit-found =
       let f = found-then (fetchOf g b0 b1 n0 n1 count seed) _ w is size
-      (past (not (commitFits g (length b0) (length b1) n0 n1 rules e (length entries) (length dat))) Invalid _ w is size h
+      (past (not (commitFits g (length b0) (length b1) n0 n1 rules e (length entries) (length dat))) Invalid _ w is size
+      h
       .1) in
       (f .m, f .s, f .found)
 
@@ -227,7 +228,8 @@ module _ (g : Geometry) (b0 b1 : List ℕ) (n0 n1 count seed rules e : ℕ) (ent
       (rulesOf rules) w place (appends .ruled)
 
 -- DEMAND 3, COMMIT
-pub stopped-commit : (g : Geometry) (b0 b1 : List ℕ) (n0 n1 count seed rules e : ℕ) (entries : List Entry) (dat : List ℕ)
+pub stopped-commit : (g : Geometry) (b0 b1 : List ℕ) (n0 n1 count seed rules e : ℕ) (entries : List Entry)
+    (dat : List ℕ)
     (n : ℕ)
     → CommitStopped g b0 b1 n0 n1 count seed rules e entries dat
     (commitImages g b0 b1 n0 n1 count seed rules e entries dat n .b0)

@@ -85,7 +85,8 @@ module _ (g : Geometry) (b0 b1 : List ℕ) (n0 n1 count seed rules e : ℕ) (w :
 
   compact-found : (m : LfsMdir) × (s : ℕ) × (fetchOf g b0 b1 n0 n1 count seed ≡ fetched.Found m s)
   unfolding compactVerdict
-  compact-found = found-then (rulesOf rules) e (g .«prog_size») b0 b1 n0 (fetchOf g b0 b1 n0 n1 count seed) w rev is size
+  compact-found = found-then (rulesOf rules) e (g .«prog_size») b0 b1 n0
+      (fetchOf g b0 b1 n0 n1 count seed) w rev is size
       (past (not (writesFit rules e)) Invalid _ w rev is size h .1)
 
   pub compacts : CompactsTo (rulesOf rules) e g b0 b1 w rev is size
@@ -148,7 +149,8 @@ module _ (g : Geometry) (b0 b1 : List ℕ) (n0 n1 count seed rules e : ℕ) (w :
   compact-either : (n : ℕ) → ((i n .b0 ≡ f .b0) × (i n .b1 ≡ f .b1)) ⊎ ReadsAs g n0 n1 b0 b1 (i n .b0) (i n .b1)
   compact-either n = go (after n .either)
     where
-      go : (compactedTo e o rev is size n ≡ finished) ⊎ (viewAt w x (compactedTo e o rev is size n) ≡ at w (le32 x) (log x))
+      go : (compactedTo e o rev is size n ≡ finished)
+          ⊎ (viewAt w x (compactedTo e o rev is size n) ≡ at w (le32 x) (log x))
           → ((i n .b0 ≡ f .b0) × (i n .b1 ≡ f .b1)) ⊎ ReadsAs g n0 n1 b0 b1 (i n .b0) (i n .b1)
       go (inl e) =
           inl

@@ -3,7 +3,7 @@
 use mathlib.Core.Path.{_≡_, refl, sym, ap, _∙_}
 use mathlib.Core.Bool.{Bool, true, false, cond}
 use mathlib.Core.List.{List, [], _∷_, _++_}
-use Prim.Native.Nat.{ℕ, suc, _+_, _-_, _%_, _^_, _≤_, _<_}
+use Prim.Native.Nat.{ℕ, _+_, _-_, _%_, _≤_}
 use native.Mathlib.Omega.{arith}
 use lib.ListN.{length, take, drop, length-append, length-drop}
 use lib.Seq.{drop-drop, drop-append-add, drop-at, length-take-le}
@@ -78,7 +78,8 @@ forward-held e es sum p is ct prog =
     (commitSum sum p (is ++ (forwardItem (unitCheck e prog) ∷ [])) ct) refl
 
 -- ---- a block b with the log es, then a commit of the items is with the check tag ct, then m erased bytes
-module _ (e : ℕ) (byte : Erases e) (prog : ℕ) (some : 4 ≤ prog) (b : List ℕ) (es : List Event) (sum p : ℕ) (is : List Item) (ct m : ℕ)
+module _ (e : ℕ) (byte : Erases e) (prog : ℕ) (some : 4 ≤ prog) (b : List ℕ) (es : List Event) (sum p : ℕ)
+    (is : List Item) (ct m : ℕ)
     (stands : Stands es) (walks : walk b ≡ es ++ walkFrom sum p (commitBytes sum p is ct ++ erased e m))
     (rest : drop (logEnd es) b ≡ commitBytes sum p is ct ++ erased e m) (good : AllGood is) (check : GoodCheck ct)
     (flips : validityFits e (tagFlipped ct) ≡ true) (follows : tagLength ct + prog ≤ 8 + m) where
@@ -152,7 +153,8 @@ append-erased e prog some b es is ct ok aligned unit held =
     (erased-behind e (ok .byte) prog some (take (logEnd es) b ++ y) es allOnes (logEndTag es) is ct m
     (rw (ok .old) at (log-stands b))
     (reach-walk e (take (logEnd es) b) M es (a .old) (a .nonempty) (a .reg) (a .end) y)
-    (drop-at (take (logEnd es) b) y (logEnd es) (length-take-le (logEnd es) b (omega (arith, ok .fits)))) (ok .items) (ok .check) (ok .flips)
+    (drop-at (take (logEnd es) b) y (logEnd es) (length-take-le (logEnd es) b (omega (arith, ok .fits)))) (ok .items)
+    (ok .check) (ok .flips)
     (omega (arith, ok .check .long)) aligned held)
 
 -- ---- a compaction
@@ -164,7 +166,8 @@ pub compact-erased : (e prog : ℕ) → 4 ≤ prog → (rev : ℕ) (is : List It
 unfolding span
 compact-erased e prog some rev is ct m fits aligned unit held =
     let w = compact-walk e rev is ct m in
-    erased-behind e (fits .byte) prog some (compacted e rev is ct m) [] (crc allOnes (toLe32 rev)) allOnes is ct m tt (w .1) (w .0)
+    erased-behind e (fits .byte) prog some (compacted e rev is ct m) [] (crc allOnes (toLe32 rev)) allOnes is ct m tt
+    (w .1) (w .0)
     (fits .items) (fits .check) (fits .flips) unit aligned held
 
 -- ---- what is laid of entries that begin at `from`, with the forward check: `size` is that of its check

@@ -9,7 +9,7 @@ use native.Mathlib.Omega.{arith}
 use lib.ListN.{length}
 use lib.Dec.{eqb, leb}
 use borrow.Author.Tests.{eqb-true, leb-false, leb-true}
-use Rattle.format.specs.Word.{be32, le32, toBe32, toLe32, xor, allOnes}
+use Rattle.format.specs.Word.{be32, le32, toBe32, toLe32, xor}
 use Rattle.format.specs.Tag.{tagLength}
 use Rattle.format.specs.Kind.{isCheck}
 use Rattle.format.specs.Crc.{crc}
