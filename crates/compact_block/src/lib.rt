@@ -20,7 +20,7 @@ use format::Stored;
 use format::types::CRC_START;
 use format::types::FIRST_PREV;
 
-// "compaction erases to that byte": one store.
+// "erases the block ..", to the erased byte: one store.
 fn erase(b: &mut [u8], byte: u8)
     ensures { λ _. ⌜ now (b .exit) ≡ erased byte (length (now (b .entry))) ⌝ }
 {

@@ -27,7 +27,7 @@ module _ (e : ℕ) (byte : erasedFits e ≡ true) (prog : ℕ) (b : List ℕ) (e
   pub record NoReason : Type 0 where
     -- not -211: the old end is a multiple of the program size
     pub aligned : end % prog ≡ 0
-    -- not -212: the end tag's validity bit fits
+    -- not -212: the end tag's validity bit fits, clear for 0xff, set for 0x00 (format/proofs/Erased)
     pub validity : BitFits e etag
     -- not -213: every byte from the old end to the block's end is erased
     pub erased : (i : ℕ) → end ≤ i → i < length b → getD b i 0 ≡ e
