@@ -159,7 +159,7 @@ def no_room(erased):
                 **more)
 
     tried("misaligned", 32, image, -211)
-    tried("top-bit", 16, flipped, -212)
+    tried("validity", 16, flipped, -212)
     tried("last-byte-not-erased", 16, dirty, -213, 127)
     tried("first-byte-not-erased", 16, image[:48] + bytes([erased ^ 0x01]) + image[49:], -213, 48)
     tried("three-bytes-not-erased", 16,
@@ -174,17 +174,17 @@ def no_room(erased):
     accepted("commit-behind-padding", "commit", 16, (padded, empty), DEADLINE, SECONDS, (after, empty), written, 1, 1,
              erased=erased)
     # two reasons at once, and all three: the first of "misaligned end, wrong validity bit, byte" is given
-    tried("misaligned-before-top-bit", 32, flipped, -211)
+    tried("misaligned-before-validity", 32, flipped, -211)
     tried("misaligned-before-byte", 32, dirty, -211)
-    tried("top-bit-before-byte", 16, both, -212)
+    tried("validity-before-byte", 16, both, -212)
     tried("all-three-reasons", 32, both, -211)
     # before them the space, behind them the coincidence
     large = [(INLINE, 0, 0, 69)], b"p" * 69
     tried("no-space-before-misaligned", 32, image, -28, 0, *large)
-    tried("no-space-before-top-bit", 16, flipped, -28, 0, *large)
+    tried("no-space-before-validity", 16, flipped, -28, 0, *large)
     tried("no-space-before-byte", 16, dirty, -28, 0, *large)
     for name, prog, first, before, number, index in (("misaligned", 32, image, last, -211, 0),
-                                                     ("top-bit", 16, flipped, wrong, -212, 0),
+                                                     ("validity", 16, flipped, wrong, -212, 0),
                                                      ("byte", 16, dirty, last, -213, 127)):
         fatal = coincidence(128, prog, end, b"", before, [], erased=erased)
         tried(f"{name}-before-coincidence", prog, first, number, index, DEADLINE, fatal)
@@ -293,7 +293,7 @@ def compactions(erased):
     # none of the reasons for which there is no room is any matter here
     new, *written = compacted(128, 32, 2, SLOT, None, empty, erased)
     flipped, other = block(128, 16, SLOT, check=check_type(erased ^ 0xFF), erased=erased)[0], bytes([erased ^ 0xFF])
-    for name, first in (("byte", laid(SLOT)[:127] + other), ("top-bit", flipped),
+    for name, first in (("byte", laid(SLOT)[:127] + other), ("validity", flipped),
                         ("all-three-reasons", flipped[:127] + other)):
         accepted(f"compact-misaligned-{name}", "compact", 32, (first, empty), [], b"", (first, new), written, 1, 2,
                  erased=erased)

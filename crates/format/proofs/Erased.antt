@@ -10,7 +10,7 @@ use borrow.Author.Tests.{eqb-true, ltb-true, ltb-false, lt-ltb, le-ltb}
 use Rattle.format.specs.Word.{be32, xor, allOnes}
 use Rattle.format.specs.Tag.{tagValid, tagFlipped, tagOf}
 use Rattle.format.specs.Kind.{noSlot}
-use Rattle.format.specs.Erased.{erasedFits, erased, validityFits, checkType}
+use Rattle.format.specs.Erased.{erasedFits, erased, validityFits, BitFits, BitWrong, checkType}
 use Rattle.format.specs.Commit.{checkTag}
 use Rattle.format.proofs.Tags.{xor-zero, apart-invalid, apart-invalid′}
 
@@ -30,13 +30,7 @@ pub erases-byte : (e : ℕ) → Erases e → e < 2 ^ 8
 erases-byte e (inl h) = omega arith
 erases-byte e (inr h) = omega arith
 
--- ---- "bit 31 of the end tag clear for 0xff, set for 0x00"
-abbrev pub BitFits : ℕ → ℕ → Type 0
-BitFits e etag = ((e ≡ 0xff) × (etag < 2 ^ 31)) ⊎ ((e ≡ 0x00) × (2 ^ 31 ≤ etag))
-
-abbrev pub BitWrong : ℕ → ℕ → Type 0
-BitWrong e etag = ((e ≡ 0xff) × (2 ^ 31 ≤ etag)) ⊎ ((e ≡ 0x00) × (etag < 2 ^ 31))
-
+-- ---- "bit 31 of the end tag clear for 0xff, set for 0x00", as a test and in numbers
 not-valid : (b : Bool) → not b ≡ true → b ≡ false
 not-valid true h = absurd (let z : _≡_ {A = ℕ} 0 1 = cc in omega arith)
 not-valid false h = refl

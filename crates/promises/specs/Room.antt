@@ -11,13 +11,13 @@ use lib.ListN.{length, getD, drop, length-drop}
 use lib.Seq.{getD-drop}
 use lib.Dec.{ltb, eqb}
 use borrow.Author.Tests.{ltb-true, ltb-false, eqb-true, eqb-false, eq-eqb}
-use Rattle.format.specs.Erased.{erasedFits, allErased, validityFits}
+use Rattle.format.specs.Erased.{erasedFits, allErased, validityFits, BitFits, BitWrong}
 use Rattle.format.specs.Room.{roomClean, erasedRun, firstUnerased, roomOf}
 use Rattle.format.specs.declared.Refusal.{Refusal}
 use Rattle.format.specs.declared.Refusal.the-variants.{Misaligned, WrongValidity, NotErased}
 use Rattle.format.specs.declared.Room.the-variants.{Clean, Refused}
 use Rattle.format.proofs.Refusals.{misaligned-first, validity-next, byte-last}
-use Rattle.format.proofs.Erased.{erases, BitFits, BitWrong, bit-fits, bit-wrong, fits-bit, wrong-bit}
+use Rattle.format.proofs.Erased.{erases, bit-fits, bit-wrong, fits-bit, wrong-bit}
 use Rattle.format.proofs.Rooms.{tested, room-tested, clean-holds, holds-clean, run-before, run-all, run-ends}
 use Rattle.theory.specs.Walk.Step.{both-true}
 
@@ -27,7 +27,7 @@ module _ (e : ℕ) (byte : erasedFits e ≡ true) (prog : ℕ) (b : List ℕ) (e
   pub record NoReason : Type 0 where
     -- not -211: the old end is a multiple of the program size
     pub aligned : end % prog ≡ 0
-    -- not -212: the end tag's validity bit fits, clear for 0xff, set for 0x00 (format/proofs/Erased)
+    -- not -212: the end tag's validity bit fits, clear for 0xff, set for 0x00
     pub validity : BitFits e etag
     -- not -213: every byte from the old end to the block's end is erased
     pub erased : (i : ℕ) → end ≤ i → i < length b → getD b i 0 ≡ e

@@ -13,7 +13,7 @@ use lib.ListN.{length, getD, take}
 use lib.Seq.{paste, take-paste, getD-take, getD-append-add, length-take-le}
 use Rattle.format.specs.Word.{toBe32, xor, allOnes}
 use Rattle.format.specs.Log.{log, logEnd, logEndTag}
-use Rattle.format.specs.Erased.{erasedFits}
+use Rattle.format.specs.Erased.{erasedFits, BitFits}
 use Rattle.format.specs.Commit.{Item, checkTag, commitBytes}
 use Rattle.format.specs.Stores.{appending}
 use Rattle.format.specs.Room.{roomOf}
@@ -23,7 +23,6 @@ use Rattle.format.specs.declared.Entry.{Entry}
 use Rattle.format.specs.declared.Refusal.the-variants.{NotErased}
 use Rattle.format.specs.declared.Room.the-variants.{Refused}
 use Rattle.format.proofs.Tags.{apart-invalid}
-use Rattle.format.proofs.Erased.{BitFits}
 use Rattle.theory.specs.Rules.MadeItem.{AllMade}
 use Rattle.theory.specs.Commit.AcceptedVerdict.{fits-byte}
 use Rattle.theory.specs.Stopped.Commit as stopped

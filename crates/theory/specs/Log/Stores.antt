@@ -14,7 +14,7 @@ use Rattle.format.specs.Word.{toLe32, allOnes}
 use Rattle.format.specs.Tag.{tagLength, tagFlipped}
 use Rattle.format.specs.Crc.{crc}
 use Rattle.format.specs.Walk.{Event, walkFrom, walk, chk}
-use Rattle.format.specs.Log.{committed, log, logEnd, logEndTag}
+use Rattle.format.specs.Log.{committed, log, logEnd, tagAfter, logEndTag}
 use Rattle.format.specs.Commit.{Item, commitBytes, commitSum, written}
 use Rattle.format.specs.Erased.{erased, validityFits}
 use Rattle.format.specs.Stores.{fill, compactBytes, compacted}
@@ -27,6 +27,7 @@ use Rattle.theory.specs.Walk.Erased.{NoCheck, Quiet, quiet-walk, quiet-e
 use Rattle.theory.specs.Walk.Erased.{length-erased, length-fill, fill-front, erased-append, fill-back}
 use Rattle.theory.specs.Walk.Cut.{NoCoincidence, cut, Cut}
 use Rattle.theory.specs.Log.Committed.{committed-none}
+use Rattle.theory.specs.Log.Folds.{tag-app}
 use Rattle.theory.specs.Log.Continued.{logRead, log-whole, walk-continues, log-continues, contained-end}
 
 committed-written : (is : List Item) (t c : ℕ) (more : List Event) → NoCheck more
@@ -49,6 +50,19 @@ pub record CommitFits (e sum p : ℕ) (is : List Item) (ct m : ℕ) : Type 0 whe
 -- the commit as it reads back
 unfoldable pub commitEvents : ℕ → ℕ → List Item → ℕ → List Event
 commitEvents sum p is ct = written is (chk ct (commitSum sum p is ct) ∷ [])
+
+end-written : (is : List Item) (q t c : ℕ) → tagAfter q (written is (chk t c ∷ [])) ≡ tagFlipped t
+unfolding tagAfter written
+end-written [] q t c = refl
+end-written (i ∷ is) q t c = end-written is (i .tag) t c
+
+-- the end tag behind it
+pub events-end : (es : List Event) (sum p : ℕ) (is : List Item) (ct : ℕ)
+    → logEndTag (es ++ commitEvents sum p is ct) ≡ tagFlipped ct
+unfolding commitEvents
+events-end es sum p is ct =
+    tag-app es (written is (chk ct (commitSum sum p is ct) ∷ [])) allOnes
+    ∙ end-written is (tagAfter allOnes es) ct (commitSum sum p is ct)
 
 pub committed-done : (e sum p : ℕ) (is : List Item) (ct m : ℕ) → CommitFits e sum p is ct m
     → committed (walkFrom sum p (commitBytes sum p is ct ++ erased e m)) ≡ commitEvents sum p is ct

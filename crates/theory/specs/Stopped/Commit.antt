@@ -15,6 +15,7 @@ use Rattle.format.specs.View.{at}
 use Rattle.format.specs.Record.{noForward, forwardOf, seedOf}
 use Rattle.format.specs.Fetch.{erasedOf, mdirOf, fetchOf}
 use Rattle.format.specs.Regular.{Regular, rulesOf}
+use Rattle.format.specs.Erased.{validityFits}
 use Rattle.format.specs.Commit.{Item, checkTag, commitBytes, written}
 use Rattle.format.specs.Stores.{entriesLength, appending}
 use Rattle.format.specs.Entries.{itemsOf}
@@ -27,7 +28,7 @@ use Rattle.format.specs.declared.Refusal.the-variants.{Invalid}
 use Rattle.format.specs.declared.Fetched.the-variants as fetched
 use Rattle.format.proofs.Growing.{widest}
 use Rattle.theory.specs.Log.TwoBlocks.{viewAt, view-log}
-use Rattle.theory.specs.Log.Stores.{commitEvents}
+use Rattle.theory.specs.Log.Stores.{commitEvents, events-end}
 use Rattle.theory.specs.Blocks.Append.{length-commit, AppendOk, AfterAppend}
 use Rattle.theory.specs.Commit.Acceptance.{Accepts, accepted-stopped, finished-regular}
 use Rattle.theory.specs.Commit.Acceptance as writing
@@ -178,6 +179,10 @@ module _ (g : Geometry) (b0 b1 : List ℕ) (n0 n1 count seed rules e : ℕ) (ent
       (commit-found .2) (appends .rev) finishedLog
       (few-slots (blockAt w (f .b0) (f .b1)) finishedLog finished-log
       (widest (rulesOf rules) finishedLog regular-finished)) w finished-view
+
+  -- its end tag has the validity bit that fits the erased byte
+  pub commit-fits : validityFits e (logEndTag finishedLog) ≡ true
+  commit-fits = rw (events-end (log x) allOnes (logEndTag (log x)) is (checkTag e size)) (ok .flips)
 
   pub commit-finished : Shows g n0 n1 (rulesOf rules) (f .b0) (f .b1)
       (ran (machineOf (log x)) (written (itemsOf dat entries) []))

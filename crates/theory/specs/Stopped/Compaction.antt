@@ -10,14 +10,14 @@ use lib.ListN.{length, take, length-append}
 use Rattle.format.specs.Word.{le32, allOnes, toLe32}
 use Rattle.format.specs.Crc.{crc}
 use Rattle.format.specs.Walk.{Event}
-use Rattle.format.specs.Log.{log, logEnd}
+use Rattle.format.specs.Log.{log, logEnd, logEndTag}
 use Rattle.format.specs.View.{at}
 use Rattle.format.specs.Record.{noForward, forwardOf, seedOf}
 use Rattle.format.specs.Fetch.{erasedOf, mdirOf, fetchOf}
 use Rattle.format.specs.Regular.{Regular, rulesOf}
 use Rattle.format.specs.Directory.{dirOf}
 use Rattle.format.specs.Commit.{Item, checkTag}
-use Rattle.format.specs.Erased.{erased}
+use Rattle.format.specs.Erased.{erased, validityFits}
 use Rattle.format.specs.Stores.{fill, compactBytes, compacted, compacting}
 use Rattle.format.specs.Writer.{checkLength, unitCheck, forwardItem, carries, writesFit, blockAt, isSecond, Images}
 use Rattle.format.specs.Writer.{unlimited}
@@ -31,7 +31,7 @@ use Rattle.format.specs.declared.Fetched.the-variants as fetched
 use Rattle.format.proofs.Growing.{widest}
 use Rattle.theory.specs.Walk.Erased.{length-fill, length-erased}
 use Rattle.theory.specs.Log.TwoBlocks.{viewAt, view-log}
-use Rattle.theory.specs.Log.Stores.{CommitFits, commitEvents}
+use Rattle.theory.specs.Log.Stores.{CommitFits, commitEvents, events-end}
 use Rattle.theory.specs.Blocks.Append.{fill-all}
 use Rattle.theory.specs.Blocks.Compact.{AfterCompact}
 use Rattle.theory.specs.Compact.Acceptance.{compact-fits, compacted-regular}
@@ -191,6 +191,11 @@ module _ (g : Geometry) (b0 b1 : List ℕ) (n0 n1 count seed rules e : ℕ) (w :
       (compact-found .2) rev finishedLog
       (few-slots (blockAt (not w) (f .b0) (f .b1)) finishedLog finished-log
       (widest Document finishedLog regular-finished)) (not w) finished-view
+
+  -- its end tag has the validity bit that fits the erased byte
+  pub compact-end-fits : validityFits e (logEndTag finishedLog) ≡ true
+  compact-end-fits = rw (events-end [] (crc allOnes (toLe32 rev)) allOnes is (checkTag e size))
+      (compact-fits e x (le32 x) (log x) (laidBehind e (g .«prog_size») x) size rest (compacts .compacts) .flips)
 
   pub compact-finished : Shows g n0 n1 Document (f .b0) (f .b1) (machineOf (log x))
   compact-finished =
