@@ -19,6 +19,11 @@ TAKE = {"attrs-512": 9, "churn-256": 5, "ctz-512": 9, "cut-512-setattr-torn-0": 
         "move-256-pending": 9, "split-512": 6}
 
 
+def few(pairs, most):
+    """So many of the pairs, evenly."""
+    return pairs[::max(1, -(-len(pairs) // most))]
+
+
 def words(*numbers):
     return " ".join(str(n) for n in numbers)
 
@@ -75,9 +80,7 @@ def main(volumes):
     for name, most in TAKE.items():
         volume = json.load(open(os.path.join(volumes, name + ".json")))
         image = gzip.open(os.path.join(volumes, name + ".img.gz")).read()
-        pairs = volume["seen"]["pairs"]
-        step = max(1, -(-len(pairs) // most))
-        for pair in pairs[::step]:
+        for pair in few(volume["seen"]["pairs"], most):
             assert pair["result"] == "OK"
             write_pair(out, name, volume, image, pair)
     with open(os.path.join(HERE, "shown.txt"), "w") as f:

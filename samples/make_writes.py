@@ -383,10 +383,12 @@ taken("compact-creates-just-fit", "compact", names_alone(*[b"a"] * 11, b"a" * 9)
 crowd = names_alone(*[b"a"] * 11, b"a" * 10)
 for name, limit in (("", None), ("-limited", 3)):
     refused(f"compact-no-room-for-creates{name}", "compact", 128, 16, crowd, [], b"", -28, rules=LITTLEFS, limit=limit)
-# pairs that a real littlefs wrote: many attributes; a move pending; a delete behind names alone; regular by both; and
-# the same as make_zero.py lays them on 0x00 flash
-for folder, name, erased in ((REAL, "real", 0xFF), (ZERO, "zero", 0x00)):
-    for file in ("attrs-512-0-1", "move-256-pending-69-70", "churn-256-110-111", "attrs-512-2-3"):
+# pairs that a real littlefs wrote, on flash of either byte: many attributes; a move pending; a delete behind names
+# alone; regular by both
+ON_ONES = ("attrs-512-0-1", "move-256-pending-69-70", "churn-256-110-111", "attrs-512-2-3")
+ON_ZEROS = ("attrs-512-0-1", "move-256-pending-30-31", "churn-256-34-35", "attrs-512-30-31")
+for folder, name, erased, files in ((REAL, "real", 0xFF, ON_ONES), (ZERO, "zero", 0x00, ON_ZEROS)):
+    for file in files:
         images, numbers = pair_of(file, folder)
         by_both_rules(f"{name}-{file}", images, [(ATTR, 1, 0, 4)], SECONDS, numbers=numbers, erased=erased)
     # one that was torn by a power cut: no room to append, so it is compacted
@@ -533,7 +535,8 @@ for folder, name, given in ((REAL, "real", 0x00), (ZERO, "zero", 0xFF)):
     taken(f"commit-{name}-moved-compacted", "commit", renewed, [(ATTR, 1, 0, 4)], SECONDS, **more)
 
 # ---- commits that a real littlefs appended: the same entries in the same place are its own bytes
-for commit in few(cases(REAL)):
-    add_case(commit)
+for folder, erased in ((REAL, 0xFF), (ZERO, 0x00)):
+    for commit in few(cases(folder, erased)):
+        add_case(commit)
 
 write(os.path.join(os.path.dirname(os.path.abspath(__file__)), "writes"))

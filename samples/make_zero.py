@@ -1,98 +1,56 @@
 #!/usr/bin/env python3
-"""Lays the pairs of samples/real anew, as a littlefs on flash that erases to 0x00 would have laid them, and writes
-samples/zero/. No littlefs wrote these: zero/README.md says how they are made, and what that is worth.
+"""Takes metadata pairs out of volumes that a real littlefs in C wrote on flash that erases to 0x00, with what that
+littlefs shows of them, and writes samples/zero/.
 
-    samples/make_zero.py
+    samples/make_zero.py VOLUMES      VOLUMES: what `volumes write 00 VOLUMES` wrote (samples/volumes.c)
 
-Run by hand when the set changes; the result is kept in the repository.
+Run by hand when the set changes; the result is kept in the repository. zero/README.md says what the files have.
 """
 import os
+import sys
 
-from reader import FORWARD, Log
-from real_commits import REAL, of_pairs
-from writer import check_type, commit_bytes, end_of, filled, forward_check
+from make_real import TAKE, few
 
 ZERO = os.path.join(os.path.dirname(os.path.abspath(__file__)), "zero")
+TAKE = {**TAKE, "churn-256": 99}  # of that volume all
 
 
-def entry_on(tag, data, erased):
-    """An entry as it is; of a forward check of 0xff bytes the sum is that of as many erased ones."""
-    size = int.from_bytes(data[:4], "little")
-    forward = tag.type == FORWARD and (tag.word, data) == forward_check(size)
-    return forward_check(size, erased=erased) if forward else (tag.word, data)
+def pairs_of(text):
+    """The lines of each pair, with the `pair` line first."""
+    found = []
+    for line in text.splitlines():
+        if line.startswith("pair "):
+            found.append([])
+        found[-1].append(line)
+    return found
 
 
-def commit_on(block, log, number, previous, prog, erased):
-    """A commit of the log, in the same place and of the same length, behind this end tag; and its own end tag.
-
-    littlefs looks at the byte behind a commit, where a program unit follows in the block, and takes a check tag whose
-    low chunk bit is the inverse of that byte's top bit. Where none follows it takes 0x500."""
-    (at, entries), check = log.commits[number], log.checks[number]
-    start, ends = at - sum(tag.length for tag, _ in entries), at + check.length
-    follows = ends + prog <= len(block)
-    assert check.type == 0x500 and follows == any(tag.type == FORWARD for tag, _ in entries)
-    laid = [entry_on(tag, data, erased) for tag, data in entries]
-    revision = block[:4] if number == 0 else b""
-    stored, last = commit_bytes(prog, start, revision, previous, laid, check_type(erased) if follows else 0x500,
-                                check.size)
-    # the program unit in which the checksum ends is programmed whole, out of a cache that littlefs fills with 0xff
-    return filled(filled(stored, end_of(prog, at + 8) - start, 0xFF), ends - start, erased), last
+def is_full(lines):
+    """Whether the log ends with its block: there littlefs takes the check tag 0x500, on this flash too."""
+    return lines[0].split()[2] == lines[1].split()[4]
 
 
-def block_on(block, prog, erased):
-    """The block laid anew on flash of this byte, and its end tag, None where it has no commit."""
-    log, last = Log(block), 0xFFFFFFFF
-    if log.ends is None:
-        assert not block.strip(b"\xff")
-        return filled(b"", len(block), erased), None
-    laid = block[:4]
-    for number in range(len(log.commits)):
-        stored, last = commit_on(block, log, number, last, prog, erased)
-        laid += stored
-    assert len(laid) == log.ends
-    # what was stored of a commit that was cut short: the bytes up to the last that isn't 0xff, the first tag's chained
-    # to the end tag as it is now
-    torn = block[log.ends:].rstrip(b"\xff")
-    chained = (log.last ^ last).to_bytes(4, "big").ljust(len(torn), b"\0")
-    laid += bytes(byte ^ other for byte, other in zip(torn, chained))
-    return filled(laid, len(block), erased), last
-
-
-def held(block):
-    """What a block with commits holds: revision, end, count, tail, and the entries but for the sums of forward
-    checks."""
-    log = Log(block)
-    entries = [(tag.word, data[:4] if tag.type == FORWARD else data) for tag, data in log.entries]
-    return log.ends and (log.revision, log.ends, log.count, log.split, log.tail, entries)
-
-
-def main():
+def main(volumes):
     os.makedirs(ZERO, exist_ok=True)
-    with open(os.path.join(REAL, "shown.txt")) as f:
-        shown = f.read().splitlines()
-    kinds = {0x500: 0, 0x501: 0}
-    for name, images, numbers, prog in of_pairs(REAL):
-        # on flash of 0xff it is what littlefs itself wrote, byte for byte
-        assert [block_on(image, prog, 0xFF)[0] for image in images] == list(images)
-        laid, tags = zip(*(block_on(image, prog, 0x00) for image in images))
-        assert [held(image) for image in laid] == [held(image) for image in images]
-        for image in laid:
-            for check in Log(image).checks:
-                kinds[check.type] += 1
-        with open(os.path.join(ZERO, name + ".pair"), "wb") as f:
-            f.write(b"".join(laid))
-        at = next(i for i, line in enumerate(shown) if line.startswith(f"pair {name}.pair ")) + 1
-        words = shown[at].split()
-        place = numbers.index(int(words[1]))
-        words[5] = str(tags[place])
-        # the erased mark is the original's: the forward check of each is of the bytes that now follow
-        assert Log(laid[place]).erased(prog) == Log(images[place]).erased(prog) == bool(int(words[7]))
-        shown[at] = " ".join(words)
+    out = []
+    for name, most in TAKE.items():
+        with open(os.path.join(volumes, name + ".txt")) as f, open(os.path.join(volumes, name + ".img"), "rb") as g:
+            pairs, image = pairs_of(f.read()), g.read()
+        taken = few(pairs, most)
+        for lines in (lines for lines in pairs if lines in taken or is_full(lines)):
+            _, file, size, _, n0, n1, *_ = lines[0].split()
+            blocks = (image[int(n) * int(size):(int(n) + 1) * int(size)] for n in (n0, n1))
+            with open(os.path.join(ZERO, file), "wb") as f:
+                f.write(b"".join(blocks))
+            out += lines
     with open(os.path.join(ZERO, "shown.txt"), "w") as f:
-        f.write("\n".join(shown) + "\n")
-    print(f"{sum(line.startswith('pair ') for line in shown)} pairs, check tags: {kinds[0x501]} of type 0x501 and "
-          f"{kinds[0x500]} of 0x500")
+        f.write("\n".join(out) + "\n")
+    counts = (f"{sum(line.startswith(kind + ' ') for line in out)} {what}"
+              for kind, what in (("pair", "pairs"), ("slot", "slots"), ("attr", "attributes")))
+    print(", ".join(counts))
 
 
 if __name__ == "__main__":
-    main()
+    if len(sys.argv) != 2:
+        sys.exit(__doc__)
+    main(sys.argv[1])

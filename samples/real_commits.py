@@ -1,12 +1,13 @@
 #!/usr/bin/env python3
 """The commits that a real littlefs appended to its logs, as write cases: the same entries in the same place must give
-littlefs's own bytes. What is expected is these bytes and what the reader reads in them; the writer works out none.
+littlefs's own bytes. What is expected is these bytes and what the reader reads in them; the writer works out none. Only
+the padding behind a checksum, which littlefs fills with 0xff up to the end of the program unit, stays erased.
 
-    samples/real_commits.py DIRECTORY OUT
+    samples/real_commits.py DIRECTORY ERASED OUT
 
-DIRECTORY is samples/real, or one of whole volumes, NAME.img.gz with NAME.json. Writes a case for each commit that the
-library takes too into OUT/cases and OUT/expected, and says how many there are, and why the others are none. Run by
-hand; of the commits in samples/real make_writes.py has some.
+DIRECTORY is samples/real with ERASED ff, samples/zero with 00, or one of whole volumes, NAME.img.gz with NAME.json.
+Writes a case for each commit that the library takes too into OUT/cases and OUT/expected, and says how many there are,
+and why the others are none. Run by hand; of the commits in samples/real and samples/zero make_writes.py has some.
 """
 import collections
 import glob
@@ -17,25 +18,25 @@ import sys
 
 from reader import DOCUMENT_01, FORWARD, LITTLEFS, SUPER, Log, directory, fetched
 from write_cases import case, record, write
-from writer import end_of
+from writer import end_of, filled
 
 REAL = os.path.join(os.path.dirname(os.path.abspath(__file__)), "real")
 FORWARD_LENGTH, CHECK_LENGTH = 12, 8  # with their tags, the check without its padding
-# a block of a pair: which of the two it is, and the numbers of both
-Block = collections.namedtuple("Block", "name image prog place numbers")
+# a block of a pair: which of the two it is, the numbers of both, and what its flash erases to
+Block = collections.namedtuple("Block", "name image prog place numbers erased")
 
 
 class Commit:
     """A commit of a block's log, numbered from 0, and the block before it and after it: littlefs's own bytes as far as
-    the log went then, and 0xff in place of what came later."""
+    the log went then, and erased bytes in place of what came later, and of this commit's padding."""
 
     def __init__(self, block, log, number):
         self.name, self.block = f"{block.name}-commit-{number}", block
         ends = [at + check.length for (at, _), check in zip(log.commits, log.checks)]
         self.starts, self.ends = ends[number - 1], ends[number]
-        self.before, self.after = (block.image[:end].ljust(len(block.image), b"\xff")
-                                   for end in (self.starts, self.ends))
-        entries = log.commits[number][1]
+        at, entries = log.commits[number]
+        self.before, self.after = (filled(block.image[:end], len(block.image), block.erased)
+                                   for end in (self.starts, at + CHECK_LENGTH))
         self.given = [(tag, data) for tag, data in entries if tag.type != FORWARD]
         self.forward = len(self.given) < len(entries)
 
@@ -68,18 +69,18 @@ def of_volumes(folder):
             yield f"{name}-{numbers[0]}-{numbers[1]}", images, numbers, prog
 
 
-def blocks(folder):
-    """Both blocks of every pair of samples/real, or of a directory of whole volumes."""
+def blocks(folder, erased):
+    """Both blocks of every pair of samples/real or samples/zero, or of a directory of whole volumes."""
     pairs = of_pairs if os.path.exists(os.path.join(folder, "shown.txt")) else of_volumes
     for name, images, numbers, prog in pairs(folder):
         for place in (0, 1):
-            yield Block(f"{name}-block-{place}", images[place], prog, place, numbers)
+            yield Block(f"{name}-block-{place}", images[place], prog, place, numbers, erased)
 
 
-def appends(folder):
+def appends(folder, erased):
     """Every commit but the first of its log: with that one the block was written anew, and littlefs lays no creates
     then."""
-    for block in blocks(folder):
+    for block in blocks(folder, erased):
         log = Log(block.image)
         for number in range(1, len(log.commits)):
             yield Commit(block, log, number)
@@ -106,9 +107,9 @@ def left_out(commit):
     return None
 
 
-def cases(folder):
+def cases(folder, erased):
     """The commits that are cases."""
-    return (commit for commit in appends(folder) if left_out(commit) is None)
+    return (commit for commit in appends(folder, erased) if left_out(commit) is None)
 
 
 def few(commits):
@@ -128,24 +129,24 @@ def add_case(commit):
     for tag, body in commit.given:
         entries.append((tag.type, tag.id, len(data), tag.size))
         data += body
-    erased = b"\xff" * len(block.image)
-    images, after = ((image, erased) if block.place == 0 else (erased, image)
+    other = filled(b"", len(block.image), block.erased)
+    images, after = ((image, other) if block.place == 0 else (other, image)
                      for image in (commit.before, commit.after))
     number, log = fetched(b"".join(after), block.prog)
     assert (number, log.ends) == (block.place, commit.ends), commit.name
-    case(f"littlefs-{commit.name}", "commit", len(erased), block.prog, images, entries, data, record(log, block.prog),
-         after, numbers=block.numbers, rules=LITTLEFS)
+    case(f"littlefs-{commit.name}", "commit", len(other), block.prog, images, entries, data, record(log, block.prog),
+         after, numbers=block.numbers, rules=LITTLEFS, erased=block.erased)
 
 
-def main(folder, out):
-    for commit in cases(folder):
+def main(folder, erased, out):
+    for commit in cases(folder, erased):
         add_case(commit)
     write(out)
-    reasons = collections.Counter(left_out(commit) or "taken" for commit in appends(folder))
+    reasons = collections.Counter(left_out(commit) or "taken" for commit in appends(folder, erased))
     print(f"{sum(reasons.values())} commits: " + "; ".join(f"{n} {reason}" for reason, n in reasons.most_common()))
 
 
 if __name__ == "__main__":
-    if len(sys.argv) != 3:
+    if len(sys.argv) != 4 or sys.argv[2] not in ("ff", "00"):
         sys.exit(__doc__)
-    main(*sys.argv[1:])
+    main(sys.argv[1], int(sys.argv[2], 16), sys.argv[3])

@@ -1,4 +1,4 @@
-/* Fetches every pair of samples/real/ and looks up each name, struct, size and attribute, all 256 attribute types of
+/* Fetches every pair of samples/real/ or samples/zero/ and looks up each name, struct, size and attribute, all 256 attribute types of
  * each slot: they must be what the littlefs that wrote the pairs shows (shown.txt; README.md there has its lines), and
  * stand in the block where the answer says. Each name is found by lanolin_find too. Then commits to a copy of each, and
  * compacts one, under both rules: by littlefs's no pair is irregular, and after each accepted call all that littlefs
@@ -8,7 +8,7 @@
  *
  *     real_test DIRECTORY ERASED      prints each difference and exits 1, or five lines with what was compared
  *
- * DIRECTORY is samples/real, or samples/zero, which has the same pairs laid on 0x00 flash; ERASED is ff or 00. */
+ * DIRECTORY is samples/real with ERASED ff, or samples/zero, of flash that erases to 0x00, with 00. */
 #include "lanolin.h"
 
 #include <stdio.h>

@@ -1,7 +1,6 @@
 #!/usr/bin/env python3
-"""Lists every pair of samples/real by littlefs's rule: record, slots and user attributes must be what the littlefs that
-wrote the pairs shows (shown.txt; README.md there has its lines). So it lists those of samples/zero, which are the same
-pairs on 0x00 flash.
+"""Lists every pair of samples/real or samples/zero by littlefs's rule: record, slots and user attributes must be what
+the littlefs that wrote the pairs shows (shown.txt; real/README.md has its lines).
 
     tests/listing/real.py samples/real target/bin/list      prints each difference and exits 1, or one line with what
                                                             was compared

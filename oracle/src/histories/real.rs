@@ -1,5 +1,5 @@
 //! The pairs of `samples/real`, which a real littlefs wrote, and those of
-//! `samples/zero`: the same, laid anew as on flash that erases to 0x00.
+//! `samples/zero`, which one wrote on flash that erases to 0x00.
 //!
 //! Assumes that the program runs where it was built: the pairs are read when it
 //! runs.
@@ -20,7 +20,7 @@ pub struct Real {
 pub fn cases() -> Vec<Real> {
     let samples = Path::new(env!("CARGO_MANIFEST_DIR")).join("../samples");
     let mut pairs = pairs_of(&samples.join("real"), "real", 0xff);
-    pairs.extend(pairs_of(&samples.join("zero"), "real laid for 0x00", 0x00));
+    pairs.extend(pairs_of(&samples.join("zero"), "real on 0x00", 0x00));
     pairs.sort_by_key(|pair| pair.0);
     pairs.into_iter().map(|pair| pair.1).collect()
 }

@@ -14,8 +14,8 @@ const CROWDED: &[u8; 256] = include_bytes!("../../../crates/check_edges/data/cou
 const IRREGULAR: &[u8; 256] = include_bytes!("../../../crates/check_edges/data/count-1023");
 /// A yard's instructions (`samples/make_pairs.py`).
 const INSTRUCTIONS: &[u8; 1024] = include_bytes!("../../../samples/instructions.pair");
-/// A pair that a real littlefs compacted: names without creates. And the same as
-/// `samples/make_zero.py` lays it on 0x00 flash.
+/// A pair that a real littlefs compacted: names without creates. And one that a
+/// real littlefs compacted on flash that erases to 0x00.
 const REAL: &[u8; 1024] = include_bytes!("../../../samples/real/attrs-512-0-1.pair");
 const REAL_ON_ZEROS: &[u8; 1024] = include_bytes!("../../../samples/zero/attrs-512-0-1.pair");
 const GEOMETRY: Geometry = Geometry {
@@ -995,8 +995,8 @@ fn littlefs_s_own_pair_needs_its_rules() {
     pair.compact(0, 0, BY_DOCUMENT, ONES).unwrap();
 }
 
-/// What `samples/make_zero.py` laid on 0x00 flash is read as littlefs showed it on
-/// 0xff, and written to.
+/// What a real littlefs wrote on 0x00 flash is read as it showed it, and written
+/// to.
 #[test]
 fn littlefs_s_own_pair_on_zeros() {
     let mut bytes = *REAL_ON_ZEROS;
@@ -1005,11 +1005,11 @@ fn littlefs_s_own_pair_on_zeros() {
         pair: [1, 0],
         rev: 4,
         off: 256,
-        etag: 3491757060, // its line in samples/zero/shown.txt
+        etag: 3491757061, // its line in samples/zero/shown.txt
         count: 5,
         erased: true,
         split: false,
-        tail: [2, 3],
+        tail: [30, 31],
         forward: ZERO_UNIT,
     };
     assert_eq!(pair.as_pair().fetch(0, 0).unwrap().record, shown);
@@ -1027,7 +1027,7 @@ fn littlefs_s_own_pair_on_zeros() {
         let info = reader.get_info(record, NO_MOVE, NAME_MAX, 3).unwrap();
         assert_eq!((info.size, info.name()), (3, &b"q212"[..]));
         let done = pair.compact(0, 0, BY_LITTLEFS, ZEROS).unwrap();
-        assert_eq!((done.record.count, done.record.tail), (5, [2, 3]));
+        assert_eq!((done.record.count, done.record.tail), (5, [30, 31]));
     }
 }
 
