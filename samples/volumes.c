@@ -238,20 +238,19 @@ static void cut(void) {
     programs_left = -1;
 }
 
-/* a rename between directories, cut behind its first commit */
+/* a rename between directories, cut at the first program operation that leaves the move pending */
 static void move(void) {
+    static uint8_t before[MOST];
     yard();
-    for (programs_left = 0, kept = 255;;) {
-        static uint8_t before[MOST];
-        static int tried;
-        memcpy(before, flash, sizeof flash);
-        if (!setjmp(power_cut)) must(lfs_rename(&lfs, "a/f2", "b/g"), "rename"), fail("no move is pending", tried);
+    memcpy(before, flash, sizeof flash);
+    for (int at = 0;; at++) {
+        memcpy(flash, before, sizeof flash);
+        must(lfs_mount(&lfs, &config), "mount");
+        programs_left = at, kept = 255;
+        if (!setjmp(power_cut)) must(lfs_rename(&lfs, "a/f2", "b/g"), "rename"), fail("no move is pending", at);
         programs_left = -1;
         must(lfs_mount(&lfs, &config), "mount");
         if (lfs_gstate_hasmove(&lfs.gdisk)) return;
-        memcpy(flash, before, sizeof flash);
-        must(lfs_mount(&lfs, &config), "mount");
-        programs_left = ++tried;
     }
 }
 
