@@ -45,22 +45,22 @@ cp samples/instructions.pair "$pair"
 $set "$pair" 8 3600 | diff - <(echo "committed: revision 7, end 464")
 $get "$pair" 8 | diff - <(echo 3600)
 
-# littlefs's own pairs, which have names without creates, and the same as they are on 0x00 flash. real PAIR SLOT SAID
+# littlefs's own pairs, which have names without creates, of 0xff flash and of 0x00. real PAIR SLOT 'PROG ERASED' SAID
 real() {
-  local on
-  for on in 'real 16 ff' 'zero 16 00'; do
-    cp "samples/${on%% *}/$1.pair" "$pair"
-    $set "$pair" "$2" 3600 ${on#* } | diff - <(printf "$3\n")
-    $get "$pair" "$2" | diff - <(echo 3600)
-  done
+  cp "samples/$1.pair" "$pair"
+  $set "$pair" "$2" 3600 $3 | diff - <(printf "$4\n")
+  $get "$pair" "$2" | diff - <(echo 3600)
 }
 # in the place of one of eight bytes: 28 bytes behind the end, 256
-real attrs-512-0-1 3 "committed: revision 4, end 288"
+real real/attrs-512-0-1 3 '16 ff' "committed: revision 4, end 288"
+real zero/attrs-512-0-1 3 '16 00' "committed: revision 4, end 288"
 # torn by a power cut while a deadline was set: four slots compacted end at 160
-torn="no room, -213: byte 448 isn't erased, as after a commit that was cut short"
-real cut-512-setattr-torn-0-0-1 3 "$torn\ncompacted\ncommitted: revision 3, end 192"
-# full: five slots compacted, with a create each, end at 176
-real cut-512-setattr-torn-0-2-3 1 "no room, -28: the block is full\n$again 208"
+torn() { printf "no room, -213: byte $1 isn't erased, as after a commit that was cut short\ncompacted"; }
+real real/cut-512-setattr-torn-0-0-1 3 '16 ff' "$(torn 448)\ncommitted: revision 3, end 192"
+real zero/cut-512-setattr-torn-0-0-1 3 '16 00' "$(torn 304)\ncommitted: revision 3, end 192"
+# full: five slots compacted, with a create each, end at 176; and two with a tail and a move state at 160
+real real/cut-512-setattr-torn-0-2-3 1 '16 ff' "no room, -28: the block is full\n$again 208"
+real zero/churn-256-14-15 0 '16 00' "no room, -28: the block is full\ncompacted\ncommitted: revision 6, end 192"
 # a name of slot 1,022 alone: four commits fill the block, and there is no room for 1,023 creates
 cp crates/check_edges/data/count-1023 "$pair"
 for seconds in 3 4 5 6; do $set "$pair" 0 $seconds >/dev/null; done
