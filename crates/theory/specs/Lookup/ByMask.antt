@@ -25,13 +25,23 @@ use Rattle.format.proofs.Searched.{found-bytes}
 use Rattle.theory.specs.Walk.Step.{both-true}
 use Rattle.theory.specs.Directory.Machine.{mostSlots, find, stillGrows, AllAllowed, Allowed, Inside, inside-there}
 use Rattle.theory.specs.Directory.Machine.{inside-put, length-ins, length-del}
-use Rattle.theory.specs.Back.BackActs.{seen}
+use Rattle.theory.specs.Back.BackActs.{bytesAt, seenAs, seen}
 use Rattle.theory.specs.Lookup.Masks.{Query, hitAct}
 
--- what an entry that was found holds
+-- what an entry that was found holds, by what is read of it
+unfoldable pub holdsAs : (Found → List ℕ) → Hit → Option Load
+holdsAs of hit.Nothing = none
+holdsAs of (hit.Found e) = some (record { type = tagType3 (e .tag); bytes = of e })
+
+-- its data
 unfoldable pub holds : List ℕ → Hit → Option Load
 holds b hit.Nothing = none
 holds b (hit.Found e) = some (record { type = tagType3 (e .tag); bytes = bytesOf b e })
+
+holds-as : (b : List ℕ) (h : Hit) → holds b h ≡ holdsAs (bytesOf b) h
+unfolding holds holdsAs
+holds-as b hit.Nothing = refl
+holds-as b (hit.Found e) = refl
 
 module _ (b : List ℕ) (h : Hit) where
   pub missing : h ≡ hit.Nothing → none ≡ holds b h
@@ -55,12 +65,9 @@ Shape t x (rm j) = (t ≡ tagOf typeDelete j 0) × (j < 2 ^ 10)
 Shape t x (put j k v) = (isSplice t ≡ false) × (v ≡ loadOf t x) × (j ≡ tagId t) × (t < 2 ^ 31)
 Shape t x skip = isSplice t ≡ false
 
-abbrev pub bytesAt : List ℕ → Met → List ℕ
-bytesAt b m = take (tagLength (m .tag) - 4) (drop 4 (drop (m .off) b))
-
-abbrev pub Shapes : List ℕ → List Met → Type 0
-Shapes b [] = Unit {0}
-Shapes b (m ∷ ms) = Shape (m .tag) (bytesAt b m) (seen b m) × Shapes b ms
+abbrev pub Shapes : (Met → List ℕ) → List Met → Type 0
+Shapes at [] = Unit {0}
+Shapes at (m ∷ ms) = Shape (m .tag) (at m) (seenAs at m) × Shapes at ms
 
 -- at most 1,023 slots at any time
 abbrev pub FewBack : List Act → Type 0
@@ -130,53 +137,70 @@ answers t diff T asked i s hd ha e is small =
 abbrev pub metAs : Met → ℕ → Found
 metAs m w = record { tag = w; length = tagLength (m .tag); off = m .off + 4 }
 
--- it has the met tag's own type and bytes, and answers the id
-pub met-held : (b : List ℕ) (m : Met) (id w : ℕ) → w ≡ tagOf (tagType3 (m .tag)) id (tagSize (m .tag)) → id < 2 ^ 10
-    → tagDelete (m .tag) ≡ false
-    → (holds b (hit.Found (metAs m w)) ≡ some (record { type = tagType3 (m .tag); bytes = bytesAt b m }))
+-- what is read where it is met is read where it is found
+abbrev pub Alike : (Met → List ℕ) → (Found → List ℕ) → Type 0
+Alike at of = (m : Met) (w : ℕ) → tagDelete (m .tag) ≡ false → of (metAs m w) ≡ at m
+
+pub bytes-alike : (b : List ℕ) → Alike (bytesAt b) (bytesOf b)
+bytes-alike b m w kept = found-bytes (m .tag) (m .off) 0 b
+
+-- it has the met tag's own type and what is read there, and answers the id
+pub met-held : (at : Met → List ℕ) (of : Found → List ℕ) → Alike at of → (m : Met) (id w : ℕ)
+    → w ≡ tagOf (tagType3 (m .tag)) id (tagSize (m .tag)) → id < 2 ^ 10 → tagDelete (m .tag) ≡ false
+    → (holdsAs of (hit.Found (metAs m w)) ≡ some (record { type = tagType3 (m .tag); bytes = at m }))
     × Answers id (hit.Found (metAs m w))
-unfolding holds
-met-held b m id w ew low kept =
+unfolding holdsAs
+met-held at of alike m id w ew low kept =
     let t : ℕ = m .tag in
     let k : tagType3 w ≡ tagType3 t
     = ap tagType3 ew ∙ of-type3 (tagType3 t) id (tagSize t) (omega arith) low (omega arith) in
     let z : tagLength t ≡ 4 + tagSize t = length-size t (eqb-false (tagSize t) removalSize kept) in
     let n : tagLength t - 4 ≡ tagSize t = omega arith in
-    (rw (k, found-bytes t (m .off) 0 b), ew ∙ rw (k, n))
+    (rw (k, alike m w kept), ew ∙ rw (k, n))
 
-seen-act : (b : List ℕ) (m : Met) → seen b m ≡ act (m .tag) (bytesAt b m)
-unfolding seen
-seen-act b m = refl
+-- of the data
+pub bytes-held : (b : List ℕ) (m : Met) (id w : ℕ) → w ≡ tagOf (tagType3 (m .tag)) id (tagSize (m .tag)) → id < 2 ^ 10
+    → tagDelete (m .tag) ≡ false
+    → (holds b (hit.Found (metAs m w)) ≡ some (record { type = tagType3 (m .tag); bytes = bytesAt b m }))
+    × Answers id (hit.Found (metAs m w))
+bytes-held b m id w ew low kept =
+    let h = met-held (bytesAt b) (bytesOf b) (bytes-alike b) m id w ew low kept in
+    (holds-as b (hit.Found (metAs m w)) ∙ h .0, h .1)
+
+seen-act : (at : Met → List ℕ) (m : Met) → seenAs at m ≡ act (m .tag) (at m)
+unfolding seenAs
+seen-act at m = refl
 
 -- ---- the wrapped lookup is the search
-module _ (b : List ℕ) (mask T c s asked : ℕ) (q : Query mask T c) (hs : s < 2 ^ 10) (ha : asked < 2 ^ 10) where
+module _ (at : Met → List ℕ) (of : Found → List ℕ) (alike : Alike at of) (mask T c s asked : ℕ) (q : Query mask T c)
+    (hs : s < 2 ^ 10) (ha : asked < 2 ^ 10) where
   abbrev key : ℕ
   key = tagOf T asked s
 
   hg : key < 2 ^ 32
   hg = omega (arith, of-valid T asked s (q .0) ha hs)
 
-  pub wlook-find : (g : Bool) (ms : List Met) (d i : ℕ) → d < 2 ^ 32 → Shapes b ms → AllAllowed g (map (seen b) ms)
-      → FewBack (map (seen b) ms) → i < mostSlots → Inside g i (map (seen b) ms) → minus32 key d ≡ tagOf T i s
-      → (holds b (wlook true mask key d ms) ≡ find c i (map (seen b) ms)) × Answers asked (wlook true mask key d ms)
-  unfolding splicedAt wlook holds find dir apply hitAct
-  wlook-find g [] d i hd sh r lo i-low hi e = (refl, tt)
-  wlook-find g (m ∷ ms) d i hd sh r lo i-low hi e =
-      go (seen b m) refl (sh .0) (r .0) hi (λ d′ i′ hd′ low′ hi′ e′. wlook-find g ms d′ i′ hd′ (sh .1) (r .1) (lo .1)
+  pub wlook-as : (g : Bool) (ms : List Met) (d i : ℕ) → d < 2 ^ 32 → Shapes at ms → AllAllowed g (map (seenAs at) ms)
+      → FewBack (map (seenAs at) ms) → i < mostSlots → Inside g i (map (seenAs at) ms) → minus32 key d ≡ tagOf T i s
+      → (holdsAs of (wlook true mask key d ms) ≡ find c i (map (seenAs at) ms)) × Answers asked (wlook true mask key d ms)
+  unfolding splicedAt wlook holdsAs find dir apply hitAct
+  wlook-as g [] d i hd sh r lo i-low hi e = (refl, tt)
+  wlook-as g (m ∷ ms) d i hd sh r lo i-low hi e =
+      go (seenAs at m) refl (sh .0) (r .0) hi (λ d′ i′ hd′ low′ hi′ e′. wlook-as g ms d′ i′ hd′ (sh .1) (r .1) (lo .1)
       low′ hi′ e′)
     where
       l : List Act
-      l = map (seen b) ms
+      l = map (seenAs at) ms
 
-      miss : (a : Act) → seen b m ≡ a → (i′ : ℕ) → i′ < 2 ^ 10
+      miss : (a : Act) → seenAs at m ≡ a → (i′ : ℕ) → i′ < 2 ^ 10
           → eqb (bitAnd (m .tag) mask) (bitAnd (tagOf T i′ s) mask) ≡ hitAct c i′ a
-      miss a ea i′ h = q .1 (m .tag) i′ s (bytesAt b m) h hs ∙ ap (hitAct c i′) (sym (seen-act b m) ∙ ea)
+      miss a ea i′ h = q .1 (m .tag) i′ s (at m) h hs ∙ ap (hitAct c i′) (sym (seen-act at m) ∙ ea)
 
-      go : (a : Act) → seen b m ≡ a → Shape (m .tag) (bytesAt b m) a → Allowed (stillGrows g l) a (length (dir l))
-          → Inside g i (seen b m ∷ l)
+      go : (a : Act) → seenAs at m ≡ a → Shape (m .tag) (at m) a → Allowed (stillGrows g l) a (length (dir l))
+          → Inside g i (seenAs at m ∷ l)
           → ((d′ i′ : ℕ) → d′ < 2 ^ 32 → i′ < mostSlots → Inside g i′ l → minus32 key d′ ≡ tagOf T i′ s
-          → (holds b (wlook true mask key d′ ms) ≡ find c i′ l) × Answers asked (wlook true mask key d′ ms))
-          → (holds b (wlook true mask key d (m ∷ ms)) ≡ find c i (a ∷ l))
+          → (holdsAs of (wlook true mask key d′ ms) ≡ find c i′ l) × Answers asked (wlook true mask key d′ ms))
+          → (holdsAs of (wlook true mask key d (m ∷ ms)) ≡ find c i (a ∷ l))
           × Answers asked (wlook true mask key d (m ∷ ms))
       go (mk j) ea sp ru h ih = sub (leb j i) refl (eqb j i) refl
         where
@@ -196,7 +220,7 @@ module _ (b : List ℕ) (mask T c s asked : ℕ) (q : Query mask T c) (hs : s < 
           low = rw (length-ins (dir l) j empty ru) at (inside-there (rw ea at h))
 
           sub : (bl : Bool) → leb j i ≡ bl → (be : Bool) → eqb j i ≡ be
-              → (holds b (wlook true mask key d (m ∷ ms)) ≡ find c i (mk j ∷ l))
+              → (holdsAs of (wlook true mask key d (m ∷ ms)) ≡ find c i (mk j ∷ l))
               × Answers asked (wlook true mask key d (m ∷ ms))
           sub true el true ee = rw (e, t1, t2, of-id T i s (omega (arith, i-low)) hs, el, t3, ee) (refl, tt)
           sub true el false ee =
@@ -237,7 +261,7 @@ module _ (b : List ℕ) (mask T c s asked : ℕ) (q : Query mask T c) (hs : s < 
           low : i < length (dir l) - 1
           low = rw (length-del (dir l) j ru) at (inside-there (rw ea at h))
 
-          sub : (bl : Bool) → leb j i ≡ bl → (holds b (wlook true mask key d (m ∷ ms)) ≡ find c i (rm j ∷ l))
+          sub : (bl : Bool) → leb j i ≡ bl → (holdsAs of (wlook true mask key d (m ∷ ms)) ≡ find c i (rm j ∷ l))
               × Answers asked (wlook true mask key d (m ∷ ms))
           sub true el =
               rw (
@@ -263,15 +287,26 @@ module _ (b : List ℕ) (mask T c s asked : ℕ) (q : Query mask T c) (hs : s < 
       go (put j k v) ea sp ru h ih = sub (eqb j i && eqb c k) refl (tagDelete (m .tag)) refl
         where
           sub : (hb : Bool) → eqb j i && eqb c k ≡ hb → (rb : Bool) → tagDelete (m .tag) ≡ rb
-              → (holds b (wlook true mask key d (m ∷ ms)) ≡ find c i (put j k v ∷ l))
+              → (holdsAs of (wlook true mask key d (m ∷ ms)) ≡ find c i (put j k v ∷ l))
               × Answers asked (wlook true mask key d (m ∷ ms))
           sub true eh true er = rw (sp .0, e, miss (put j k v) ea i (omega (arith, i-low)), eh, er, sp .1, er)
               (refl, tt)
           sub true eh false er =
               let is : j ≡ i = eqb-true j i (both-true (eqb j i) (eqb c k) eh .0) in
               rw (sp .0, e, miss (put j k v) ea i (omega (arith, i-low)), eh, er, sp .1, er)
-              (met-held b m asked (plus32 (m .tag) d)
+              (met-held at of alike m asked (plus32 (m .tag) d)
               (answers (m .tag) d T asked i s hd ha e (sym is ∙ sp .2) (sp .3)) ha er)
           sub false eh rb er = rw (sp .0, e, miss (put j k v) ea i (omega (arith, i-low)), eh)
               (ih d i hd i-low (inside-put g l i j k v ru (rw ea at h)) e)
       go skip ea sp ru h ih = rw (sp, e, miss skip ea i (omega (arith, i-low))) (ih d i hd i-low (rw ea at h) e)
+
+-- of the data
+pub wlook-find : (b : List ℕ) (mask T c s asked : ℕ) → Query mask T c → s < 2 ^ 10 → asked < 2 ^ 10 → (g : Bool)
+    (ms : List Met) (d i : ℕ) → d < 2 ^ 32 → Shapes (bytesAt b) ms → AllAllowed g (map (seen b) ms)
+    → FewBack (map (seen b) ms) → i < mostSlots → Inside g i (map (seen b) ms)
+    → minus32 (tagOf T asked s) d ≡ tagOf T i s
+    → (holds b (wlook true mask (tagOf T asked s) d ms) ≡ find c i (map (seen b) ms))
+    × Answers asked (wlook true mask (tagOf T asked s) d ms)
+wlook-find b mask T c s asked q hs ha g ms d i hd sh r lo i-low hi e =
+    let f = wlook-as (bytesAt b) (bytesOf b) (bytes-alike b) mask T c s asked q hs ha g ms d i hd sh r lo i-low hi e in
+    (holds-as b (wlook true mask (tagOf T asked s) d ms) ∙ f .0, f .1)

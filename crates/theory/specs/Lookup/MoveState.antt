@@ -29,7 +29,8 @@ use Rattle.theory.specs.Back.WalkBack.{back-log}
 use Rattle.theory.specs.Back.EventBytes.{Told, chains}
 use Rattle.theory.specs.Directory.Types.{check-type3}
 use Rattle.theory.specs.Back.BackActs.{Eights}
-use Rattle.theory.specs.Lookup.ByMask.{bytesAt, holds}
+use Rattle.theory.specs.Back.BackActs.{bytesAt}
+use Rattle.theory.specs.Lookup.ByMask.{holds}
 use Rattle.theory.specs.Lookup.OnBlock.{last-check}
 
 -- the mask as a field test: the key is a move state of any id and size

@@ -26,7 +26,8 @@ use Rattle.theory.specs.Directory.Machine.{mostSlots, stillGrows, AllAll
 use Rattle.theory.specs.Back.WalkBack.{Chain, back-log}
 use Rattle.theory.specs.Back.EventBytes.{Told, chains}
 use Rattle.theory.specs.Directory.Types.{check-type1, act-check, act-without-top}
-use Rattle.theory.specs.Back.BackActs.{Eights, seen, back-without-top, map-reverseAux, seen-places}
+use Rattle.theory.specs.Back.BackActs.{Eights, bytesAt, seenAs, seen, Topless, bytes-topless, back-without-top}
+use Rattle.theory.specs.Back.BackActs.{map-reverseAux, seen-places}
 use Rattle.theory.specs.Lookup.SlotCount.{slotsAfter, AllowedFrom, length-apply, Sound, allowed-newest}
 use Rattle.theory.specs.Lookup.Masks.{Query}
 use Rattle.theory.specs.Lookup.ByMask.{Shape, Shapes, FewBack, holds, Answers, wlook-find}
@@ -38,12 +39,12 @@ EventShapes (ent t d ∷ es) = Shape t d (act t d) × EventShapes es
 EventShapes (chk t c ∷ es) = EventShapes es
 EventShapes (inv ∷ es) = EventShapes es
 
-check-one : (t : ℕ) → isCheck t ≡ true → isSplice t ≡ false
+pub check-one : (t : ℕ) → isCheck t ≡ true → isSplice t ≡ false
 check-one t h = rw (check-type1 t h)
 
 shapes-places : (es : List Event) (b : List ℕ) (off : ℕ) → Told b off es → Eights es → EventShapes es
-    → Shapes b (places off es)
-unfolding places seen
+    → Shapes (bytesAt b) (places off es)
+unfolding places seenAs
 shapes-places [] b off h w s = tt
 shapes-places (ent t d ∷ es) b off h w s =
     (rw (← h .0 (w .0)) (s .0), shapes-places es b (off + tagLength t) (h .1) (w .1) (s .1))
@@ -66,23 +67,23 @@ last-check (chk t c ∷ es) b off p w n ch h =
     last-check es b (off + tagLength t) (tagFlipped t) (cc) (λ q. rw (flipped-low t (ch .0 .1)) (h .0)) (ch .1) (h .1)
 last-check (inv ∷ es) b off p w n ch h = absurd h
 
-shapes-rev : (b : List ℕ) (l r : List Met) → Shapes b l → Shapes b r → Shapes b (reverseAux l r)
-shapes-rev b [] r h k = k
-shapes-rev b (m ∷ l) r h k = shapes-rev b l (m ∷ r) (h .1) (h .0, k)
+pub shapes-rev : (at : Met → List ℕ) (l r : List Met) → Shapes at l → Shapes at r → Shapes at (reverseAux l r)
+shapes-rev at [] r h k = k
+shapes-rev at (m ∷ l) r h k = shapes-rev at l (m ∷ r) (h .1) (h .0, k)
 
 -- the end tag's bit 31 does not matter: it is a check's
-shapes-without-top : (b : List ℕ) (off t : ℕ) → isCheck (t % 2 ^ 31) ≡ true → Shapes b (back b off (t % 2 ^ 31))
-    → Shapes b (back b off t)
-unfolding seen
-shapes-without-top b off t ck = rw (back-step b off t, back-step b off (t % 2 ^ 31), low-length t)
+pub shapes-without-top : (at : Met → List ℕ) (b : List ℕ) (off t : ℕ) → isCheck (t % 2 ^ 31) ≡ true
+    → Shapes at (back b off (t % 2 ^ 31)) → Shapes at (back b off t)
+unfolding seenAs
+shapes-without-top at b off t ck = rw (back-step b off t, back-step b off (t % 2 ^ 31), low-length t)
     (go (leb (4 + tagLength t) off))
   where
     head : (x : List ℕ) → Shape t x (act t x)
     head x = rw (← act-without-top t x, act-check (t % 2 ^ 31) x ck) (rw (low-type1 t) at (check-one (t % 2 ^ 31) ck))
 
-    go : (c : Bool) → Shapes b (hop (back b) c b off (t % 2 ^ 31)) → Shapes b (hop (back b) c b off t)
+    go : (c : Bool) → Shapes at (hop (back b) c b off (t % 2 ^ 31)) → Shapes at (hop (back b) c b off t)
     go true h = (
-      head (take (tagLength t - 4) (drop 4 (drop (off - tagLength t) b))),
+      head (at (record { tag = t; off = off - tagLength t })),
       rw (low-length t, ← xor-low (be32 (drop (off - tagLength t) b)) t) at (h .1),
     )
     go false h = tt
@@ -92,7 +93,7 @@ abbrev pub FewFrom : ℕ → List Act → Type 0
 FewFrom n [] = Unit {0}
 FewFrom n (a ∷ l) = (slotsAfter n a ≤ mostSlots) × FewFrom (slotsAfter n a) l
 
-few-rev : (g : Bool) (l r : List Act) → AllowedFrom (stillGrows g r) (length (dir r)) l → FewFrom (length (dir r)) l →
+pub few-rev : (g : Bool) (l r : List Act) → AllowedFrom (stillGrows g r) (length (dir r)) l → FewFrom (length (dir r)) l →
     length (dir r) ≤ mostSlots
     → FewBack r → FewBack (reverseAux l r) × (length (dir (reverseAux l r)) ≤ mostSlots)
 unfolding dir
@@ -145,11 +146,11 @@ block-lookup b es mask T c s i h nonempty r q hs hi =
     let bl : back b (logEnd es) (logEndTag es % 2 ^ 31) ≡ reverse (places 4 es) = back-log es b (ch .0) in
     let ck : isCheck (logEndTag es % 2 ^ 31) ≡ true = last-check es b 4 allOnes whole (λ z. absurd (nonempty z)) (ch .0)
     (ch .2) in
-    let sh : Shapes b (back b (logEnd es) (logEndTag es))
-    = shapes-without-top b (logEnd es) (logEndTag es) ck
-    (rw bl (shapes-rev b (places 4 es) [] (shapes-places es b 4 (ch .2) (r .eight) (r .shapes)) tt)) in
+    let sh : Shapes (bytesAt b) (back b (logEnd es) (logEndTag es))
+    = shapes-without-top (bytesAt b) b (logEnd es) (logEndTag es) ck
+    (rw bl (shapes-rev (bytesAt b) (places 4 es) [] (shapes-places es b 4 (ch .2) (r .eight) (r .shapes)) tt)) in
     let ms : map (seen b) (back b (logEnd es) (logEndTag es)) ≡ reverse (acts es)
-    = back-without-top b (logEnd es) (logEndTag es) ∙ ap (map (seen b)) bl ∙ map-reverseAux (seen b) (places 4 es) []
+    = back-without-top (bytesAt b) (bytes-topless b) b (logEnd es) (logEndTag es) ∙ ap (map (seen b)) bl ∙ map-reverseAux (seen b) (places 4 es) []
     ∙ ap reverse (seen-places es b 4 (ch .2) (r .eight)) in
     let few : length (dirOf es) ≤ mostSlots = r .few in
     let there : Inside true i (reverse (acts es)) = inl hi in
