@@ -1,8 +1,9 @@
 -- Document 01's table of refusals, and for each answer its number and the values that come back with it. A promise
 -- about an answer is one about these. Assumes nothing.
 use mathlib.Core.Bool.{Bool, true, false}
-use Prim.Native.Nat.{ℕ}
+use Prim.Native.Nat.{ℕ, min}
 use lib.IntN.{ℤ, pos, negℤ}
+use Rattle.format.specs.Word.{allOnes}
 use Rattle.format.specs.Record.{noForward}
 use Rattle.format.specs.declared.LfsMdir.{LfsMdir}
 use Rattle.format.specs.declared.Refusal.{Refusal}
@@ -22,12 +23,14 @@ use Rattle.format.specs.declared.Stored.{Stored}
 use Rattle.format.specs.declared.Stored.the-variants as stored
 use Rattle.format.specs.declared.Named.{Named}
 use Rattle.format.specs.declared.Named.the-variants as named
+use Rattle.format.specs.declared.Indexed.{Indexed}
+use Rattle.format.specs.declared.Indexed.the-variants as indexed
 
 -- ---- the table "-22 | a size or number above is broken"; "-84 | fetch: block number not below a non-zero block count,
 -- or neither block has a valid commit; lookup: the matched bytes pass the block"; "-2 | fetch: count above 1,023;
 -- lookup: no entry"; "-201 | an entry is bad"; "-202 | the committed log isn't regular"; "-28 | the rounded end passes
 -- the block"; "-204 | the checksum coincidence"; and document 02, L1: "-203 becomes -211 misaligned end, -212 top bit,
--- -213 byte with offset"; L7: the second "is now 'wrong validity bit'"
+-- -213 byte with offset"; L7: the second "is now 'wrong validity bit'"; L8: "-221 table too small"
 abbrev pub refusalNumber : Refusal → ℤ
 refusalNumber refusal.Invalid = negℤ (pos 22)
 refusalNumber refusal.Corrupt = negℤ (pos 84)
@@ -40,6 +43,7 @@ refusalNumber refusal.Misaligned = negℤ (pos 211)
 refusalNumber refusal.WrongValidity = negℤ (pos 212)
 refusalNumber (refusal.NotErased at) = negℤ (pos 213)
 refusalNumber refusal.Coincidence = negℤ (pos 204)
+refusalNumber refusal.TableFull = negℤ (pos 221)
 
 -- what comes back: "record all zero", but for a count above 1,023 "record and seed as read"
 abbrev pub zeroMdir : LfsMdir
@@ -68,6 +72,7 @@ refusalMdir refusal.Misaligned = zeroMdir
 refusalMdir refusal.WrongValidity = zeroMdir
 refusalMdir (refusal.NotErased at) = zeroMdir
 refusalMdir refusal.Coincidence = zeroMdir
+refusalMdir refusal.TableFull = zeroMdir
 
 -- "seed as given"
 abbrev pub refusalSeed : ℕ → Refusal → ℕ
@@ -82,6 +87,7 @@ refusalSeed seed refusal.Misaligned = seed
 refusalSeed seed refusal.WrongValidity = seed
 refusalSeed seed (refusal.NotErased at) = seed
 refusalSeed seed refusal.Coincidence = seed
+refusalSeed seed refusal.TableFull = seed
 
 -- "index from 0 of the first bad one", and of the byte that isn't erased "its offset in the block"
 abbrev pub refusalIndex : Refusal → ℕ
@@ -96,6 +102,7 @@ refusalIndex refusal.Misaligned = 0
 refusalIndex refusal.WrongValidity = 0
 refusalIndex (refusal.NotErased at) = at
 refusalIndex refusal.Coincidence = 0
+refusalIndex refusal.TableFull = 0
 
 -- ---- the answers: 0, or the refusal's number; the values of a refusal are 0 where nothing comes back
 -- a test answers "exactly 0 or 1"
@@ -187,3 +194,12 @@ abbrev pub namedId : Named → ℕ
 namedId (named.At id) = id
 namedId named.Nothing = 0
 namedId (named.Refused r) = 0
+
+-- the places in use, in the 32 bits that C has for them: "0 on a refusal"
+abbrev pub indexedResult : Indexed → ℤ
+indexedResult (indexed.Places n) = pos 0
+indexedResult (indexed.Refused r) = refusalNumber r
+
+abbrev pub indexedPlaces : Indexed → ℕ
+indexedPlaces (indexed.Places n) = min n allOnes
+indexedPlaces (indexed.Refused r) = 0

@@ -67,6 +67,10 @@ isStruct t = eqb (tagType1 t) typeDirStruct
 abbrev pub isAttr : ℕ → Bool
 isAttr t = eqb (tagType1 t) typeUserAttr
 
+-- the class of what an entry sets in its slot, or `classes` where it sets nothing
+unfoldable pub seatClass : ℕ → ℕ
+seatClass t = cond (isName t) 0 (cond (isStruct t) 1 (cond (isAttr t) (2 + tagChunk t) classes))
+
 -- "Size 0x3ff means removal."
 abbrev pub loadOf : ℕ → List ℕ → Option Load
 loadOf t d = cond (tagDelete t) none (some (record { type = tagType3 t; bytes = d }))

@@ -39,8 +39,9 @@ pub mod Compaction
 -- Demand 3: what a pair holds, as a machine, and what both calls leave when they are stopped.
 pub mod Machine
 pub mod Stopped
--- Document 02, L4: a slot by its name.
+-- Document 02, L4: a slot by its name; L8: an index in memory.
 pub mod Find
+pub mod Index
 -- The texts: the listing, the audit, the raw log, what is found.
 pub mod Listing
 pub mod Audit

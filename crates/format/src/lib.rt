@@ -75,7 +75,7 @@ pub enum Rules {
 }
 
 // Document 01's table of refusals: one case for each line of it, with what comes back; in the place of its -203 stand
-// the three reasons of document 02, L1.
+// the three reasons of document 02, L1; and L8's.
 pub enum Refusal {
     // -22: a size or number is broken
     Invalid,
@@ -99,6 +99,8 @@ pub enum Refusal {
     NotErased(u32),
     // -204: the checksum coincidence
     Coincidence,
+    // -221: after some entry of the log more are live than the table has places
+    TableFull,
 }
 
 // The room behind a log's end: a commit can be appended there, or why none can.
@@ -168,5 +170,11 @@ pub enum Stored {
 pub enum Named {
     At(u32),
     Nothing,
+    Refused(Refusal),
+}
+
+// An index: how many places of the table are in use.
+pub enum Indexed {
+    Places(usize),
     Refused(Refusal),
 }

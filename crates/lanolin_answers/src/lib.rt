@@ -2,13 +2,16 @@
 ghost use mathlib.Core.Path.{_≡_};
 ghost use Rattle.format.specs.Answer.{flagOf, refusalNumber, refusalMdir, refusalSeed, refusalIndex, alteredResult};
 ghost use Rattle.format.specs.Answer.{zeroMdir};
+ghost use Rattle.format.specs.Word.{allOnes};
+ghost use Prim.Native.Nat.{min};
 ghost use Rattle.lanolin_answers.specs.Values.{wordOut, gotOut, fetchedOut, infoOut, committedOut, storedOut};
-ghost use Rattle.lanolin_answers.specs.Values.{namedOut};
+ghost use Rattle.lanolin_answers.specs.Values.{namedOut, indexedOut};
 use format::Altered;
 use format::Committed;
 use format::Fetched;
 use format::Found;
 use format::Got;
+use format::Indexed;
 use format::Informed;
 use format::LfsFcrc;
 use format::LfsMdir;
@@ -76,6 +79,13 @@ pub struct NamedOut {
     pub id: u32,
 }
 
+// What lanolin_index and lanolin_index_extend answer: the places in use, 0 on a refusal.
+#[repr(C)]
+pub struct IndexedOut {
+    pub result: i32,
+    pub places: u32,
+}
+
 // Tests answer exactly 0 or 1.
 pub fn flag(b: bool) -> u32
     ensures { λ r. ⌜ r ≡ flagOf b ⌝ }
@@ -98,6 +108,7 @@ pub fn number(r: Refusal) -> i32
         Refusal::WrongValidity => -212,
         Refusal::NotErased(_) => -213,
         Refusal::Coincidence => -204,
+        Refusal::TableFull => -221,
     }
 }
 
@@ -280,6 +291,32 @@ pub fn named_out(a: Named) -> NamedOut
             result: number(r),
             found: false,
             id: 0,
+        },
+    }
+}
+
+// A count in the 32 bits that C has for it. No table that a build fills has so many places.
+fn in_word(n: usize) -> u32
+    ensures { λ r. ⌜ r ≡ min n allOnes ⌝ }
+{
+    if n < 0xffff_ffff {
+        n as u32
+    } else {
+        0xffff_ffff
+    }
+}
+
+pub fn indexed_out(i: Indexed) -> IndexedOut
+    ensures { λ r. ⌜ r ≡ indexedOut i ⌝ }
+{
+    match i {
+        Indexed::Places(n) => IndexedOut {
+            result: 0,
+            places: in_word(n),
+        },
+        Indexed::Refused(r) => IndexedOut {
+            result: number(r),
+            places: 0,
         },
     }
 }

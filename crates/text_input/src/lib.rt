@@ -61,6 +61,7 @@ fn number_of(r: Refusal) -> u32
         Refusal::WrongValidity => 212,
         Refusal::NotErased(_) => 213,
         Refusal::Coincidence => 204,
+        Refusal::TableFull => 221,
     }
 }
 
