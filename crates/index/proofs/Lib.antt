@@ -1,0 +1,4 @@
+pub mod Block
+pub mod Extend
+pub mod Called
+pub mod Place

@@ -1,0 +1,3 @@
+pub mod Entry
+pub mod Turn
+pub mod Built
