@@ -20,6 +20,7 @@ use Rattle.format.specs.Writer.{roundedEnd, checkSize, writesFit, blockAt, isSe
 use Rattle.format.specs.Compaction.{compactCheckAt, CompactVerdict, compactRefused, compactAccepted}
 use Rattle.format.specs.Compaction.{placedAnew, compactable, compactVerdict, compactImagesAfter, compactAnswer}
 use Rattle.format.specs.Compaction.{compactMade, compactImages, compactOf, compactStoresOf}
+use Rattle.format.specs.Index.{tableRenewed, compactTable}
 use Rattle.format.specs.Stopped.{Bytes, CompactLeaves, CompactStoresLeaves}
 use Rattle.format.specs.declared.Geometry.{Geometry}
 use Rattle.format.specs.declared.LfsMdir.{LfsMdir}
@@ -80,40 +81,43 @@ second-leaves e n b0 b1 (compactRefused x) r c er ec = (er, (ec, refl))
 second-leaves e n b0 b1 (compactAccepted w rev is size) r c er ec = (er, (ec, refl))
 
 module _ (g : Geometry) (b0 b1 : List ℕ) (n0 n1 count seed rules e : ℕ) where
-  -- the contract of the call with a limit of n stores
-  abbrev pub Called : ℕ → Stored → List ℕ → List ℕ → Type 0
-  Called n r c0 c1 =
+  -- the contract of the call with a limit of n stores, without demand 3: `left` is what it leaves in the table
+  abbrev pub Called : ℕ → Stored → List ℕ → List ℕ → List ℕ → List ℕ → Type 0
+  Called n r c0 c1 table left =
       (r ≡ compactStoresOf g b0 b1 n0 n1 count seed rules e n)
       × ((c0 ≡ compactImages g b0 b1 n0 n1 count seed rules e n .b0)
-      × (c1 ≡ compactImages g b0 b1 n0 n1 count seed rules e n .b1))
+      × ((c1 ≡ compactImages g b0 b1 n0 n1 count seed rules e n .b1)
+      × (left ≡ compactTable g b0 b1 n0 n1 count seed rules e table)))
 
   -- with demand 3, which a call keeps whatever it leaves
-  pub kept : (n : ℕ) (r : Stored) (c0 c1 : List ℕ) → Bytes b0 → Bytes b1 → Called n r c0 c1
+  pub kept : (n : ℕ) (r : Stored) (c0 c1 table left : List ℕ) → Bytes b0 → Bytes b1 → Called n r c0 c1 table left
       → (r ≡ compactStoresOf g b0 b1 n0 n1 count seed rules e n)
-      × CompactStoresLeaves g b0 b1 n0 n1 count seed rules e n c0
-      c1
-  kept n r c0 c1 y0 y1 h =
-      (h .0, (h .1 .0, h .1 .1, rw (h .1 .0, h .1 .1) (stopped-compaction g b0 b1 n0 n1 count seed rules e n y0 y1)))
+      × (CompactStoresLeaves g b0 b1 n0 n1 count seed rules e n c0 c1
+      × (left ≡ compactTable g b0 b1 n0 n1 count seed rules e table))
+  kept n r c0 c1 table left y0 y1 h =
+      let e0 = h .1 .0 in
+      let e1 = h .1 .1 .0 in
+      (h .0, ((e0, e1, rw (e0, e1) (stopped-compaction g b0 b1 n0 n1 count seed rules e n y0 y1)), h .1 .1 .1))
 
   leaves : (n : ℕ) (v : CompactVerdict) → compactVerdict g b0 b1 n0 n1 count seed rules e ≡ v → (r : Stored)
-      (c0 c1 : List ℕ)
-      → Leaves e n b0 b1 v r c0 c1 → Called n r c0 c1
+      (c0 c1 : List ℕ) → Leaves e n b0 b1 v r c0 c1 → (table left : List ℕ)
+      → left ≡ compactTable g b0 b1 n0 n1 count seed rules e table → Called n r c0 c1 table left
   unfolding compactStoresOf compactImages
-  leaves n v q r c0 c1 h = rw q h
+  leaves n v q r c0 c1 h table left k = rw q (h .0, (h .1 .0, (h .1 .1, k)))
 
   -- t is what `writes_fit` answers
   module _ (t : Bool) (et : t ≡ writesFit rules e) where
-    pub called-invalid : (n : ℕ) → not t ≡ true → Called n (stored.Refused Invalid) b0 b1
-    unfolding compactVerdict
-    called-invalid n h = leaves n (compactRefused Invalid) (rw (← et, h)) (stored.Refused Invalid) b0 b1
-        (refl, (refl, refl))
+    pub called-invalid : (n : ℕ) (table : List ℕ) → not t ≡ true → Called n (stored.Refused Invalid) b0 b1 table table
+    unfolding compactVerdict compactTable
+    called-invalid n table h = leaves n (compactRefused Invalid) (rw (← et, h)) (stored.Refused Invalid) b0 b1
+        (refl, (refl, refl)) table table (rw (← et, h))
 
     module _ (k : not t ≡ false) where
-      pub called-refused : (n : ℕ) (r : Refusal) → fetched.Refused r ≡ fetchOf g b0 b1 n0 n1 count seed
-          → Called n (stored.Refused r) b0 b1
-      unfolding compactVerdict
-      called-refused n r f = leaves n (compactRefused r) (rw (← et, k, ← f)) (stored.Refused r) b0 b1
-          (refl, (refl, refl))
+      pub called-refused : (n : ℕ) (table : List ℕ) (r : Refusal)
+          → fetched.Refused r ≡ fetchOf g b0 b1 n0 n1 count seed → Called n (stored.Refused r) b0 b1 table table
+      unfolding compactVerdict compactTable
+      called-refused n table r f = leaves n (compactRefused r) (rw (← et, k, ← f)) (stored.Refused r) b0 b1
+          (refl, (refl, refl)) table table (rw (← et, k, ← f))
 
       module _ (m : LfsMdir) (s : ℕ) (f : fetched.Found m s ≡ fetchOf g b0 b1 n0 n1 count seed) where
         verdict-of : (w : Bool) → isSecond n0 m ≡ w → compactVerdict g b0 b1 n0 n1 count seed rules e
@@ -121,6 +125,12 @@ module _ (g : Geometry) (b0 b1 : List ℕ) (n0 n1 count seed rules e : ℕ) wher
             (log (blockAt w b0 b1)))
         unfolding compactVerdict
         verdict-of w q = rw (← et, k, ← f, q) (placed-at (rulesOf rules) e (g .«prog_size») w (blockAt w b0 b1))
+
+        table-of : (w : Bool) → isSecond n0 m ≡ w → (table : List ℕ)
+            → tableRenewed (rulesOf rules) (log (blockAt w b0 b1)) table
+            ≡ compactTable g b0 b1 n0 n1 count seed rules e table
+        unfolding compactTable
+        table-of w q table = rw (← et, k, ← f, q)
 
         renewable : (w : Bool) → isSecond n0 m ≡ w
             → Renewable (g .«prog_size») (blockAt w b0 b1) (blockAt (not w) b0 b1) m
@@ -162,9 +172,11 @@ module _ (g : Geometry) (b0 b1 : List ℕ) (n0 n1 count seed rules e : ℕ) wher
           pub called-first : (n : ℕ) (r : Stored) (c : List ℕ)
               → r ≡ compactMade n (compactable (rulesOf rules) e (g .«prog_size») false b0 (log b0))
               → c ≡ renewedTo e n b1 (compactable (rulesOf rules) e (g .«prog_size») false b0 (log b0))
-              → Called n r b0 c
-          called-first n r c er ec = leaves n _ (verdict-of false place-first) r b0 c
+              → (table left : List ℕ) → left ≡ tableRenewed (rulesOf rules) (log b0) table
+              → Called n r b0 c table left
+          called-first n r c er ec table left et′ = leaves n _ (verdict-of false place-first) r b0 c
               (first-leaves e n b0 b1 (compactable (rulesOf rules) e (g .«prog_size») false b0 (log b0)) r c er ec)
+              table left (et′ ∙ table-of false place-first table)
 
         -- the second block answers
         module _ (h : m .pair .n0 ≡ n0 → ⊥) where
@@ -177,30 +189,35 @@ module _ (g : Geometry) (b0 b1 : List ℕ) (n0 n1 count seed rules e : ℕ) wher
           pub called-second : (n : ℕ) (r : Stored) (c : List ℕ)
               → r ≡ compactMade n (compactable (rulesOf rules) e (g .«prog_size») false b1 (log b1))
               → c ≡ renewedTo e n b0 (compactable (rulesOf rules) e (g .«prog_size») false b1 (log b1))
-              → Called n r c b1
-          called-second n r c er ec = leaves n _ (verdict-of true place-second) r c b1
+              → (table left : List ℕ) → left ≡ tableRenewed (rulesOf rules) (log b1) table
+              → Called n r c b1 table left
+          called-second n r c er ec table left et′ = leaves n _ (verdict-of true place-second) r c b1
               (second-leaves e n b0 b1 (compactable (rulesOf rules) e (g .«prog_size») false b1 (log b1)) r c er ec)
+              table left (et′ ∙ table-of true place-second table)
 
-  -- ---- the call with no limit: c0 and c1 are what the other leaves
-  abbrev pub Answered : Committed → List ℕ → List ℕ → Type 0
-  Answered r c0 c1 = (r ≡ compactOf g b0 b1 n0 n1 count seed rules e)
-      × CompactLeaves g b0 b1 n0 n1 count seed rules e c0 c1
+  -- ---- the call with no limit: c0, c1 and `left` are what the other leaves
+  abbrev pub Answered : Committed → List ℕ → List ℕ → List ℕ → List ℕ → Type 0
+  Answered r c0 c1 table left = (r ≡ compactOf g b0 b1 n0 n1 count seed rules e)
+      × (CompactLeaves g b0 b1 n0 n1 count seed rules e c0 c1
+      × (left ≡ compactTable g b0 b1 n0 n1 count seed rules e table))
 
-  module _ (c0 c1 : List ℕ) (y0 : Bytes b0) (y1 : Bytes b1)
-      (l : CompactStoresLeaves g b0 b1 n0 n1 count seed rules e unlimited c0 c1) where
+  module _ (c0 c1 table left : List ℕ) (y0 : Bytes b0) (y1 : Bytes b1)
+      (l : CompactStoresLeaves g b0 b1 n0 n1 count seed rules e unlimited c0 c1
+      × (left ≡ compactTable g b0 b1 n0 n1 count seed rules e table)) where
     abbrev e0 : c0 ≡ compactImages g b0 b1 n0 n1 count seed rules e unlimited .b0
-    e0 = l .0
+    e0 = l .0 .0
 
     abbrev e1 : c1 ≡ compactImages g b0 b1 n0 n1 count seed rules e unlimited .b1
-    e1 = l .1
+    e1 = l .0 .1
 
-    left : CompactLeaves g b0 b1 n0 n1 count seed rules e c0 c1
-    left = (l .0, l .1, λ n. stopped-compaction g b0 b1 n0 n1 count seed rules e n y0 y1)
+    all-left : CompactLeaves g b0 b1 n0 n1 count seed rules e c0 c1
+        × (left ≡ compactTable g b0 b1 n0 n1 count seed rules e table)
+    all-left = ((e0, e1, λ n. stopped-compaction g b0 b1 n0 n1 count seed rules e n y0 y1), l .1)
 
     pub answered-refused : (r : Refusal) → stored.Refused r ≡ compactStoresOf g b0 b1 n0 n1 count seed rules e unlimited
-        → Answered (committed.Refused r) c0 c1
+        → Answered (committed.Refused r) c0 c1 table left
     unfolding compactOf compactStoresOf
-    answered-refused r h = (go (compactVerdict g b0 b1 n0 n1 count seed rules e) h, left)
+    answered-refused r h = (go (compactVerdict g b0 b1 n0 n1 count seed rules e) h, all-left)
       where
         go : (v : CompactVerdict) → stored.Refused r ≡ compactMade unlimited v
             → committed.Refused r ≡ compactAnswer (fetchOf g (compactImages g b0 b1 n0 n1 count seed rules e unlimited
@@ -211,9 +228,9 @@ module _ (g : Geometry) (b0 b1 : List ℕ) (n0 n1 count seed rules e : ℕ) wher
     pub answered-made : (k : ℕ) → stored.Made k ≡ compactStoresOf g b0 b1 n0 n1 count seed rules e unlimited
         → (f : Fetched)
         → f ≡ fetchOf g c0 c1 n0 n1 count seed
-        → Answered (committedAs f) c0 c1
+        → Answered (committedAs f) c0 c1 table left
     unfolding compactOf compactStoresOf
-    answered-made k h f ef = (go (compactVerdict g b0 b1 n0 n1 count seed rules e) h, left)
+    answered-made k h f ef = (go (compactVerdict g b0 b1 n0 n1 count seed rules e) h, all-left)
       where
         go : (v : CompactVerdict) → stored.Made k ≡ compactMade unlimited v
             → committedAs f ≡ compactAnswer (fetchOf g (compactImages g b0 b1 n0 n1 count seed rules e unlimited .b0)

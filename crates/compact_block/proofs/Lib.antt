@@ -2,3 +2,4 @@
 pub mod Erasing
 pub mod Storing
 pub mod Measuring
+pub mod Lent

@@ -1,29 +1,27 @@
 -- The first pass, and the verdict that it finds. Assumes nothing.
 use mathlib.Core.Path.{_≡_, refl, sym, ap, _∙_}
-use mathlib.Core.Bool.{Bool, true, false, not}
+use mathlib.Core.Bool.{Bool, true, false}
 use mathlib.Core.List.{List, [], _∷_}
 use Prim.Native.Nat.{ℕ, _+_, _≤_, _<_, min}
 use native.Mathlib.Omega.{arith}
 use lib.Bits.{bitXor}
 use lib.ListN.{length}
-use borrow.Author.Tests.{lt-ltb, le-ltb, not-true, not-false}
+use borrow.Author.Tests.{lt-ltb, le-ltb}
 use Rattle.format.specs.Word.{le32, toLe32, xor, plus32, allOnes}
 use Rattle.format.specs.Crc.{crc}
 use Rattle.format.specs.Log.{log}
-use Rattle.format.specs.Regular.{Regular, rulesOf}
-use Rattle.format.specs.declared.Rules.{Rules}
+use Rattle.format.specs.Regular.{Regular}
 use Rattle.format.specs.declared.Rules.the-variants.{Littlefs}
-use Rattle.format.proofs.Growing.{widest}
 use Rattle.format.specs.Commit.{Item, checkTag}
 use Rattle.format.specs.Stores.{tagCoincides, coincides}
 use Rattle.format.specs.Writer.{checkLength, roundedEnd, checkSize}
 use Rattle.format.specs.Compaction.{compactCheckAt, compactStores, CompactVerdict, compactRefused}
-use Rattle.format.specs.Compaction.{compactAccepted, placedAnew, compactable, compactMade}
+use Rattle.format.specs.Compaction.{compactAccepted, placedAnew, compactMade}
 use Rattle.format.specs.declared.LfsMdir.{LfsMdir}
 use Rattle.format.specs.declared.Refusal.{Refusal}
 use Rattle.format.specs.declared.Stored.{Stored}
 use Rattle.format.specs.declared.Stored.the-variants as stored
-use Rattle.format.specs.declared.Refusal.the-variants.{Irregular, NoSpace, Coincidence}
+use Rattle.format.specs.declared.Refusal.the-variants.{NoSpace, Coincidence}
 use Rattle.theory.specs.Commit.AcceptedVerdict.{rounded}
 use Rattle.theory.specs.Compact.AcceptedVerdict.{slots-few}
 use Rattle.commit_lay.specs.Laid.{Laid, putsOf}
@@ -33,6 +31,7 @@ use Rattle.compact_entries.specs.Emitted.{Standing, standing, itemBytes, emitte
 use Rattle.compact_entries.specs.declared.Emit.{Emit}
 use Rattle.compact_entries.proofs.Joined.{emits-end, emits-coincides, laid-most}
 use Rattle.compact_block.specs.Renewed.{begins, renewedItems, Renewable, Writable, writtenTo, renewedTo}
+use Rattle.compact_block.specs.Renewed.{anew}
 
 -- ---- with no store left to make nothing is altered
 puts-spent : (bs : List ℕ) (l : Laid) → l .run .left ≡ 0 → putsOf l bs ≡ l
@@ -72,8 +71,8 @@ module _ (byte rev : ℕ) (is : List Item) (s e : Emit) (es : s ≡ begins rev (
       ap (λ (z : Standing). tagCoincides byte (z .sum) (xor ct (z .prev))) begun
       ∙ emits-coincides byte is (standing (begins rev (record { at = 0; left = 0 })) new) ct
 
--- ---- the verdict, by the rule r
-module _ (r : Rules) (byte prog : ℕ) (w : Bool) (x : List ℕ) where
+-- ---- the verdict on a log that is regular
+module _ (byte prog : ℕ) (x : List ℕ) where
   abbrev I : List Item
   I = renewedItems byte prog x
 
@@ -83,34 +82,26 @@ module _ (r : Rules) (byte prog : ℕ) (w : Bool) (x : List ℕ) where
   abbrev next : ℕ
   next = plus32 (le32 x) 1
 
-  pub verdict-irregular : Regular r (log x) ≡ false → compactable r byte prog w x (log x) ≡ compactRefused Irregular
-  unfolding compactable
-  verdict-irregular h = rw h
+  verdict-full : length x < roundedEnd prog at → anew byte prog x ≡ compactRefused NoSpace
+  unfolding placedAnew
+  verdict-full h = rw (lt-ltb (length x) (roundedEnd prog at) h)
 
-  module _ (regular : Regular r (log x) ≡ true) where
-    pub verdict-full : length x < roundedEnd prog at → compactable r byte prog w x (log x) ≡ compactRefused NoSpace
-    unfolding compactable placedAnew
-    verdict-full h = rw (regular, lt-ltb (length x) (roundedEnd prog at) h)
+  module _ (fits : roundedEnd prog at ≤ length x) where
+    verdict-coincides : coincides byte (crc allOnes (toLe32 next)) allOnes I (checkTag byte (checkSize prog at)) ≡ true
+        → anew byte prog x ≡ compactRefused Coincidence
+    unfolding placedAnew
+    verdict-coincides h = rw (le-ltb (length x) (roundedEnd prog at) fits, h)
 
-    module _ (fits : roundedEnd prog at ≤ length x) where
-      pub verdict-coincides : coincides byte (crc allOnes (toLe32 next)) allOnes I (checkTag byte (checkSize prog at))
-          ≡ true
-          → compactable r byte prog w x (log x) ≡ compactRefused Coincidence
-      unfolding compactable placedAnew
-      verdict-coincides h = rw (regular, le-ltb (length x) (roundedEnd prog at) fits, h)
+    verdict-accepted : coincides byte (crc allOnes (toLe32 next)) allOnes I (checkTag byte (checkSize prog at)) ≡ false
+        → anew byte prog x ≡ compactAccepted false next I (checkSize prog at)
+    unfolding placedAnew
+    verdict-accepted h = rw (le-ltb (length x) (roundedEnd prog at) fits, h)
 
-      pub verdict-accepted : coincides byte (crc allOnes (toLe32 next)) allOnes I (checkTag byte (checkSize prog at))
-          ≡ false
-          → compactable r byte prog w x (log x) ≡ compactAccepted w next I (checkSize prog at)
-      unfolding compactable placedAnew
-      verdict-accepted h = rw (regular, le-ltb (length x) (roundedEnd prog at) fits, h)
+    verdict-room : 4 ≤ prog → at + checkLength ≤ length x
+    verdict-room h = omega (arith, rounded prog at h .0, fits)
 
-      pub verdict-room : 4 ≤ prog → at + checkLength ≤ length x
-      verdict-room h = omega (arith, rounded prog at h .0, fits)
-
--- ---- what the function answers and leaves, by its tests: r is the rule that was asked for, x whether the log is
--- regular by it, e stands behind the entries with the block b, z is the rounded end, ct the check tag, y whether it
--- coincides
+-- ---- what `rewrite` answers and leaves, by its tests: e stands behind the entries with the block b, z is the rounded
+-- end, ct the check tag, y whether it coincides
 abbrev pub Answered : ℕ → ℕ → List ℕ → CompactVerdict → Stored → List ℕ → Type 0
 Answered byte n new v r b = (r ≡ compactMade n v) × (b ≡ renewedTo byte n new v)
 
@@ -118,79 +109,65 @@ refuses : (byte n : ℕ) (new b : List ℕ) (v : CompactVerdict) (r : Refusal) �
     → Answered byte n new v (stored.Refused r) b
 refuses byte n new b v r h e = rw h (refl, e)
 
-module _ (byte prog : ℕ) (old new : List ℕ) (dir : LfsMdir) (n : ℕ) (w : Renewable prog old new dir) (rules : ℕ)
-    (r : Rules) (asked : r ≡ rulesOf rules) (x : Bool) (ex : x ≡ Regular r (log old)) where
+module _ (byte prog : ℕ) (old new : List ℕ) (dir : LfsMdir) (n : ℕ) (w : Renewable prog old new dir)
+    (regular : Regular Littlefs (log old) ≡ true) (rev : ℕ) (er : rev ≡ plus32 (dir .rev) 1) (s e : Emit)
+    (es : s ≡ begins rev (record { at = 0; left = 0 })) (b : List ℕ)
+    (ee : standing e b ≡ emits (standing s new) (renewedItems byte prog old)) where
   abbrev v : CompactVerdict
-  v = compactable (rulesOf rules) byte prog false old (log old)
+  v = anew byte prog old
 
-  pub renew-irregular : not x ≡ true → Answered byte n new v (stored.Refused Irregular) new
-  renew-irregular h = refuses byte n new new v Irregular (verdict-irregular (rulesOf rules) byte prog false old
-      (rw (← asked) (sym ex ∙ not-true x h))) refl
+  next-is : rev ≡ next byte prog old
+  next-is = er ∙ ap (λ (k : ℕ). plus32 k 1) (w .recorded .rev′)
 
-  module _ (hx : not x ≡ false) (rev : ℕ) (er : rev ≡ plus32 (dir .rev) 1) (s e : Emit)
-      (es : s ≡ begins rev (record { at = 0; left = 0 })) (b : List ℕ)
-      (ee : standing e b ≡ emits (standing s new) (renewedItems byte prog old)) where
-    ruled : Regular (rulesOf rules) (log old) ≡ true
-    ruled = rw (← asked) (sym ex ∙ not-false x hx)
+  same : b ≡ new
+  same = measured-block byte rev (renewedItems byte prog old) s e es b new ee
 
-    regular : Regular Littlefs (log old) ≡ true
-    regular = widest (rulesOf rules) (log old) ruled
+  end-is : e .end ≡ at byte prog old
+  end-is = measured-end byte rev (renewedItems byte prog old) s e es b new ee
 
-    next-is : rev ≡ next (rulesOf rules) byte prog false old
-    next-is = er ∙ ap (λ (k : ℕ). plus32 k 1) (w .recorded .rev′)
+  pub rewrite-prog : Prog prog (e .end)
+  rewrite-prog = record {
+    low = w .low;
+    high = w .high;
+    near = omega (arith, end-is, laid-most byte prog (length old) 4 (log old) (slots-few old regular));
+  }
 
-    same : b ≡ new
-    same = measured-block byte rev (renewedItems byte prog old) s e es b new ee
+  module _ (z : ℕ) (ez : z ≡ roundedEnd prog (e .end)) where
+    rounded-is : z ≡ roundedEnd prog (at byte prog old)
+    rounded-is = ez ∙ ap (roundedEnd prog) end-is
 
-    end-is : e .end ≡ at (rulesOf rules) byte prog false old
-    end-is = measured-end byte rev (renewedItems byte prog old) s e es b new ee
+    pub rewrite-full : length old < z → Answered byte n new v (stored.Refused NoSpace) b
+    rewrite-full h = refuses byte n new b v NoSpace (verdict-full byte prog old (rw (← rounded-is) h)) same
 
-    pub renew-prog : Prog prog (e .end)
-    renew-prog = record {
-      low = w .low;
-      high = w .high;
-      near = omega (arith, end-is, laid-most byte prog (length old) 4 (log old) (slots-few old regular));
-    }
+    module _ (hz : z ≤ length old) (ct : ℕ) (ect : ct ≡ checkTag byte (checkSize prog (e .end))) (y : Bool)
+        (ey : y ≡ tagCoincides byte (e .sum) (bitXor ct (e .prev))) where
+      fits : roundedEnd prog (at byte prog old) ≤ length old
+      fits = rw (← rounded-is) hz
 
-    module _ (z : ℕ) (ez : z ≡ roundedEnd prog (e .end)) where
-      rounded-is : z ≡ roundedEnd prog (at (rulesOf rules) byte prog false old)
-      rounded-is = ez ∙ ap (roundedEnd prog) end-is
+      tag-is : ct ≡ checkTag byte (checkSize prog (at byte prog old))
+      tag-is = ect ∙ ap (λ (k : ℕ). checkTag byte (checkSize prog k)) end-is
 
-      pub renew-full : length old < z → Answered byte n new v (stored.Refused NoSpace) b
-      renew-full h = refuses byte n new b v NoSpace
-          (verdict-full (rulesOf rules) byte prog false old ruled (rw (← rounded-is) h))
-          same
+      coincides-is : coincides byte (crc allOnes (toLe32 (next byte prog old))) allOnes (renewedItems byte prog old)
+          (checkTag byte (checkSize prog (at byte prog old))) ≡ y
+      coincides-is =
+          sym (ey ∙ measured-meets byte rev (renewedItems byte prog old) s e es b new ee ct ∙ rw (next-is, tag-is))
 
-      module _ (hz : z ≤ length old) (ct : ℕ) (ect : ct ≡ checkTag byte (checkSize prog (e .end))) (y : Bool)
-          (ey : y ≡ tagCoincides byte (e .sum) (bitXor ct (e .prev))) where
-        fits : roundedEnd prog (at (rulesOf rules) byte prog false old) ≤ length old
-        fits = rw (← rounded-is) hz
+      pub rewrite-coincides : y ≡ true → Answered byte n new v (stored.Refused Coincidence) b
+      rewrite-coincides h = refuses byte n new b v Coincidence
+          (verdict-coincides byte prog old fits (coincides-is ∙ h)) same
 
-        tag-is : ct ≡ checkTag byte (checkSize prog (at (rulesOf rules) byte prog false old))
-        tag-is = ect ∙ ap (λ (k : ℕ). checkTag byte (checkSize prog k)) end-is
+      pub rewrite-writes : Writable byte prog old b dir
+      rewrite-writes =
+          record {
+            low = w .low;
+            high = w .high;
+            recorded = w .recorded;
+            regular = regular;
+            room = rw (same, w .long) (verdict-room byte prog old fits (w .low));
+          }
 
-        coincides-is : coincides byte (crc allOnes (toLe32 (next (rulesOf rules) byte prog false old))) allOnes
-            (renewedItems byte prog old)
-            (checkTag byte (checkSize prog (at (rulesOf rules) byte prog false old))) ≡ y
-        coincides-is =
-            sym (ey ∙ measured-meets byte rev (renewedItems byte prog old) s e es b new ee ct ∙ rw (next-is, tag-is))
-
-        pub renew-coincides : y ≡ true → Answered byte n new v (stored.Refused Coincidence) b
-        renew-coincides h = refuses byte n new b v Coincidence
-            (verdict-coincides (rulesOf rules) byte prog false old ruled fits (coincides-is ∙ h)) same
-
-        pub renew-writes : Writable byte prog old b dir
-        renew-writes =
-            record {
-              low = w .low;
-              high = w .high;
-              recorded = w .recorded;
-              regular = regular;
-              room = rw (same, w .long) (verdict-room (rulesOf rules) byte prog false old ruled fits (w .low));
-            }
-
-        pub renew-made : y ≡ false → (k : ℕ) → k ≡ min n (compactStores (renewedItems byte prog old)) → (c : List ℕ)
-            → c ≡ writtenTo byte prog old b rev ct n → Answered byte n new v (stored.Made k) c
-        renew-made h k ek c ec =
-            rw (verdict-accepted (rulesOf rules) byte prog false old ruled fits (coincides-is ∙ h))
-            (ap stored.Made ek, ec ∙ rw (same, next-is, tag-is))
+      pub rewrite-made : y ≡ false → (k : ℕ) → k ≡ min n (compactStores (renewedItems byte prog old)) → (c : List ℕ)
+          → c ≡ writtenTo byte prog old b rev ct n → Answered byte n new v (stored.Made k) c
+      rewrite-made h k ek c ec =
+          rw (verdict-accepted byte prog old fits (coincides-is ∙ h))
+          (ap stored.Made ek, ec ∙ rw (same, next-is, tag-is))

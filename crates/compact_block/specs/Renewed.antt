@@ -5,7 +5,7 @@ use mathlib.Core.Bool.{true, false}
 use mathlib.Core.List.{List, []}
 use Prim.Native.Nat.{ℕ, _+_, _-_, _^_, _≤_, min}
 use lib.ListN.{length}
-use Rattle.format.specs.Word.{le32, toLe32, allOnes}
+use Rattle.format.specs.Word.{le32, toLe32, plus32, allOnes}
 use Rattle.format.specs.Crc.{crc}
 use Rattle.format.specs.Log.{log, logEnd, logEndTag}
 use Rattle.format.specs.Record.{countOf, noTail, tailOf, splitOf}
@@ -15,7 +15,7 @@ use Rattle.format.specs.Commit.{Item}
 use Rattle.format.specs.Stores.{compacting}
 use Rattle.format.specs.Writer.{checkLength, withForward}
 use Rattle.format.specs.Compaction.{compactionItems, compactCheckAt, compactStores, compactedTo, CompactVerdict}
-use Rattle.format.specs.Compaction.{compactRefused, compactAccepted}
+use Rattle.format.specs.Compaction.{compactRefused, compactAccepted, placedAnew}
 use Rattle.format.specs.declared.LfsMdir.{LfsMdir}
 use Rattle.commit_lay.specs.declared.Run.{Run}
 use Rattle.compact_entries.specs.declared.Emit.{Emit}
@@ -60,6 +60,10 @@ writtenTo byte prog old new rev ct n =
     compacting byte new rev (renewedItems byte prog old) ct
     (length new - (compactCheckAt (renewedItems byte prog old) + checkLength))
     (min n (compactStores (renewedItems byte prog old)))
+
+-- the verdict on a log that is regular
+abbrev pub anew : ℕ → ℕ → List ℕ → CompactVerdict
+anew byte prog old = placedAnew byte prog (length old) false (plus32 (le32 old) 1) (renewedItems byte prog old)
 
 -- the other block after the first n stores, by the verdict
 abbrev pub renewedTo : ℕ → ℕ → List ℕ → CompactVerdict → List ℕ

@@ -52,7 +52,7 @@ unfolding entriesLength
 class-most id none = omega arith
 class-most id (some v) = omega (arith, length-most (tagOf (v .type) id (length (v .bytes))))
 
-slot-most : (n c id : ℕ) (s : Slot) → entriesLength (slotItems n c id s) ≤ n * 1_026
+pub slot-most : (n c id : ℕ) (s : Slot) → entriesLength (slotItems n c id s) ≤ n * 1_026
 unfolding entriesLength slotItems
 slot-most zero c id s = omega arith
 slot-most (suc n) c id s =

@@ -105,14 +105,16 @@ unfolding bodyOf
 no-body dat = refl
 
 -- r stands behind the create, whose tag is k
-pub slot-created : (s r : Standing) (dat : List ℕ) (id k : ℕ) (is : List Item) → id < 2 ^ 10 → k ≡ mkTag typeCreate id 0
-    → r ≡ emitted s (record { tag = k; body = bodyOf dat 0 0 })
+pub create-done : (s r : Standing) (dat : List ℕ) (id k : ℕ) → id < 2 ^ 10 → k ≡ mkTag typeCreate id 0
+    → r ≡ emitted s (record { tag = k; body = bodyOf dat 0 0 }) → r ≡ emitted s (createItem id)
+create-done s r dat id k low ek er =
+    er ∙ ap₂ (λ (p : ℕ) (q : List ℕ). emitted s (record { tag = p; body = q }))
+    (made-tag k typeCreate id 0 ek (omega arith) low (omega arith)) (no-body dat)
+
+pub slot-created : (s r : Standing) (id : ℕ) (is : List Item) → r ≡ emitted s (createItem id)
     → emits s (createItem id ∷ is) ≡ emits r is
 unfolding emits
-slot-created s r dat id k is low ek er =
-    ap (λ (z : Standing). emits z is)
-    (sym (er ∙ ap₂ (λ (p : ℕ) (q : List ℕ). emitted s (record { tag = p; body = q }))
-    (made-tag k typeCreate id 0 ek (omega arith) low (omega arith)) (no-body dat)))
+slot-created s r id is er = ap (λ (z : Standing). emits z is) (sym er)
 
 class-next : (c id : ℕ) (s : Slot) → c < classes → slotItems (classes - c) c id s ≡ classItems id (s c)
     ++ slotItems (classes - (c + 1)) (c + 1) id s

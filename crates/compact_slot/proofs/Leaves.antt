@@ -9,10 +9,10 @@ use lib.Dec.{eqb}
 use borrow.Author.Tests.{eq-eqb, ne-eqb, lt-ltb, le-ltb, le-leb, lt-leb}
 use Rattle.format.specs.Tag.{tagType1, tagType3, tagChunk, tagId, tagSize, tagDelete, tagLength, mkTag, tagOf}
 use Rattle.format.specs.Kind.{typeName, typeDirStruct, typeUserAttr, typeCreate, typeDelete}
-use Rattle.format.specs.Directory.{classes}
+use Rattle.format.specs.Directory.{classes, seatClass}
 use Rattle.format.specs.declared.Hit.the-variants as hit
 use Rattle.format.proofs.Words.{mkTag-sum}
-use Rattle.compact_slot.specs.Seat.{seatOff, hitOf, seatClass, createdAt, idBefore, seated, noted}
+use Rattle.compact_slot.specs.Seat.{seatOff, hitOf, createdAt, idBefore, seated, noted}
 
 module _ (t x : ℕ) (ex : x ≡ tagType1 t) where
   pub class-name : x ≡ typeName → 0 ≡ seatClass t

@@ -12,7 +12,7 @@ use borrow.Author.Tests.{eq-eqb, ne-eqb, eqb-true, eqb-false, lt-ltb, ltb-true, 
 use Rattle.format.specs.Tag.{tagType1, tagType3, tagChunk, tagId, tagSize, tagDelete, tagLength, tagOf}
 use Rattle.format.specs.Kind.{isName, typeName, typeDirStruct, typeUserAttr, typeCreate, typeDelete}
 use Rattle.format.specs.Back.{Met, back}
-use Rattle.format.specs.Directory.{classes, Load, Act, mk, rm, put, skip, isStruct, isAttr, loadOf, act}
+use Rattle.format.specs.Directory.{classes, Load, Act, mk, rm, put, skip, isStruct, isAttr, seatClass, loadOf, act}
 use Rattle.format.specs.Look.{HitIn}
 use Rattle.format.specs.declared.Hit.the-variants as hit
 use Rattle.format.proofs.Tags.{of-size}
@@ -20,11 +20,11 @@ use Rattle.format.proofs.Searched.{found-in}
 use Rattle.theory.specs.Walk.Step.{both-true}
 use Rattle.theory.specs.Directory.Machine.{find}
 use Rattle.theory.specs.Directory.Types.{type1-of}
-use Rattle.theory.specs.Back.BackActs.{seen}
-use Rattle.theory.specs.Lookup.ByMask.{bytesAt, holds, Answers, metAs, met-held}
+use Rattle.theory.specs.Back.BackActs.{bytesAt, seenAs, seen}
+use Rattle.theory.specs.Lookup.ByMask.{holds, Answers, metAs, bytes-held}
 use Rattle.lookup_back.specs.Step.{Ends, tagBefore}
 use Rattle.lookup_back.proofs.Step.{back-over, back-on}
-use Rattle.compact_slot.specs.Seat.{seatTag, seatOff, hitOf, hitAt, seatClass, createdAt, idBefore, seated, noted}
+use Rattle.compact_slot.specs.Seat.{seatTag, seatOff, hitOf, hitAt, createdAt, idBefore, seated, noted}
 use Rattle.compact_slot.specs.Seat.{Gathered}
 
 -- ---- the search over one act more
@@ -117,7 +117,7 @@ module _ (b : List ℕ) (t at id : ℕ) (low : id < 2 ^ 10) where
           ≡ cond gone none (some (record { type = tagType3 t; bytes = bytesAt b m })))
           × Answers id (cond gone hit.Nothing (hit.Found (metAs m (named t id))))
       go true e = (refl, tt)
-      go false e = met-held b m id (named t id) refl low e
+      go false e = bytes-held b m id (named t id) refl low e
 
   seat-inside : at + tagLength t ≤ length b → HitIn (length b) (hitOf (named t id) (at + 4))
   seat-inside h = rw seat-is (go (tagDelete t) refl)
@@ -344,7 +344,7 @@ module _ (b : List ℕ) (all : List Act) (id off t slot : ℕ) (seats : List ℕ
     older = map (seen b) (back b at (tagBefore b at t))
 
     here : Gathering b all id (act t (bytesAt b (record { tag = t; off = at })) ∷ older) slot seats
-    unfolding seen
+    unfolding seenAs
     here = rw (back-on b off t at e) at g
 
     pub walk-created : made ≡ true → Gathered b all id seats

@@ -6,9 +6,9 @@ use mathlib.Core.List.{List}
 use Prim.Native.Nat.{ℕ, _+_, _-_, _*_, _^_, _≤_, _<_}
 use lib.ListN.{length, getD, set}
 use lib.Dec.{eqb, leb, ltb}
-use Rattle.format.specs.Tag.{tagType3, tagChunk, tagId, tagSize, tagDelete, tagLength, tagOf}
-use Rattle.format.specs.Kind.{isName, typeCreate, typeDelete}
-use Rattle.format.specs.Directory.{classes, Act, isStruct, isAttr}
+use Rattle.format.specs.Tag.{tagType3, tagId, tagSize, tagDelete, tagLength, tagOf}
+use Rattle.format.specs.Kind.{typeCreate, typeDelete}
+use Rattle.format.specs.Directory.{classes, seatClass, Act}
 use Rattle.format.specs.Look.{HitIn}
 use Rattle.format.specs.declared.Hit.{Hit}
 use Rattle.format.specs.declared.Hit.the-variants as hit
@@ -30,10 +30,6 @@ hitOf t off =
 
 abbrev pub hitAt : List ℕ → ℕ → Hit
 hitAt seats c = hitOf (seatTag seats c) (seatOff seats c)
-
--- the class of what an entry sets in its slot, or `classes`
-unfoldable pub seatClass : ℕ → ℕ
-seatClass t = cond (isName t) 0 (cond (isStruct t) 1 (cond (isAttr t) (2 + tagChunk t) classes))
 
 -- a create of exactly this id: the slot's own
 unfoldable pub createdAt : ℕ → ℕ → Bool

@@ -6,7 +6,8 @@ ghost use mathlib.Core.List.{map};
 ghost use Prim.Native.Nat.{_+_, _^_, _<_};
 ghost use Rattle.format.specs.Back.{back};
 ghost use Rattle.theory.specs.Back.BackActs.{seen};
-ghost use Rattle.compact_slot.specs.Seat.{hitAt, seatClass, createdAt, idBefore, noted, Gatherable, Gathered};
+ghost use Rattle.format.specs.Directory.{seatClass};
+ghost use Rattle.compact_slot.specs.Seat.{hitAt, createdAt, idBefore, noted, Gatherable, Gathered};
 use format::Found;
 use format::Hit;
 use format::types::*;
@@ -37,7 +38,7 @@ pub fn found(seats: &[u32; 516], class: usize) -> Hit
 
 // The class of what an entry sets in its slot: 0 the name, 1 the struct, 2 + u the user attribute u, and 258 none of
 // them.
-fn class_of(tag: u32) -> usize
+pub fn class_of(tag: u32) -> usize
     ensures { λ r. ⌜ r ≡ seatClass tag ⌝ }
 {
     let type1 = tag::lfs_tag_type1(tag);
@@ -98,25 +99,37 @@ fn note(seats: &mut [u32; 516], tag: u32, at: usize, slot: usize, id: u32)
 }
 
 // The seats of the slot `id`, from the end of a log and the tag that ends there: two words for each class, the newest
-// entry's tag with the id, and the offset of its first data byte.
-pub fn gather(b: &[u8], end: usize, etag: u32, id: u32) -> [u32; 516]
+// entry's tag with the id, and the offset of its first data byte. The array is lent, since a copy of it is most of what
+// a compaction's stack holds; what stands in it before is not read.
+pub fn gather_into(b: &[u8], end: usize, etag: u32, id: u32, seats: &mut [u32; 516])
     requires { ⌜ Gatherable (now b) end id ⌝ }
-    ensures { λ r. ⌜ Gathered (now (b .entry)) (map (seen (now (b .entry))) (back (now (b .entry)) end etag)) id r ⌝ }
+    ensures { λ _. ⌜ Gathered (now (b .entry)) (map (seen (now (b .entry))) (back (now (b .entry)) end etag)) id
+        (now (seats .exit)) ⌝ }
 {
-    let mut seats = [0u32; 516];
+    *seats = [0u32; 516];
     let mut off = end;
     let mut tag = etag;
     let mut slot = id as usize;
     loop {
         let Back::At(at) = lookup_back::place(off, tag) else {
-            return seats;
+            return;
         };
         if created(tag, slot) {
-            return seats;
+            return;
         }
-        note(&mut seats, tag, at, slot, id);
+        note(seats, tag, at, slot, id);
         slot = id_before(tag, slot);
         tag = lookup_back::tag_before(b, at, tag);
         off = at;
     }
+}
+
+// The same in an array of its own.
+pub fn gather(b: &[u8], end: usize, etag: u32, id: u32) -> [u32; 516]
+    requires { ⌜ Gatherable (now b) end id ⌝ }
+    ensures { λ r. ⌜ Gathered (now (b .entry)) (map (seen (now (b .entry))) (back (now (b .entry)) end etag)) id r ⌝ }
+{
+    let mut seats = [0u32; 516];
+    gather_into(b, end, etag, id, &mut seats);
+    seats
 }

@@ -1,4 +1,5 @@
--- `compact_block::write` meets its contract: all calls are one run of compaction's bytes over an erased block. Assumes
+-- `compact_block::write` meets its contract: all calls are one run of compaction's bytes over an erased block.
+-- Assumes
 -- nothing.
 use native.Mathlib.Omega.{arith}
 use Rattle.compact_block.proofs.Storing.{pass-none, reads-all, pass-made, pass-block}
@@ -7,71 +8,73 @@ use Rattle.compact_block.proofs.write.Statement.{statement}
 use Rattle.compact_block.proofs.write.Tie as tie
 
 returns : tie.Need-returns
-returns c = pass-none (c .before .before .before .args .erased) (c .before .before .before .args .prog)
-    (c .before .before .before .args .old .now) _ _
-    (c .before .before .before .args .tag) _ (c .if1 .taken)
+returns c =
+    let a = c .before .before .before .before .args in
+    pass-none (a .erased) (a .prog) (a .old .now) _ _ (a .tag) _ (c .if1 .taken)
 
 entries-requires : tie.Need-entries-requires
 entries-requires c κs =
-    let w = c .before .before .before .before .before .before .before .before .before .before .before .before .before
-    .pre in
-    rw (c .begin .ensures) (reads-all _ (w .low) (w .high) _ _ _ _ (w .recorded) (w .regular))
+    let p = c .before .before .before .before .before .before .before .before .before .before .before .before
+    .before .before .pre in
+    let w = p .0 in
+    (rw (c .before .begin .ensures) (reads-all _ (w .low) (w .high) _ _ _ _ (w .recorded) (w .regular)), p .1)
 
 cast-result : tie.Need-cast-result
-cast-result c = omega (
-  arith,
-  pass-made _ _ _ _ _ (c .before .before .before .before .before .before .before .before .before
-      .before .before .before .before .before .before .before .before .before .before .before .before .pre) _ _ _
-      (c .before .before .before .before .before .before .before .before .before .before .before .before .before .before
-      .before .before .before .before .if1 .left) _ (c .before .before .before .before .before .before .before .before
-      .before .before .before .before .before .before .before .before .erase .ensures) _
-      (c .before .before .before .before .before .before .before .before .before .before .before .before .put-le32
-      .ensures) _ _ (c .before .before .before .before .before .before .before .before .begin .ensures) _
-      (c .before .before .before .before .before .before .before .entries .ensures) _
-      (c .before .before .before .check .ensures),
-  c .before .before .before .before .before .before .before .before
-      .before .before .before .before .before .before .before .before .before .before .before .before .before .fits
-      .stores,
-)
+cast-result c =
+    let made = pass-made _ _ _ _ _ (c .before .before .before .before .before .before .before .before .before
+    .before .before .before .before .before .before .before .before .before .before .before .before .before .pre .0)
+    _ _ _ (c .before .before .before .before .before .before .before .before .before .before .before .before .before
+    .before .before .before .before .before .if1 .left) _ (c .before .before .before .before .before .before .before
+    .before .before .before .before .before .before .before .before .before .erase .ensures) _ (c .before .before
+    .before .before .before .before .before .before .before .before .before .before .put-le32 .ensures) _ _
+    (c .before .before .before .before .before .before .before .before .before .begin .ensures) _ (c .before .before
+    .before .before .before .before .before .entries .ensures) _ (c .before .before .before .check .ensures) in
+    omega (
+      arith,
+      made,
+      c .before .before .before .before .before .before .before .before .before .before .before
+          .before .before .before .before .before .before .before .before .before .before .before .fits .stores,
+    )
 
 add-result : tie.Need-add-result
-add-result c = omega (
-  arith,
-  pass-made _ _ _ _ _ (c .before .before .before .before .before .before .before .before .before
-      .before .before .before .before .before .before .before .before .before .before .before .before .pre) _ _ _
-      (c .before .before .before .before .before .before .before .before .before .before .before .before .before .before
-      .before .before .before .before .if1 .left) _ (c .before .before .before .before .before .before .before .before
-      .before .before .before .before .before .before .before .before .erase .ensures) _
-      (c .before .before .before .before .before .before .before .before .before .before .before .before .put-le32
-      .ensures) _ _ (c .before .before .before .before .before .before .before .before .begin .ensures) _
-      (c .before .before .before .before .before .before .before .entries .ensures) _
-      (c .before .before .before .check .ensures),
-  c .before .before .before .before .before .before .before .before
-      .before .before .before .before .before .before .before .before .before .before .before .before .before .fits
-      .stores,
-)
+add-result c =
+    let made = pass-made _ _ _ _ _ (c .before .before .before .before .before .before .before .before .before
+    .before .before .before .before .before .before .before .before .before .before .before .before .before .pre .0)
+    _ _ _ (c .before .before .before .before .before .before .before .before .before .before .before .before .before
+    .before .before .before .before .before .if1 .left) _ (c .before .before .before .before .before .before .before
+    .before .before .before .before .before .before .before .before .before .erase .ensures) _ (c .before .before
+    .before .before .before .before .before .before .before .before .before .before .put-le32 .ensures) _ _
+    (c .before .before .before .before .before .before .before .before .before .begin .ensures) _ (c .before .before
+    .before .before .before .before .before .entries .ensures) _ (c .before .before .before .check .ensures) in
+    omega (
+      arith,
+      made,
+      c .before .before .before .before .before .before .before .before .before .before .before
+          .before .before .before .before .before .before .before .before .before .before .before .fits .stores,
+    )
 
 returns-2 : tie.Need-returns-2
 returns-2 c = (
-  pass-made _ _ _ _ _ (c .before .before .before .before .before .before .before .before .before .before
-      .before .before .before .before .before .before .before .before .before .before .before .pre) _ _ _
-      (c .before .before .before .before .before .before .before .before .before .before .before .before .before .before
-      .before .before .before .before .if1 .left) _ (c .before .before .before .before .before .before .before .before
-      .before .before .before .before .before .before .before .before .erase .ensures) _
-      (c .before .before .before .before .before .before .before .before .before .before .before .before .put-le32
-      .ensures) _ _ (c .before .before .before .before .before .before .before .before .begin .ensures) _
-      (c .before .before .before .before .before .before .before .entries .ensures) _
-      (c .before .before .before .check .ensures),
-  pass-block _ _ _ _ _
-      (c .before .before .before .before .before .before .before .before .before .before .before .before .before .before
-      .before .before .before .before .before .before .before .pre) _ _ _
-      (c .before .before .before .before .before .before .before .before .before .before .before .before .before .before
-      .before .before .before .before .if1 .left) _ (c .before .before .before .before .before .before .before .before
-      .before .before .before .before .before .before .before .before .erase .ensures) _
-      (c .before .before .before .before .before .before .before .before .before .before .before .before .put-le32
-      .ensures) _ _ (c .before .before .before .before .before .before .before .before .begin .ensures) _
-      (c .before .before .before .before .before .before .before .entries .ensures) _
-      (c .before .before .before .check .ensures),
+  pass-made _ _ _ _ _ (c .before .before .before .before .before .before .before .before .before .before .before
+      .before .before .before .before .before .before .before .before .before .before .before .pre .0) _ _ _
+      (c .before .before .before .before .before .before .before .before .before .before .before .before .before
+      .before .before .before .before .before .if1 .left) _ (c .before .before .before .before .before .before
+      .before .before .before .before .before .before .before .before .before .before .erase .ensures) _ (c .before
+      .before .before .before .before .before .before .before .before .before .before .before .put-le32 .ensures) _
+      _
+      (c .before .before .before .before .before .before .before .before .before .begin .ensures) _ (c .before
+      .before .before .before .before .before .before .entries .ensures) _ (c .before .before .before .check
+      .ensures),
+  pass-block _ _ _ _ _ (c .before .before .before .before .before .before .before .before .before .before .before
+      .before .before .before .before .before .before .before .before .before .before .before .pre .0) _ _ _
+      (c .before .before .before .before .before .before .before .before .before .before .before .before .before
+      .before .before .before .before .before .if1 .left) _ (c .before .before .before .before .before .before
+      .before .before .before .before .before .before .before .before .before .before .erase .ensures) _ (c .before
+      .before .before .before .before .before .before .before .before .before .before .before .put-le32 .ensures) _
+      _
+      (c .before .before .before .before .before .before .before .before .before .begin .ensures) _ (c .before
+      .before .before .before .before .before .before .entries .ensures) _ (c .before .before .before .check
+      .ensures),
 )
 
 pub write-spec : {M : Type 1} → statement M

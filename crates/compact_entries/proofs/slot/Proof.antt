@@ -24,21 +24,21 @@ abbrev μ-loop : tie.MeasureT-loop
 μ-loop old new₀ id seats w₀ class₀ new w class = classes - class
 
 loop-holds : tie.Need-loop-holds Inv-loop μ-loop
-loop-holds c = (omega arith, omega (arith, entry-within _ _ _ (c .before .before .entry .ensures)), refl, refl)
+loop-holds c = (omega arith, omega (arith, entry-within _ _ _ (c .before .before .create .ensures)), refl, refl)
 
 found-entry-requires : tie.Need-found-entry-requires Inv-loop μ-loop
 found-entry-requires c κs = (
   omega arith,
-  rw (c .found .ensures) (c .before .before .before .before .before .before .before .before .before .before .before .pre
-      .inside (c .before .before .before .loop .class) (c .before .before .loop-test .taken)),
+  rw (c .found .ensures) (c .before .before .before .before .before .before .before .before .before .before .pre .inside
+      (c .before .before .before .loop .class) (c .before .before .loop-test .taken)),
 )
 
 loop-again : tie.Need-loop-again Inv-loop μ-loop
 loop-again c =
     let p = c .before .before .before .before .before .before .before .before .before .before .before .before .before
-    .before .pre in
+    .pre in
     let a = c .before .before .before .before .before .before .before .before .before .before .before .before .before
-    .before .args in
+    .args in
     let l = c .before .before .before .before .before .before .loop in
     let more = c .before .before .before .before .before .loop-test .taken in
     let laid = seat-laid (a .old .now) (a .id) (a .seats .now) (l .class) (p .inside (l .class) more)
@@ -51,15 +51,12 @@ loop-again c =
     )
 
 returns : tie.Need-returns Inv-loop μ-loop
-returns c = slot-done _ _ _ _ _ (c .loop-test .left) (c .before .loop .inv .3)
-    ∙ sym (slot-created _ _ _ _ _ _ (c .before .before .before .before .before .before .before .before .before
-    .pre
-    .slot) (c .before .before .before .before .before .lfs-mktag .ensures)
-    (c .before .before .before .before .entry .ensures))
+returns c = slot-done _ _ _ _ _ (c .loop-test .left) (c .before .loop .inv .3) ∙ sym (slot-created _ _ _ _ (c .before
+    .before .before .before .create .ensures))
 
 pub slot-spec : {M : Type 1} → statement M
 slot-spec =
     tie.close
-    (tie.spec Inv-loop μ-loop (λ c. search needs) (λ c κs. search needs) (λ c κs. omega arith) loop-holds
+    (tie.spec Inv-loop μ-loop (λ c κs. omega arith) loop-holds
     (λ c κs. search needs) found-entry-requires (λ c. omega arith) (λ c. omega arith) loop-again
     (λ c. search needs) returns)

@@ -1,5 +1,5 @@
--- `compact_slot::gather` meets its contract. The loop keeps what a free seat may still find (`Gathering`); the offset
--- falls, and the slot's id grows by less than it. Assumes nothing.
+-- `compact_slot::gather_into` meets its contract. The loop keeps what a free seat may still find (`Gathering`); the
+-- offset falls, and the slot's id grows by less than it. Assumes nothing.
 use mathlib.Core.List.{map}
 use Prim.Native.Nat.{_+_, _≤_}
 use native.Mathlib.Omega.{arith}
@@ -8,8 +8,8 @@ use Rattle.theory.specs.Back.BackActs.{seen}
 use Rattle.lookup_back.proofs.Step.{back-word, placed-at, placed-over}
 use Rattle.compact_slot.proofs.Turn.{Gathering, starts, id-before-most, walk-over, walk-created, walk-on}
 use borrow.Author.Needs.{needs}
-use Rattle.compact_slot.proofs.gather.Statement.{statement}
-use Rattle.compact_slot.proofs.gather.Tie as tie
+use Rattle.compact_slot.proofs.gather_into.Statement.{statement}
+use Rattle.compact_slot.proofs.gather_into.Tie as tie
 
 abbrev Inv-loop : tie.InvT-loop
 Inv-loop b end etag id seats₀ off₀ tag₀ slot₀ seats off tag slot =
@@ -87,8 +87,8 @@ loop-again
           (c .tag-before .ensures),
     )
 
-pub gather-spec : {M : Type 1} → statement M
-gather-spec =
+pub gather-into-spec : {M : Type 1} → statement M
+gather-into-spec =
     tie.close
     (tie.spec Inv-loop μ-loop loop-holds (λ c κs. search needs) (λ c. search needs) (λ c. search needs) returns
     (λ c κs. search needs) returns-2 note-requires (λ c κs. omega arith) tag-before-requires loop-less loop-again)
