@@ -35,7 +35,8 @@ ROOT = os.path.join(os.path.dirname(os.path.abspath(__file__)), "..")
 
 # The functions that are calls, one after the other: crate, name, and the law that is cited.
 CALLS = [
-    ("commit", "run", "run-glue"),
+    ("commit", "judge", "judge-glue"),
+    ("commit", "lay", "lay-glue"),
     ("commit", "lfs_dir_commit", "commit-glue"),
     ("commit", "lfs_dir_commit_stores", "stores-glue"),
     ("lanolin", "lanolin_commit", "commit-glue"),

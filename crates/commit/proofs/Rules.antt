@@ -19,7 +19,7 @@ use Rattle.theory.specs.Stopped.Refetch.{refetch-behind}
 use Rattle.commit_steps.specs.State.{Trio, trio, begunOf, decidedOf, sealedOf, answeredOf, madeOf}
 use Rattle.commit_steps.specs.declared.State.{State}
 use Rattle.commit.proofs.Whole.{ran}
-use Rattle.commit.specs.Passes.{entryAt, stepE, eachOf, passOf, decideT, sealT, ranOf}
+use Rattle.commit.specs.Passes.{entryAt, stepE, eachOf, decideT, sealT, judgedFrom, laidFrom, ranOf}
 
 -- ---- the loop
 module _ (es : List Entry) (dat b0 b1 : List ℕ) (st : State) where
@@ -42,34 +42,45 @@ stopped : (g : Geometry) (b0 b1 : List ℕ) (n0 n1 count seed rules byte : ℕ) 
 stopped g b0 b1 n0 n1 count seed rules byte es dat n x0 y0 ex ey = rw (ex, ey)
     (stopped-commit g b0 b1 n0 n1 count seed rules byte es dat n)
 
--- ---- the steps, one after the other
-module _ (b0 b1 : List ℕ) (es : List Entry) (dat : List ℕ) (g : Geometry) (n0 n1 count seed rules byte : ℕ) where
-  pub run-glue : (stores : ℕ) (r0 r1 : State) (x1 y1 : List ℕ) (r2 r3 : State) (x3 y3 : List ℕ) (r4 : State)
-      (x4 y4 : List ℕ)
-      → r0 ≡ begunOf g b0 b1 n0 n1 count seed rules byte (length es) dat
-      → trio r1 x1 y1 ≡ eachOf (length es) es dat b0 b1 r0
-      → r2 ≡ decidedOf byte r1 g x1 y1 stores
-      → trio r3 x3 y3 ≡ eachOf (length es) es dat x1 y1 r2
-      → trio r4 x4 y4 ≡ sealedOf r3 x3 y3
-      → trio r4 x4 y4 ≡ ranOf g b0 b1 n0 n1 count seed rules byte es dat stores
-  unfolding ranOf
-  run-glue stores r0 r1 x1 y1 r2 r3 x3 y3 r4 x4 y4 e0 e1 e2 e3 e4 =
-      let f1 : trio r1 x1 y1 ≡ passOf es dat (trio
-      (begunOf g b0 b1 n0 n1 count seed rules byte (length es) dat) b0 b1) =
-      e1 ∙ ap (λ (s : State). eachOf (length es) es dat b0 b1 s) e0 in
-      let f2 : trio r2 x1 y1 ≡ decideT byte g stores (trio r1 x1 y1) = ap (λ (s : State). trio s x1 y1) e2 in
-      let f3 : trio r3 x3 y3 ≡ passOf es dat (decideT byte g stores (trio r1 x1 y1)) = e3 ∙ ap (passOf es dat) f2 in
-      e4 ∙ ap sealT (f3 ∙ ap (λ (t : Trio). passOf es dat (decideT byte g stores t)) f1)
+-- ---- the passes
+module _ (b0 b1 : List ℕ) (es : List Entry) (dat : List ℕ) (s : State) where
+  pub judge-glue : (g : Geometry) (byte stores : ℕ) (r0 : State) (x0 y0 : List ℕ) (r1 : State)
+      → trio r0 x0 y0 ≡ eachOf (length es) es dat b0 b1 s
+      → r1 ≡ decidedOf byte r0 g x0 y0 stores
+      → trio r1 x0 y0 ≡ judgedFrom s g b0 b1 byte es dat stores
+  unfolding judgedFrom
+  judge-glue g byte stores r0 x0 y0 r1 e0 e1 = ap (λ (u : State). trio u x0 y0) e1 ∙ ap (decideT byte g stores) e0
 
-  pub commit-glue : (n : ℕ) (r0 : State) (x0 y0 : List ℕ) (r1 : Committed) → n ≡ unlimited
-      → trio r0 x0 y0 ≡ ranOf g b0 b1 n0 n1 count seed rules byte es dat n
+  pub lay-glue : (r0 : State) (x0 y0 : List ℕ) (r1 : State) (x1 y1 : List ℕ)
+      → trio r0 x0 y0 ≡ eachOf (length es) es dat b0 b1 s
+      → trio r1 x1 y1 ≡ sealedOf r0 x0 y0
+      → trio r1 x1 y1 ≡ laidFrom s b0 b1 es dat
+  unfolding laidFrom
+  lay-glue r0 x0 y0 r1 x1 y1 e0 e1 = e1 ∙ ap sealT e0
+
+-- ---- begin, the passes, and the answer
+module _ (b0 b1 : List ℕ) (es : List Entry) (dat : List ℕ) (g : Geometry) (n0 n1 count seed rules byte : ℕ) where
+  all : (n : ℕ) (s0 s1 : State) (x1 y1 : List ℕ) (s2 : State) (x2 y2 : List ℕ)
+      → s0 ≡ begunOf g b0 b1 n0 n1 count seed rules byte (length es) dat
+      → trio s1 x1 y1 ≡ judgedFrom s0 g b0 b1 byte es dat n
+      → trio s2 x2 y2 ≡ laidFrom s1 x1 y1 es dat
+      → trio s2 x2 y2 ≡ ranOf g b0 b1 n0 n1 count seed rules byte es dat n
+  all n s0 s1 x1 y1 s2 x2 y2 e0 e1 e2 = e2 ∙ ap (λ (t : Trio). laidFrom (t .st) (t .b0) (t .b1) es dat)
+      (e1 ∙ ap (λ (s : State). judgedFrom s g b0 b1 byte es dat n) e0)
+
+  pub commit-glue : (n : ℕ) (s0 s1 : State) (x1 y1 : List ℕ) (r0 : State) (x0 y0 : List ℕ) (r1 : Committed)
+      → n ≡ unlimited
+      → s0 ≡ begunOf g b0 b1 n0 n1 count seed rules byte (length es) dat
+      → trio s1 x1 y1 ≡ judgedFrom s0 g b0 b1 byte es dat n
+      → trio r0 x0 y0 ≡ laidFrom s1 x1 y1 es dat
       → r1 ≡ answeredOf r0 (refetchOf g x0 y0 n0 n1 count)
       → (r1 ≡ commitOf g b0 b1 n0 n1 count seed rules byte es dat)
       × CommitLeaves g b0 b1 n0 n1 count seed rules byte es dat x0 y0
   unfolding commitOf commitImages
-  commit-glue n r0 x0 y0 r1 en e0 e1 =
+  commit-glue n s0 s1 x1 y1 r0 x0 y0 r1 en begins judges lays e1 =
       let e : trio r0 x0 y0 ≡ ranOf g b0 b1 n0 n1 count seed rules byte es dat unlimited =
-      e0 ∙ ap (λ (k : ℕ). ranOf g b0 b1 n0 n1 count seed rules byte es dat k) en in
+      all n s0 s1 x1 y1 r0 x0 y0 begins judges lays
+      ∙ ap (λ (k : ℕ). ranOf g b0 b1 n0 n1 count seed rules byte es dat k) en in
       let t = ran g b0 b1 n0 n1 count seed rules byte es dat unlimited in
       let ex : x0 ≡ commitImages g b0 b1 n0 n1 count seed rules byte es dat unlimited .b0 =
       ap (λ (u : Trio). u .b0) e ∙ t .first in
@@ -85,13 +96,16 @@ module _ (b0 b1 : List ℕ) (es : List Entry) (dat : List ℕ) (g : Geometry) (n
       (verdictOf g b0 b1 n0 n1 count seed rules byte es dat)) in
       (answers, (ex, ey, stopped-commit g b0 b1 n0 n1 count seed rules byte es dat))
 
-  pub stores-glue : (stores : ℕ) (r0 : State) (x0 y0 : List ℕ) (r1 : Stored)
-      → trio r0 x0 y0 ≡ ranOf g b0 b1 n0 n1 count seed rules byte es dat stores
+  pub stores-glue : (stores : ℕ) (s0 s1 : State) (x1 y1 : List ℕ) (r0 : State) (x0 y0 : List ℕ) (r1 : Stored)
+      → s0 ≡ begunOf g b0 b1 n0 n1 count seed rules byte (length es) dat
+      → trio s1 x1 y1 ≡ judgedFrom s0 g b0 b1 byte es dat stores
+      → trio r0 x0 y0 ≡ laidFrom s1 x1 y1 es dat
       → r1 ≡ madeOf r0 stores
       → (r1 ≡ commitStoresOf g b0 b1 n0 n1 count seed rules byte es dat stores)
       × CommitStoresLeaves g b0 b1 n0 n1 count seed rules byte es dat stores x0 y0
   unfolding commitStoresOf commitImages
-  stores-glue stores r0 x0 y0 r1 e0 e1 =
+  stores-glue stores s0 s1 x1 y1 r0 x0 y0 r1 begins judges lays e1 =
+      let e0 = all stores s0 s1 x1 y1 r0 x0 y0 begins judges lays in
       let t = ran g b0 b1 n0 n1 count seed rules byte es dat stores in
       let ex : x0 ≡ commitImages g b0 b1 n0 n1 count seed rules byte es dat stores .b0 = ap (λ (u : Trio). u .b0) e0 ∙ t
       .first in

@@ -57,7 +57,7 @@ use Rattle.commit_steps.specs.declared.Judging.{Judging}
 use Rattle.commit_steps.specs.declared.Laying.{Laying}
 use Rattle.commit_steps.specs.declared.Phase.{Phase}
 use Rattle.commit_steps.specs.declared.Phase.the-variants.{Refused, Judge, Lay}
-use Rattle.commit.specs.Passes.{passOf, decideT, sealT, ranOf}
+use Rattle.commit.specs.Passes.{passOf, decideT, sealT, judgedFrom, laidFrom, ranOf}
 use Rattle.commit.proofs.Folded.{foldE, pass-fold, laid-refused, decided-refused, all-refused}
 use Rattle.commit.proofs.Chained.{lastTag, lastSum, tag-app, sum-app, meets-last, bytes-length}
 use Rattle.commit.proofs.Judges.{after, phaseOf, judge-pass, items-long}
@@ -396,7 +396,7 @@ module _ (g : Geometry) (b0 b1 : List ℕ) (n0 n1 count seed rules byte : ℕ) (
 
   pub ran : Ran byte F b0 b1 n (verdictOf g b0 b1 n0 n1 count seed rules byte entries dat)
       (ranOf g b0 b1 n0 n1 count seed rules byte entries dat n)
-  unfolding verdictOf ranOf begunOf
+  unfolding verdictOf judgedFrom laidFrom begunOf
   ran = go (commitFits g (length b0) (length b1) n0 n1 rules byte (length entries) (length dat)) refl
     where
       go : (x : Bool) → commitFits g (length b0) (length b1) n0 n1 rules byte (length entries) (length dat) ≡ x

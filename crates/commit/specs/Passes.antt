@@ -30,8 +30,16 @@ decideT byte g stores t = trio (decidedOf byte (t .st) g (t .b0) (t .b1) stores)
 abbrev pub sealT : Trio → Trio
 sealT t = sealedOf (t .st) (t .b0) (t .b1)
 
--- begin, judge every entry, decide, lay every entry, seal; `byte` is the erased one
-unfoldable pub ranOf : Geometry → List ℕ → List ℕ → ℕ → ℕ → ℕ → ℕ → ℕ → ℕ → List Entry → List ℕ → ℕ → Trio
+-- from a begun state: judge every entry, decide; `byte` is the erased one
+unfoldable pub judgedFrom : State → Geometry → List ℕ → List ℕ → ℕ → List Entry → List ℕ → ℕ → Trio
+judgedFrom s g b0 b1 byte es dat stores = decideT byte g stores (passOf es dat (trio s b0 b1))
+
+-- from what was decided: lay every entry, seal
+unfoldable pub laidFrom : State → List ℕ → List ℕ → List Entry → List ℕ → Trio
+laidFrom s b0 b1 es dat = sealT (passOf es dat (trio s b0 b1))
+
+-- begin, and both
+abbrev pub ranOf : Geometry → List ℕ → List ℕ → ℕ → ℕ → ℕ → ℕ → ℕ → ℕ → List Entry → List ℕ → ℕ → Trio
 ranOf g b0 b1 n0 n1 count seed rules byte es dat stores =
-    sealT (passOf es dat (decideT byte g stores
-    (passOf es dat (trio (begunOf g b0 b1 n0 n1 count seed rules byte (length es) dat) b0 b1))))
+    let t : Trio = judgedFrom (begunOf g b0 b1 n0 n1 count seed rules byte (length es) dat) g b0 b1 byte es dat stores in
+    laidFrom (t .st) (t .b0) (t .b1) es dat

@@ -7,7 +7,7 @@ ghost use lib.ListN.{length};
 ghost use Rattle.format.specs.Writer.{commitOf, commitStoresOf};
 ghost use Rattle.format.specs.Stopped.{CommitLeaves, CommitStoresLeaves};
 ghost use Rattle.commit_steps.specs.State.{trio};
-ghost use Rattle.commit.specs.Passes.{eachOf, ranOf};
+ghost use Rattle.commit.specs.Passes.{eachOf, judgedFrom, laidFrom};
 use commit_steps::State;
 use format::Committed;
 use format::Entry;
@@ -29,41 +29,32 @@ fn each(es: &[Entry], dat: &[u8], b0: &mut [u8], b1: &mut [u8], st: State) -> St
     s
 }
 
-// Fetch, judge every entry, decide, lay every entry and the check: at most `stores` stores.
-fn run(
+// The first pass, from a begun state: judge every entry, and decide. Each function here holds few states, and fetch runs
+// outside of both passes: so little stack is taken at once.
+fn judge(
+    s: State,
     g: Geometry,
     b0: &mut [u8],
     b1: &mut [u8],
-    n0: u32,
-    n1: u32,
-    block_count: u32,
-    seed: u32,
-    rules: u32,
     erased: u8,
     entries: &[Entry],
     dat: &[u8],
     stores: u32,
 ) -> State
-    ensures { λ r. ⌜ trio r (now (b0 .exit)) (now (b1 .exit)) ≡ ranOf g (now (b0 .entry)) (now (b1 .entry)) n0 n1
-        «block_count» seed rules erased (now (entries .entry)) (now (dat .entry)) stores ⌝ }
+    ensures { λ r. ⌜ trio r (now (b0 .exit)) (now (b1 .exit)) ≡ judgedFrom s g (now (b0 .entry)) (now (b1 .entry)) erased
+        (now (entries .entry)) (now (dat .entry)) stores ⌝ }
 {
-    let s0 = commit_steps::begin(
-        g,
-        b0,
-        b1,
-        n0,
-        n1,
-        block_count,
-        seed,
-        rules,
-        erased,
-        entries.len(),
-        dat,
-    );
-    let s1 = each(entries, dat, b0, b1, s0);
-    let s2 = commit_steps::decide(erased, s1, g, b0, b1, stores);
-    let s3 = each(entries, dat, b0, b1, s2);
-    commit_steps::seal(s3, b0, b1)
+    let judged = each(entries, dat, b0, b1, s);
+    commit_steps::decide(erased, judged, g, b0, b1, stores)
+}
+
+// The second pass, from what was decided: lay every entry and the check.
+fn lay(s: State, b0: &mut [u8], b1: &mut [u8], entries: &[Entry], dat: &[u8]) -> State
+    ensures { λ r. ⌜ trio r (now (b0 .exit)) (now (b1 .exit)) ≡ laidFrom s (now (b0 .entry)) (now (b1 .entry))
+        (now (entries .entry)) (now (dat .entry)) ⌝ }
+{
+    let laid = each(entries, dat, b0, b1, s);
+    commit_steps::seal(laid, b0, b1)
 }
 
 // "An accepted call answers what fetch gives on the finished pair from the same seed." `CommitLeaves` says what stands
@@ -87,7 +78,7 @@ pub fn lfs_dir_commit(
         (now (entries .entry)) (now (dat .entry)) (now (b0 .exit)) (now (b1 .exit)) ⌝ }
 {
     let all = commit_steps::unlimited();
-    let s = run(
+    let begun = commit_steps::begin(
         g,
         b0,
         b1,
@@ -97,11 +88,12 @@ pub fn lfs_dir_commit(
         seed,
         rules,
         erased,
-        entries,
+        entries.len(),
         dat,
-        all,
     );
-    commit_steps::answer(s, g, b0, b1, n0, n1, block_count)
+    let decided = judge(begun, g, b0, b1, erased, entries, dat, all);
+    let laid = lay(decided, b0, b1, entries, dat);
+    commit_steps::answer(laid, g, b0, b1, n0, n1, block_count)
 }
 
 // The same "with a limit of n stores: exactly the first n of demand 3's list are made (all, if n is larger) and the
@@ -125,7 +117,7 @@ pub fn lfs_dir_commit_stores(
         × CommitStoresLeaves g (now (b0 .entry)) (now (b1 .entry)) n0 n1 «block_count» seed rules erased
         (now (entries .entry)) (now (dat .entry)) stores (now (b0 .exit)) (now (b1 .exit)) ⌝ }
 {
-    let s = run(
+    let begun = commit_steps::begin(
         g,
         b0,
         b1,
@@ -135,9 +127,10 @@ pub fn lfs_dir_commit_stores(
         seed,
         rules,
         erased,
-        entries,
+        entries.len(),
         dat,
-        stores,
     );
-    commit_steps::made(s, stores)
+    let decided = judge(begun, g, b0, b1, erased, entries, dat, stores);
+    let laid = lay(decided, b0, b1, entries, dat);
+    commit_steps::made(laid, stores)
 }
