@@ -10,6 +10,7 @@ pub mod Walks
 pub mod Rules
 pub mod Littlefs
 pub mod Find
+pub mod Index
 pub mod Pairs
 pub mod Lookups
 pub mod Text

@@ -56,7 +56,7 @@ use Rattle.promises.specs.PossibleWrites.{compact-possible, compact-stor
 
 -- ---- the answer back from its number and values
 -- a number below zero, without its sign
-abbrev below : ℤ → ℕ
+abbrev pub below : ℤ → ℕ
 below (pos n) = 0
 below (negsuc n) = suc n
 

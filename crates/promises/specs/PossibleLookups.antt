@@ -33,7 +33,7 @@ use Rattle.promises.specs.Possible.{SliceRefuses, slice22, slice84, slic
 use Rattle.promises.specs.Possible.{GstateRefuses, gstate22, GotOr, AlteredOr, behind, through}
 
 -- ---- what was found is read
-slice-possible : (b : List ℕ) (offset size : ℕ) (f : Hit) → GotOr SliceRefuses (sliceAnswer b offset size f)
+pub slice-possible : (b : List ℕ) (offset size : ℕ) (f : Hit) → GotOr SliceRefuses (sliceAnswer b offset size f)
 slice-possible b offset size hit.Nothing = slice2
 slice-possible b offset size (hit.Found e) =
     through (GotOr SliceRefuses) (leb (sliceEnd e offset size) (length b)) tt slice84

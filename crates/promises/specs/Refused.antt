@@ -44,7 +44,7 @@ behind true x q a new old f h = f h
 behind false x q a new old f h = refl
 
 -- ---- lfs_dir_getslice, lfs_dir_get
-slice-refused : (b : List ℕ) (offset : ℕ) (buffer : List ℕ) (f : Hit) (r : Refusal)
+pub slice-refused : (b : List ℕ) (offset : ℕ) (buffer : List ℕ) (f : Hit) (r : Refusal)
     → sliceAnswer b offset (length buffer) f ≡ got.Refused r → sliceBuffer b offset buffer f ≡ buffer
 slice-refused b offset buffer hit.Nothing r h = refl
 slice-refused b offset buffer (hit.Found e) r h =
