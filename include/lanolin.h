@@ -2,7 +2,8 @@
  * target/staticlib/liblanolin.a, x86-64, which `./lanolin lib` builds.
  *
  * Every call takes any bytes, numbers and records, and ends. A result is LANOLIN_OK or one of the LANOLIN_ERR_
- * refusals, and a refused call alters no byte of what it was lent.
+ * refusals, and a refused call alters no byte of what it was lent. The one exception is the table of an index: with
+ * LANOLIN_ERR_TABLE it is all zero, and lanolin_compact_with has used it also where it then can't write.
  *
  * The caller's duties, all of them: a pointer is valid for its count (null with count 0 is allowed), lent buffers do
  * not overlap each other, and a bool is 0 or 1.
@@ -22,12 +23,13 @@ extern "C" {
 
 /* ---- names: the results, the types of entries, the masks of a lookup, and the limits */
 
-/* The version, as littlefs has its own: the major number in the upper half, the minor in the lower. With 0.8 the
+/* The version, as littlefs has its own: the major number in the upper half, the minor in the lower. 0.9 adds the index:
+ * lanolin_index, lanolin_index_extend, lanolin_index_get and lanolin_compact_with, and LANOLIN_ERR_TABLE. With 0.8 the
  * writing calls take the erased byte, right behind `rules`, and LANOLIN_ERR_TOPBIT is LANOLIN_ERR_VALIDITY: callers of
  * 0.7 and before are altered there. 0.7 adds lanolin_refetch. With 0.6 lanolin_mdir has the forward check at its end:
  * callers of 0.5 and before are compiled again. */
 #define LANOLIN_VERSION_MAJOR 0
-#define LANOLIN_VERSION_MINOR 8
+#define LANOLIN_VERSION_MINOR 9
 #define LANOLIN_VERSION (LANOLIN_VERSION_MAJOR << 16 | LANOLIN_VERSION_MINOR)
 
 /* Results. The first four refusals are littlefs's LFS_ERR_ numbers, the others are this project's own. */
@@ -37,11 +39,12 @@ extern "C" {
 #define LANOLIN_ERR_NOENT (-2)         /* a lookup: no such entry; the other calls: a pair of more than 1,023 slots */
 #define LANOLIN_ERR_NOSPC (-28)        /* writing: what is to be written passes the block */
 #define LANOLIN_ERR_BADENTRY (-201)    /* commit: an entry is bad; `index` says which */
-#define LANOLIN_ERR_IRREGULAR (-202)   /* writing, and finding by name: the log isn't regular by the rules given */
+#define LANOLIN_ERR_IRREGULAR (-202)   /* writing, finding by name, an index: the log isn't regular by the rules */
 #define LANOLIN_ERR_MISALIGNED (-211)  /* commit: the log's end is no multiple of the program size: compact */
 #define LANOLIN_ERR_VALIDITY (-212)    /* commit: the end tag has the wrong validity bit for the erased byte: compact */
 #define LANOLIN_ERR_NOTERASED (-213)   /* commit: a byte behind the end isn't erased; `index` is its offset: compact */
 #define LANOLIN_ERR_COINCIDENCE (-204) /* writing: cut short, this very commit could be taken for a whole one */
+#define LANOLIN_ERR_TABLE (-221)       /* an index: after some entry of the log more are live than there are places */
 
 /* Whether a refused commit is one that a compaction makes room for: compact, and commit once more. */
 #define LANOLIN_NEEDS_COMPACTION(result) \
@@ -73,8 +76,8 @@ extern "C" {
 #define LANOLIN_MASK_TYPE 0x7ffffc00u  /* this type exactly, of this slot: a user attribute */
 #define LANOLIN_MASK_CLASS 0x700ffc00u /* any type of the same class, of this slot: the name, the struct */
 
-/* Rules of a regular log, which lanolin_find and a writing call take. The slots of a pair that this library wrote are
- * made by creates. littlefs's own compaction writes no creates: there a name makes its slot. */
+/* Rules of a regular log, which lanolin_find, an index and a writing call take. The slots of a pair that this library
+ * wrote are made by creates. littlefs's own compaction writes no creates: there a name makes its slot. */
 #define LANOLIN_RULES_DOCUMENT 0 /* document 01's: for pairs that this library wrote */
 #define LANOLIN_RULES_LITTLEFS 1 /* littlefs's too: also for pairs that littlefs itself compacted */
 
@@ -154,6 +157,8 @@ typedef struct { int32_t result; uint32_t index; lanolin_mdir dir; uint32_t seed
 typedef struct { int32_t result; uint32_t index; uint32_t stores; } lanolin_stored;
 /* found: whether a slot has the name; id: the slot's. That none has it is no refusal: LANOLIN_OK, false, 0 */
 typedef struct { int32_t result; bool found; uint32_t id; } lanolin_named;
+/* places: how many of the table are in use, from its beginning; 0 on a refusal */
+typedef struct { int32_t result; uint32_t places; } lanolin_indexed;
 
 /* ---- reading a pair: b0 and b1 are the images of the blocks n0 and n1, each block_size bytes. The
  * first word at each call is littlefs's name for it */
@@ -216,7 +221,71 @@ lanolin_named lanolin_find(lanolin_geometry g, const uint8_t *b0, size_t b0_len,
                            uint32_t n0, uint32_t n1, uint32_t block_count, uint32_t seed, uint32_t rules,
                            const uint8_t *name, size_t name_len, uint32_t type);
 
-/* ---- writing; a refused call alters no byte
+/* ---- an index: where each live entry stands, in a table of words that the caller lends
+ *
+ * A lookup walks the log back, once for each entry that is asked for. An index is built in one pass over the log; then
+ * an entry is found by halving, or all of them by going once over the table, as examples/c/wheel.c does.
+ *
+ * A place is two words of the table:
+ *
+ *     table[2 * i]       the entry's tag: its type, the slot's present id, its size (lanolin_tag_type3, _id, _size)
+ *     table[2 * i + 1]   the offset of its first data byte, in the block dir.pair[0]
+ *
+ * Every live name, struct and user attribute of every slot has one; a slot that has none of them, a tail, the move
+ * state and a forward check take no place. The places are sorted by id, and in a slot the name comes first, then the
+ * struct, then the attributes by rising type. A table of table_len words has table_len / 2 places. Those that are not
+ * in use are zero and stand last, and an odd last word is zero too: so the table is a function of the log and of its
+ * own length, and two builds can't differ. An entry takes four bytes of the log or more, so that block_size / 2 words
+ * are always enough.
+ *
+ * The three calls below, and lanolin_compact_with, may be lent a table of any length, with any words in it; null with
+ * length 0 too. Of a record the three read `pair` and `off` alone: the log is that of the block dir.pair[0], up to the
+ * end dir.off. The global state is not read: what a pending move hides from a lookup has its place. */
+
+/* The table of the log that ends at dir.off, whatever words stood in it. Refused, in this order:
+ *
+ *     LANOLIN_ERR_INVAL       as a lookup: sizes and numbers, a record of another pair, an end past the block; and a
+ *                             number that is no rule. The table is as it was
+ *     LANOLIN_ERR_IRREGULAR   the log is not regular by `rules`, as the writing calls take it; or no commit of the
+ *                             block's log ends at dir.off. The table is as it was
+ *     LANOLIN_ERR_TABLE       after some entry of the log more are live than the table has places: the most that were
+ *                             live at one time count, not those that are at the end. The table is then all zero. Lend a
+ *                             longer one; behind a compaction a shorter one may do */
+lanolin_indexed lanolin_index(lanolin_geometry g, const uint8_t *b0, size_t b0_len, const uint8_t *b1, size_t b1_len,
+                              uint32_t n0, uint32_t n1, lanolin_mdir dir, uint32_t rules,
+                              uint32_t *table, size_t table_len);
+
+/* The table of `old` brought on by the entries between the two ends: behind a commit, `old` is the record from before
+ * and `dir` what the commit, or a lanolin_refetch, answered. Where the table is the one that lanolin_index, or this
+ * call, left for `old` of the same bytes, it is afterwards the one that lanolin_index leaves for `dir`, with the same
+ * answer. Behind a compaction the block is another: there build anew.
+ *
+ * Any other table gets an answer too, inside its bounds: its places are those before the first whose tag is 0, each
+ * entry moves, sets and clears what halving finds, and all behind them becomes zero.
+ *
+ * Refused as lanolin_index. LANOLIN_ERR_INVAL also where the same is wrong with `old`, where the two are not of one
+ * block, old.pair[0] and dir.pair[0], or old.off is above dir.off; LANOLIN_ERR_IRREGULAR also where no commit ends at
+ * old.off. LANOLIN_ERR_TABLE leaves the table all zero here too, so that it is no longer that of `old`. */
+lanolin_indexed lanolin_index_extend(lanolin_geometry g, const uint8_t *b0, size_t b0_len,
+                                     const uint8_t *b1, size_t b1_len, uint32_t n0, uint32_t n1,
+                                     lanolin_mdir old, lanolin_mdir dir, uint32_t rules,
+                                     uint32_t *table, size_t table_len);
+
+/* The entry of the slot id that the table has a place for: any type from 0x000 to 0x0ff asks for the name, any from
+ * 0x200 to 0x2ff for the struct, 0x300 to 0x3ff for that user attribute. Answers as lanolin_getslice from 0 on: tag,
+ * length and place, and min(size, gsize) bytes of its data; the rest of the buffer is zeroed.
+ *
+ * With the table that lanolin_index left for `dir`, an id below dir.count and no pending move, answer and buffer are
+ * those of lanolin_getslice, by LANOLIN_MASK_CLASS for a name or a struct and by LANOLIN_MASK_TYPE for an attribute.
+ *
+ * LANOLIN_ERR_INVAL as a lookup; LANOLIN_ERR_NOENT where the table has no such place, and for any other type and id.
+ * A table that no build made is answered as it stands: nothing is asked of it but that what it says lies in the block,
+ * and LANOLIN_ERR_CORRUPT is the answer where its bytes would pass that. A refusal leaves the buffer alone. */
+lanolin_got lanolin_index_get(lanolin_geometry g, const uint8_t *b0, size_t b0_len, const uint8_t *b1, size_t b1_len,
+                              uint32_t n0, uint32_t n1, lanolin_mdir dir, const uint32_t *table, size_t table_len,
+                              uint32_t type, uint32_t id, uint8_t *buffer, size_t gsize);
+
+/* ---- writing; a refused call alters no byte of the images
  *
  * `rules` says which logs are regular; any other log is LANOLIN_ERR_IRREGULAR.
  *
@@ -267,6 +336,17 @@ lanolin_committed lanolin_compact(lanolin_geometry g, uint8_t *b0, size_t b0_len
 lanolin_stored lanolin_compact_stores(lanolin_geometry g, uint8_t *b0, size_t b0_len, uint8_t *b1, size_t b1_len,
                                       uint32_t n0, uint32_t n1, uint32_t block_count, uint32_t seed, uint32_t rules,
                                       uint8_t erased, uint32_t stores);
+
+/* lanolin_compact with a table lent as working memory: the same images and the same answer, whatever its length, and
+ * sooner where it has places enough for lanolin_index. Where it has not, the old way is taken.
+ *
+ * Behind the call the table is as lanolin_index leaves it for the log that was compacted, of the block that answered
+ * before: all zero where that would be LANOLIN_ERR_TABLE. So it is not the index of the new block, which is built anew.
+ * With LANOLIN_ERR_NOSPC and LANOLIN_ERR_COINCIDENCE, too, the table has been used; with LANOLIN_ERR_INVAL,
+ * LANOLIN_ERR_IRREGULAR and what lanolin_fetch refuses it is as it was. */
+lanolin_committed lanolin_compact_with(lanolin_geometry g, uint8_t *b0, size_t b0_len, uint8_t *b1, size_t b1_len,
+                                       uint32_t n0, uint32_t n1, uint32_t block_count, uint32_t seed, uint32_t rules,
+                                       uint8_t erased, uint32_t *table, size_t table_len);
 
 /* ---- the leaves; a test answers exactly 0 or 1. lanolin_x is littlefs's lfs_x, but where another name is said */
 
@@ -385,6 +465,7 @@ LANOLIN_LAYOUT_(sizeof(lanolin_stored) == 12 && LANOLIN_AT_(stored, result, 0) &
                 LANOLIN_AT_(stored, stores, 8))
 LANOLIN_LAYOUT_(sizeof(lanolin_named) == 12 && LANOLIN_AT_(named, result, 0) && LANOLIN_AT_(named, found, 4) &&
                 LANOLIN_AT_(named, id, 8))
+LANOLIN_LAYOUT_(sizeof(lanolin_indexed) == 8 && LANOLIN_AT_(indexed, result, 0) && LANOLIN_AT_(indexed, places, 4))
 
 #undef LANOLIN_AT_
 #undef LANOLIN_LAYOUT_

@@ -1,6 +1,7 @@
 #!/usr/bin/env python3
 """Writes the two pair images that the examples read, samples/q212.pair and samples/instructions.pair, and what the
-examples must print of them, examples/restart.expected: first q212.pair, then instructions.pair.
+examples must print of them, examples/restart.expected and, without the payloads, examples/wheel.expected: first
+q212.pair, then instructions.pair.
 
 The images come from writer.py, the text from the tables of what each pair holds in the end; nothing is taken from the
 port or from the examples. A table says it by hand: no reader of logs stands between. The pairs are as the library wrote
@@ -45,11 +46,12 @@ def shown_name(name):
     return "".join(chr(b) if 0x21 <= b <= 0x7E and b != 0x5C else f"\\x{b:02x}" for b in name)
 
 
-def shown(held, tail=None):
+def shown(held, tail=None, payloads=True):
     """What the examples print. `held` has slot, name, payload's length and the deadline, a number or a text; a missing
     one is `-`."""
     def line(mark, slot):
-        return f"{mark} {slot[0]} {shown_name(slot[1])} payload {slot[2]} deadline {slot[3]}"
+        payload = f" payload {slot[2]}" if payloads else ""
+        return f"{mark} {slot[0]} {shown_name(slot[1])}{payload} deadline {slot[3]}"
 
     due = sorted((s for s in held if s[2] != "-" and isinstance(s[3], int)), key=lambda s: (s[3], s[0]))
     lines = [line("due", s) for s in due]
@@ -93,5 +95,7 @@ HELD = [(2, b"q212", 3, 90000), (3, b"q213", 6, 3600), (4, b"q214", 4096, 86400)
         (6, b"q216", "-", 5400),
         (7, b"q217 \\\xb5", 2, 86400), (8, b"q218", 4, "of 2 bytes"), (9, b"note", "-", "-")]
 
-with open(os.path.join(HERE, "..", "examples", "restart.expected"), "w") as f:
-    f.write("\n".join(shown(Q212_HELD) + shown(HELD, tail=(4, 5))) + "\n")
+for example, payloads in (("restart", True), ("wheel", False)):
+    with open(os.path.join(HERE, "..", "examples", f"{example}.expected"), "w") as f:
+        lines = shown(Q212_HELD, payloads=payloads) + shown(HELD, tail=(4, 5), payloads=payloads)
+        f.write("\n".join(lines) + "\n")

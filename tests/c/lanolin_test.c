@@ -1,6 +1,8 @@
 /* Calls every function of include/lanolin.h through the archive, on document 01's listing pair and at the edges. Prints
  * each failed line and exits 1, or one line with the number of checks. What is expected comes from document 01 and from
- * the format, worked out by hand. */
+ * the format, worked out by hand.
+ *
+ *     lanolin_test SAMPLES     the directory that has instructions.pair */
 #include "lanolin.h"
 
 #include <stdio.h>
@@ -1145,6 +1147,658 @@ static void test_refetch(void) {
     test_refetch_of_any_record();
 }
 
+/* ---- document 02, L8: an index in memory, of pairs of 512-byte blocks */
+
+enum { MOST_WORDS = 528 };
+static const uint32_t ANY_WORD = 0xa5a5a5a5;
+
+/* A table to lend: before a call any word stands in it, and behind its length the same words, which must stay. */
+typedef struct { size_t len; uint32_t words[MOST_WORDS]; } table;
+
+static table of_words(size_t len) {
+    table t = {len, {0}};
+    EXPECT(len <= MOST_WORDS);
+    for (size_t i = 0; i < MOST_WORDS; i++) t.words[i] = ANY_WORD;
+    return t;
+}
+
+static int is_untouched(const table *t, size_t from) {
+    for (size_t i = from; i < MOST_WORDS; i++)
+        if (t->words[i] != ANY_WORD) return 0;
+    return 1;
+}
+
+/* These places, then zeros up to its length, and behind it nothing altered. */
+static int holds(const table *t, const uint32_t *places, size_t count) {
+    if (2 * count > t->len || !is_untouched(t, t->len)) return 0;
+    return (count == 0 || !memcmp(t->words, places, 2 * count * sizeof *places)) &&
+           is_zero(t->words + 2 * count, (t->len - 2 * count) * sizeof *places);
+}
+
+/* Accepted, with so many places in use: these. */
+static int is_table(lanolin_indexed indexed, const table *t, const uint32_t *places, uint32_t count) {
+    return indexed.result == LANOLIN_OK && indexed.places == count && holds(t, places, count);
+}
+
+/* Too short, and all zero. */
+static int is_full(lanolin_indexed indexed, const table *t) {
+    return indexed.result == LANOLIN_ERR_TABLE && indexed.places == 0 && holds(t, NULL, 0);
+}
+
+/* Refused so, and as it was. */
+static int is_left(lanolin_indexed indexed, const table *t, int32_t result) {
+    return indexed.result == result && indexed.places == 0 && is_untouched(t, 0);
+}
+
+static int same_table(const table *a, const table *b) {
+    return a->len == b->len && !memcmp(a->words, b->words, sizeof a->words);
+}
+
+static lanolin_mdir record_of(const images *p) { return lanolin_fetch(WIDE, p->b0, 512, p->b1, 512, 0, 1, 0, 7).dir; }
+
+static lanolin_mdir ending(lanolin_mdir dir, uint32_t off) { return dir.off = off, dir; }
+
+static lanolin_indexed build(const images *p, lanolin_mdir dir, uint32_t rules, table *t) {
+    return lanolin_index(WIDE, p->b0, 512, p->b1, 512, 0, 1, dir, rules, t->words, t->len);
+}
+
+static lanolin_indexed extend(const images *p, lanolin_mdir old, lanolin_mdir dir, uint32_t rules, table *t) {
+    return lanolin_index_extend(WIDE, p->b0, 512, p->b1, 512, 0, 1, old, dir, rules, t->words, t->len);
+}
+
+static lanolin_got get_from(const images *p, lanolin_mdir dir, const table *t, uint32_t type, uint32_t id,
+                            uint8_t *buffer, size_t size) {
+    return lanolin_index_get(WIDE, p->b0, 512, p->b1, 512, 0, 1, dir, t->words, t->len, type, id, buffer, size);
+}
+
+/* The listing's tags stand at 8, 16 and 23, their data four bytes behind them; its create has no place. */
+static const uint32_t LISTED_PLACES[6] = {0x00100004, 12, 0x20100003, 20, 0x37400004, 27};
+
+/* samples/instructions.pair, whose second block answers, and the places of its entries as samples/make_pairs.py put
+ * them there: an entry takes four bytes and its data. Its commits end at YARD_ENDS, where so many are live; and so many
+ * were at one time, before that end. */
+static images yard;
+static const uint32_t YARD_ENDS[5] = {176, 256, 336, 352, 432};
+static const uint32_t YARD_LIVE[5] = {12, 15, 21, 20, 28}; /* the fourth takes a deadline away */
+static const uint32_t YARD_MOST[5] = {12, 15, 21, 21, 28};
+static const uint32_t YARD_PLACES[56] = {
+    0x0ff00008, 12,  0x20100018, 24,                                   /* 0, the superblock: tags at 8 and 20 */
+    0x00200404, 56,  0x20000408, 64,  0x37400404, 76,                  /* 1, done: create at 48, tags at 52, 60, 72 */
+    0x00100804, 88,  0x20100803, 96,  0x37400804, 180,                 /* 2, q212: 84, 92; its deadline anew at 176 */
+    0x00100c04, 115, 0x20100c06, 123, 0x37400c04, 133, 0x37500c01, 141, /* 3, q213: 111, 119, 129, 137 */
+    0x00101004, 221, 0x20201008, 229, 0x37401004, 241,                 /* 4, q214: 217, 225, 237, behind `gone` */
+    0x00101404, 264, 0x2010140c, 272,                                  /* 5, q215: 260, 268; its deadline is removed */
+    0x00101804, 300, 0x20101800, 344, 0x37401804, 317,                 /* 6, q216: 296, 313; its payload anew at 340 */
+    0x00101c07, 360, 0x20101c02, 371, 0x37401c04, 377,                 /* 7, q217: 356, 367, 373 */
+    0x00102004, 389, 0x20102004, 397, 0x37402002, 405,                 /* 8, q218: 385, 393, 401 */
+    0x00102404, 415, 0x20102400, 423,                                  /* 9, note: 411, 419; no byte of payload */
+};
+
+/* Exactly as long, longer, odd, and the longest; by both rules. Neither block is altered. */
+static void test_index_of_samples(void) {
+    static const size_t MORE[5] = {0, 1, 2, 7, 400};
+    const images listed = listing();
+    for (uint32_t rules = DOCUMENT; rules <= LITTLEFS; rules++)
+        for (int i = 0; i < 5; i++) {
+            table t = of_words(6 + MORE[i]), u = of_words(56 + MORE[i]);
+            images p = listed, q = yard;
+            EXPECT(is_table(build(&p, record_of(&p), rules, &t), &t, LISTED_PLACES, 3));
+            EXPECT(is_table(build(&q, record_of(&q), rules, &u), &u, YARD_PLACES, 28));
+            EXPECT(!memcmp(&p, &listed, sizeof p) && !memcmp(&q, &yard, sizeof q));
+        }
+    /* the blocks the other way round, under other numbers: the record's first is the one that is read */
+    table t = of_words(6);
+    const lanolin_mdir dir = {.pair = {9, 5}, .off = 48};
+    EXPECT(is_table(lanolin_index(G, b1, 128, b0, 128, 5, 9, dir, DOCUMENT, t.words, 6), &t, LISTED_PLACES, 3));
+    EXPECT(record_of(&yard).pair[0] == 1 && record_of(&yard).off == 432);
+}
+
+/* Of a record pair and end are read, and nothing else. */
+static void test_index_reads_pair_and_end(void) {
+    const lanolin_mdir bare = {.pair = {1, 0}, .off = 432};
+    const lanolin_mdir odd = {{1, 0}, 0xffffffff, 432, 0x12345678, 0xffff, true, true, {3, 3}, true, 7, 7};
+    const lanolin_mdir known = ending(odd, 176);
+    table t = of_words(56), u = of_words(56), v = of_words(56);
+    EXPECT(is_table(build(&yard, bare, DOCUMENT, &t), &t, YARD_PLACES, 28));
+    EXPECT(is_table(build(&yard, odd, DOCUMENT, &u), &u, YARD_PLACES, 28));
+    EXPECT(build(&yard, known, DOCUMENT, &v).result == LANOLIN_OK);
+    EXPECT(is_table(extend(&yard, known, odd, DOCUMENT, &v), &v, YARD_PLACES, 28));
+    EXPECT(is_found(get_from(&yard, odd, &t, 0x375, 3, NULL, 0), 0x37500c01, 5, 141));
+}
+
+/* Every end of a block: the log up to each commit's, as if nothing stood behind it, and -202 for all others. */
+static void test_index_of_every_end(void) {
+    const lanolin_mdir dir = record_of(&yard);
+    for (uint32_t end = 0, i = 0; end <= 512; end++) {
+        table t = of_words(57), u = of_words(57);
+        lanolin_indexed indexed = build(&yard, ending(dir, end), DOCUMENT, &t);
+        if (i == 5 || end != YARD_ENDS[i]) {
+            EXPECT(is_left(indexed, &t, LANOLIN_ERR_IRREGULAR));
+            continue;
+        }
+        images cut = yard;
+        memset(cut.b1 + end, 0xff, 512 - end);
+        EXPECT(record_of(&cut).off == end && build(&cut, record_of(&cut), DOCUMENT, &u).places == YARD_LIVE[i]);
+        EXPECT(indexed.result == LANOLIN_OK && indexed.places == YARD_LIVE[i++] && same_table(&t, &u));
+    }
+    /* a byte before the end that is not as it was: no commit ends there */
+    for (uint32_t at = 0; at < 48; at++) {
+        table t = of_words(6);
+        images p = listing();
+        p.b0[at] ^= 1;
+        lanolin_indexed indexed = build(&p, (lanolin_mdir){.pair = {0, 1}, .off = 48}, DOCUMENT, &t);
+        if (at < 39) EXPECT(is_left(indexed, &t, LANOLIN_ERR_IRREGULAR));
+        else EXPECT(is_table(indexed, &t, LISTED_PLACES, 3)); /* the padding behind the checksum */
+    }
+}
+
+/* Tables of every length up to enough, also odd: what counts is the most that was ever live, not what is at the end. */
+static void test_index_too_short(void) {
+    const lanolin_mdir dir = record_of(&yard);
+    for (int i = 0; i < 5; i++)
+        for (size_t len = 0; len < 60; len++) {
+            table t = of_words(len), u = of_words(57);
+            lanolin_indexed indexed = build(&yard, ending(dir, YARD_ENDS[i]), DOCUMENT, &t);
+            if (len / 2 < YARD_MOST[i]) {
+                EXPECT(is_full(indexed, &t));
+                continue;
+            }
+            EXPECT(build(&yard, ending(dir, YARD_ENDS[i]), DOCUMENT, &u).places == YARD_LIVE[i]);
+            EXPECT(is_table(indexed, &t, u.words, YARD_LIVE[i]));
+        }
+    EXPECT(lanolin_index(WIDE, yard.b0, 512, yard.b1, 512, 0, 1, dir, DOCUMENT, NULL, 0).result == LANOLIN_ERR_TABLE);
+}
+
+/* The log of the first tags: its places, and that the table just before has too few. */
+static void expect_places(const uint32_t *tags, int count, uint32_t rules, const uint32_t *places, uint32_t live,
+                          uint32_t most) {
+    const images p = logged(tags, count);
+    for (size_t len = 2 * most > 2 ? 2 * most - 3 : 0; len < 2 * most + 3; len++) {
+        table t = of_words(len);
+        lanolin_indexed indexed = build(&p, record_of(&p), rules, &t);
+        EXPECT(len < 2 * most ? is_full(indexed, &t) : is_table(indexed, &t, places, live));
+    }
+}
+
+/* Slots that come in before others, and go: `logged` lays each tag behind the one before, from 4 on. */
+static void test_index_of_moved_slots(void) {
+    static const uint32_t TAGS[11] = {0x40100000, 0x00100004, 0x37400004, /* 4, 8, 16: a slot, named, with a deadline */
+                                      0x40100000, 0x00100004,             /* 24, 28: one before it */
+                                      0x40100400, 0x00100404,             /* 36, 40: and one between them */
+                                      0x4ff00400, 0x4ff00000, 0x4ff00000, /* 48, 52, 56: all of them go */
+                                      0x40100000};                        /* 60: a bare slot */
+    static const uint32_t FIRST[4] = {0x00100004, 12, 0x37400004, 20};
+    static const uint32_t SECOND[4] = {0x00100404, 12, 0x37400404, 20};
+    static const uint32_t BOTH[6] = {0x00100004, 32, 0x00100404, 12, 0x37400404, 20};
+    static const uint32_t APART[6] = {0x00100004, 32, 0x00100804, 12, 0x37400804, 20};
+    static const uint32_t ALL[8] = {0x00100004, 32, 0x00100404, 44, 0x00100804, 12, 0x37400804, 20};
+    for (uint32_t rules = DOCUMENT; rules <= LITTLEFS; rules++) {
+        expect_places(TAGS, 0, rules, NULL, 0, 0);
+        expect_places(TAGS, 1, rules, NULL, 0, 0); /* a create takes no place */
+        expect_places(TAGS, 3, rules, FIRST, 2, 2);
+        expect_places(TAGS, 4, rules, SECOND, 2, 2);
+        expect_places(TAGS, 5, rules, BOTH, 3, 3);
+        expect_places(TAGS, 6, rules, APART, 3, 3);
+        expect_places(TAGS, 7, rules, ALL, 4, 4);
+        expect_places(TAGS, 8, rules, BOTH, 3, 4);
+        expect_places(TAGS, 9, rules, FIRST, 2, 4);
+        expect_places(TAGS, 10, rules, NULL, 0, 4);
+        expect_places(TAGS, 11, rules, NULL, 0, 4);
+    }
+}
+
+/* Attributes out of order, a struct before the name, entries set anew and one removed twice. */
+static void test_index_order(void) {
+    static const uint32_t TAGS[10] = {0x40100000, 0x3ff00004, 0x20100004, 0x30000004, /* 4, 8, 16, 24 */
+                                      0x37400004, 0x00100004,                         /* 32, 40 */
+                                      0x20200008, 0x374003ff, 0x374003ff, 0x3ff00002}; /* 48, 60, 64, 68 */
+    static const uint32_t FIVE[10] = {0x00100004, 44, 0x20100004, 20, 0x30000004, 28, 0x37400004, 36, 0x3ff00004, 12};
+    static const uint32_t LAST[8] = {0x00100004, 44, 0x20200008, 52, 0x30000004, 28, 0x3ff00002, 72};
+    expect_places(TAGS, 6, DOCUMENT, FIVE, 5, 5);
+    expect_places(TAGS, 10, DOCUMENT, LAST, 4, 5);
+}
+
+/* What takes no place: a hard tail, a move state, a forward check. Names alone, with a bare slot between them: by
+ * littlefs's rule alone. */
+static void test_index_of_the_rest(void) {
+    static const uint32_t NONE[4] = {0x40100000, 0x601ffc08, 0x7ffffc0c, 0x5ffffc08};
+    static const uint32_t NAMES[4] = {0x00100004, 0x20100004, 0x00200804, 0x37400804}; /* 4, 12, 20, 28 */
+    static const uint32_t NAMED[8] = {0x00100004, 8, 0x20100004, 16, 0x00200804, 24, 0x37400804, 32};
+    expect_places(NONE, 4, DOCUMENT, NULL, 0, 0);
+    expect_places(NAMES, 4, LITTLEFS, NAMED, 4, 4);
+    const images p = logged(NAMES, 4);
+    table t = of_words(8);
+    EXPECT(is_left(build(&p, record_of(&p), DOCUMENT, &t), &t, LANOLIN_ERR_IRREGULAR));
+    t = of_words(0); /* before -221 */
+    EXPECT(is_left(build(&p, record_of(&p), DOCUMENT, &t), &t, LANOLIN_ERR_IRREGULAR));
+}
+
+/* Ids up to the last, which a delete lowers and a create raises. */
+static void test_index_ids(void) {
+    static const uint16_t IDS[6] = {0, 1, 511, 512, 1021, 1022};
+    static const lanolin_entry STEPS[2] = {{0x4ff, 0, 0, 0}, {0x401, 0, 0, 0}};
+    for (int i = 0; i < 6; i++) {
+        images p = listing();
+        uint32_t name[2] = {lanolin_mktag(LANOLIN_TYPE_REG, IDS[i], 16), 8}, live = 1;
+        lay_one(p.b0, name[0], LISTED, 16); /* ends at 32 */
+        table t = of_words(2), u = t;
+        lanolin_mdir dir = record_of(&p);
+        EXPECT(is_table(build(&p, dir, LITTLEFS, &t), &t, name, 1));
+        for (int step = 0; step < 2; step++) {
+            const lanolin_mdir old = dir;
+            dir = lanolin_commit(WIDE, p.b0, 512, p.b1, 512, 0, 1, 0, 7, LITTLEFS, ONES, &STEPS[step], 1, NULL, 0).dir;
+            if (IDS[i] == 0) live = 0;
+            name[0] += step ? 1 << 10 : -(1u << 10);
+            EXPECT(is_table(build(&p, dir, LITTLEFS, &u), &u, name, live));
+            EXPECT(is_table(extend(&p, old, dir, LITTLEFS, &t), &t, name, live));
+        }
+    }
+}
+
+/* All that one slot can hold, the attributes from the last type down: each goes before those that are there. */
+static void test_index_of_all_attributes(void) {
+    lanolin_entry entries[256];
+    uint32_t places[516];
+    memcpy(places, LISTED_PLACES, 4 * sizeof *places); /* name and struct; the deadline is set anew */
+    for (uint32_t u = 0; u < 256; u++) {
+        entries[255 - u] = (lanolin_entry){(uint16_t)(0x300 + u), 0, 0, 1};
+        places[4 + 2 * u] = lanolin_mktag(0x300 + u, 0, 1);
+        places[5 + 2 * u] = 52 + 5 * (255 - u); /* the commit begins at 48, and an entry takes five bytes */
+    }
+    static large p;
+    p = enlarged(LISTED, sizeof LISTED);
+    write_to(&p, DOCUMENT, entries, 256, "u");
+    const lanolin_mdir dir = lanolin_fetch(LARGE, p.b0, 8192, p.b1, 8192, 0, 1, 0, 7).dir;
+    for (size_t len = 515; len < 519; len++) {
+        table t = of_words(len);
+        lanolin_indexed indexed =
+            lanolin_index(LARGE, p.b0, 8192, p.b1, 8192, 0, 1, dir, DOCUMENT, t.words, t.len);
+        EXPECT(len < 516 ? is_full(indexed, &t) : is_table(indexed, &t, places, 258));
+    }
+}
+
+/* Sizes, numbers and records as a lookup refuses them, and a number that is no rule: -22, also where the log is not
+ * regular or the table too short, and the table is as it was. */
+static void test_index_invalid(void) {
+    static const uint32_t NUMBERS[4] = {2, 3, 0x80000000, 0xffffffff};
+    const lanolin_geometry odd = {128, 3};
+    const lanolin_mdir dir = {.pair = {0, 1}, .off = 48}, other = {.pair = {0, 2}, .off = 48};
+    const lanolin_mdir past = ending(dir, 129), none = ending(dir, 0);
+    for (size_t len = 0; len < 8; len += 7) {
+        table t = of_words(len);
+        uint32_t *w = t.words;
+        EXPECT(is_left(lanolin_index(G, b0, 127, b1, 128, 0, 1, dir, DOCUMENT, w, len), &t, LANOLIN_ERR_INVAL));
+        EXPECT(is_left(lanolin_index(G, b0, 128, b1, 127, 0, 1, dir, DOCUMENT, w, len), &t, LANOLIN_ERR_INVAL));
+        EXPECT(is_left(lanolin_index(G, NULL, 0, NULL, 0, 0, 1, dir, DOCUMENT, w, len), &t, LANOLIN_ERR_INVAL));
+        EXPECT(is_left(lanolin_index(G, b0, 128, b1, 128, 0, 0, dir, DOCUMENT, w, len), &t, LANOLIN_ERR_INVAL));
+        EXPECT(is_left(lanolin_index(G, b0, 128, b1, 128, 0, 2, dir, DOCUMENT, w, len), &t, LANOLIN_ERR_INVAL));
+        EXPECT(is_left(lanolin_index(odd, b0, 128, b1, 128, 0, 1, dir, DOCUMENT, w, len), &t, LANOLIN_ERR_INVAL));
+        EXPECT(is_left(lanolin_index(G, b0, 128, b1, 128, 0, 1, other, DOCUMENT, w, len), &t, LANOLIN_ERR_INVAL));
+        EXPECT(is_left(lanolin_index(G, b0, 128, b1, 128, 0, 1, past, DOCUMENT, w, len), &t, LANOLIN_ERR_INVAL));
+        for (int i = 0; i < 4; i++) {
+            EXPECT(is_left(lanolin_index(G, b0, 128, b1, 128, 0, 1, dir, NUMBERS[i], w, len), &t, LANOLIN_ERR_INVAL));
+            EXPECT(is_left(lanolin_index(G, b0, 128, b1, 128, 0, 1, none, NUMBERS[i], w, len), &t, LANOLIN_ERR_INVAL));
+        }
+    }
+}
+
+/* From each commit's end to each later one, in tables of every length: as a build for the later end. */
+static void test_extend_is_build(void) {
+    const lanolin_mdir dir = record_of(&yard);
+    for (int from = 0; from < 5; from++)
+        for (int to = from; to < 5; to++)
+            for (size_t len = 2 * YARD_MOST[from]; len < 60; len++) {
+                const lanolin_mdir old = ending(dir, YARD_ENDS[from]), now = ending(dir, YARD_ENDS[to]);
+                table t = of_words(len), u = of_words(len);
+                EXPECT(build(&yard, old, DOCUMENT, &t).places == YARD_LIVE[from]);
+                lanolin_indexed built = build(&yard, now, DOCUMENT, &u);
+                lanolin_indexed extended = extend(&yard, old, now, len % 2 ? LITTLEFS : DOCUMENT, &t);
+                EXPECT(extended.result == built.result && extended.places == built.places && same_table(&t, &u));
+                EXPECT(extended.result == (len / 2 < YARD_MOST[to] ? LANOLIN_ERR_TABLE : LANOLIN_OK));
+            }
+}
+
+/* Behind one commit after the other, each with the record that it answered; on flash of both kinds. */
+static void test_extend_behind_commits(const flash *f) {
+    static const lanolin_entry COMMITS[6][3] = {
+        {{0x374, 0, 0, 4}, {0x375, 0, 0, 1}, {0x401, 1, 0, 0}}, /* set anew, a new one, a slot behind */
+        {{0x001, 1, 0, 4}, {0x201, 1, 0, 0}, {0x401, 0, 0, 0}}, /* named; a slot before both */
+        {{0x002, 0, 0, 3}, {0x200, 0, 0, 8}, {0x374, 1, 0, LANOLIN_REMOVAL}},
+        {{0x4ff, 1, 0, 0}, {0x3ff, 0, 0, 2}, {0x300, 1, 0, 2}}, /* the listing's own slot goes */
+        {{0x600, 1023, 0, 8}, {0x7ff, 1023, 0, 12}, {0x202, 1, 0, 8}},
+        {{0x4ff, 0, 0, 0}, {0x4ff, 0, 0, 0}, {0x401, 0, 0, 0}}, /* all of them go */
+    };
+    static const uint32_t LIVE[6] = {4, 6, 7, 6, 6, 0}; /* from the listing's three on, slot by slot, 7 is 2 + 3 + 2 */
+    images p = listing_on(f);
+    table t = of_words(19);
+    lanolin_mdir dir = record_of(&p);
+    EXPECT(is_table(build(&p, dir, DOCUMENT, &t), &t, LISTED_PLACES, 3));
+    for (int i = 0; i < 6; i++) {
+        const lanolin_mdir old = dir;
+        table u = of_words(19);
+        dir = lanolin_commit(WIDE, p.b0, 512, p.b1, 512, 0, 1, 0, 7, DOCUMENT, f->byte, COMMITS[i], 3, LISTED, 39).dir;
+        lanolin_indexed extended = extend(&p, old, dir, DOCUMENT, &t), built = build(&p, dir, DOCUMENT, &u);
+        EXPECT(extended.result == LANOLIN_OK && extended.places == LIVE[i] && built.places == LIVE[i]);
+        EXPECT(same_table(&t, &u));
+    }
+}
+
+/* Tables that no build made, behind a commit of one deadline, whose tag stands at 48, or of one create: what halving
+ * finds is set or moved, and all behind the places is zero. */
+static void test_extend_of_any_table(void) {
+    static const uint32_t DEADLINE_ALONE[2] = {0x37400004, 52};
+    static const lanolin_entry CREATED = {0x401, 0, 0, 0};
+    images p = listing(), q = p;
+    const lanolin_mdir old = record_of(&p), dir = commit_by(DOCUMENT, &p).dir;
+    const lanolin_mdir made =
+        lanolin_commit(WIDE, q.b0, 512, q.b1, 512, 0, 1, 0, 7, DOCUMENT, ONES, &CREATED, 1, NULL, 0).dir;
+    EXPECT(old.off == 48 && dir.off == 80);
+    table t = of_words(7);
+    memset(t.words, 0, 7 * 4);
+    EXPECT(is_table(extend(&p, old, dir, DOCUMENT, &t), &t, DEADLINE_ALONE, 1));
+    t = of_words(7); /* the first tag is 0: no place is taken from it */
+    t.words[0] = 0;
+    EXPECT(is_table(extend(&p, old, dir, DOCUMENT, &t), &t, DEADLINE_ALONE, 1));
+    t = of_words(1); /* a word is no place, and leaves no room for one */
+    EXPECT(is_full(extend(&p, old, dir, DOCUMENT, &t), &t));
+    t = of_words(0);
+    EXPECT(is_full(extend(&p, old, dir, DOCUMENT, &t), &t));
+    /* not sorted: of three places the second is before the deadline, then the third; so it goes behind them */
+    static const uint32_t MIXED[8] = {0x37400004, 1, 0x00100004, 2, 0x20100003, 3, 0x37400004, 52};
+    t = of_words(8);
+    memcpy(t.words, MIXED, 6 * 4);
+    t.words[6] = 0;
+    EXPECT(is_table(extend(&p, old, dir, DOCUMENT, &t), &t, MIXED, 4));
+    t = of_words(7);
+    memcpy(t.words, MIXED, 6 * 4);
+    EXPECT(is_full(extend(&p, old, dir, DOCUMENT, &t), &t));
+    /* ids that run over, as words that wrap: into the type, and to a tag of 0, which is a place all the same */
+    static const uint32_t RAISED[4] = {0x00200004, 5, 0, 6};
+    t = of_words(5);
+    memcpy(t.words, ((const uint32_t[4]){0x001ffc04, 5, 0xfffffc00, 6}), 4 * 4);
+    EXPECT(is_table(extend(&q, old, made, DOCUMENT, &t), &t, RAISED, 2));
+    /* the same end twice: the places stay, and an odd word becomes zero */
+    t = of_words(9);
+    memcpy(t.words, MIXED, 8 * 4);
+    EXPECT(is_table(extend(&p, dir, dir, DOCUMENT, &t), &t, MIXED, 4));
+}
+
+/* Two records of which one is refused, which are of two blocks, or the wrong way round; and ends of no commit. */
+static void test_extend_refused(void) {
+    const lanolin_mdir dir = record_of(&yard), old = ending(dir, 176), past = ending(dir, 513);
+    const lanolin_mdir swapped = {.pair = {0, 1}, .off = 48}, other = {.pair = {1, 2}, .off = 176};
+    table t = of_words(56);
+    EXPECT(is_left(extend(&yard, dir, old, DOCUMENT, &t), &t, LANOLIN_ERR_INVAL));
+    EXPECT(is_left(extend(&yard, swapped, dir, DOCUMENT, &t), &t, LANOLIN_ERR_INVAL)); /* the older block's */
+    EXPECT(is_left(extend(&yard, other, dir, DOCUMENT, &t), &t, LANOLIN_ERR_INVAL));
+    EXPECT(is_left(extend(&yard, old, other, DOCUMENT, &t), &t, LANOLIN_ERR_INVAL));
+    EXPECT(is_left(extend(&yard, old, past, DOCUMENT, &t), &t, LANOLIN_ERR_INVAL));
+    EXPECT(is_left(extend(&yard, past, past, DOCUMENT, &t), &t, LANOLIN_ERR_INVAL));
+    EXPECT(is_left(extend(&yard, old, dir, 2, &t), &t, LANOLIN_ERR_INVAL));
+    EXPECT(is_left(extend(&yard, ending(dir, 175), dir, 2, &t), &t, LANOLIN_ERR_INVAL)); /* before -202 */
+    EXPECT(is_left(lanolin_index_extend(WIDE, yard.b0, 512, yard.b1, 511, 0, 1, old, dir, DOCUMENT, t.words, 56), &t,
+                   LANOLIN_ERR_INVAL));
+    static const uint32_t ENDS[6] = {0, 4, 175, 177, 255, 431};
+    for (int i = 0; i < 6; i++) {
+        EXPECT(is_left(extend(&yard, ending(dir, ENDS[i]), dir, DOCUMENT, &t), &t, LANOLIN_ERR_IRREGULAR));
+        if (ENDS[i] > 176)
+            EXPECT(is_left(extend(&yard, old, ending(dir, ENDS[i]), DOCUMENT, &t), &t, LANOLIN_ERR_IRREGULAR));
+    }
+    t = of_words(0); /* before -221 */
+    EXPECT(is_left(extend(&yard, ending(dir, 175), dir, DOCUMENT, &t), &t, LANOLIN_ERR_IRREGULAR));
+    /* the whole log is to be regular, also where what is new in it is; the old one's end alone is asked for */
+    static const uint32_t NAMES[2] = {0x00100004, 0x00200804};
+    images p = logged(NAMES, 2);
+    const lanolin_mdir named = record_of(&p), more = commit_by(LITTLEFS, &p).dir;
+    t = of_words(6);
+    EXPECT(is_left(extend(&p, named, more, DOCUMENT, &t), &t, LANOLIN_ERR_IRREGULAR));
+    EXPECT(build(&p, named, LITTLEFS, &t).places == 2 && extend(&p, named, more, LITTLEFS, &t).places == 3);
+}
+
+/* A name, a struct or an attribute of a slot, from the table and by a lookup: the same answer and buffer. */
+static int same_lookup(const images *p, lanolin_mdir dir, const table *t, uint32_t type, uint32_t id, size_t size) {
+    const uint32_t mask = type < 0x300 ? LANOLIN_MASK_CLASS : LANOLIN_MASK_TYPE, key = lanolin_mktag(type, id, 0);
+    uint8_t from[40], by[40];
+    memset(from, 9, sizeof from);
+    memset(by, 9, sizeof by);
+    lanolin_got got = get_from(p, dir, t, type, id, from, size);
+    lanolin_got want = lanolin_getslice(WIDE, p->b0, 512, p->b1, 512, 0, 1, dir, STILL, mask, key, 0, by, size);
+    return got.result == want.result && got.tag == want.tag && got.length == want.length && got.off == want.off &&
+           !memcmp(from, by, sizeof by);
+}
+
+/* All that each slot has, and all that it has not, whatever the buffer's length. */
+static void expect_lookups(const images *p, lanolin_mdir dir, const table *t) {
+    static const size_t SIZES[4] = {0, 1, 4, 40};
+    for (uint32_t id = 0; id < dir.count; id++)
+        for (int i = 0; i < 4; i++) {
+            int same = same_lookup(p, dir, t, LANOLIN_TYPE_NAME, id, SIZES[i]) &&
+                       same_lookup(p, dir, t, LANOLIN_TYPE_STRUCT, id, SIZES[i]);
+            for (uint32_t u = 0; u < 256; u++) same &= same_lookup(p, dir, t, LANOLIN_TYPE_USERATTR + u, id, SIZES[i]);
+            EXPECT(same);
+        }
+}
+
+/* Which types ask for what, and that others, and ids that the table has not, find nothing. */
+static void test_index_get(void) {
+    static const uint32_t NONE[13] = {0x100, 0x1ff, 0x400, 0x401, 0x4ff,   0x500,     0x5ff,
+                                      0x601, 0x7ff, 0x800, 0xb74, 0x10374, 0xfffffb74};
+    static const uint32_t IDS[5] = {10, 1023, 1024, 1026, 0xffffffff};
+    const lanolin_mdir dir = record_of(&yard);
+    for (size_t len = 56; len < 60; len++) { /* with zeros behind, and odd */
+        table t = of_words(len);
+        EXPECT(build(&yard, dir, DOCUMENT, &t).places == 28);
+        expect_lookups(&yard, dir, &t);
+    }
+    table t = of_words(56);
+    build(&yard, dir, DOCUMENT, &t);
+    uint8_t buffer[6] = {9, 9, 9, 9, 9, 9};
+    for (uint32_t type = 0; type < 0x100; type++) { /* slot 0 has a superblock's name */
+        EXPECT(is_found(get_from(&yard, dir, &t, type, 0, NULL, 0), 0x0ff00008, 12, 12));
+        EXPECT(is_found(get_from(&yard, dir, &t, 0x200 + type, 4, NULL, 0), 0x20201008, 12, 229));
+    }
+    for (int i = 0; i < 13; i++) EXPECT(is_refused(get_from(&yard, dir, &t, NONE[i], 2, buffer, 6), -2));
+    for (int i = 0; i < 5; i++) EXPECT(is_refused(get_from(&yard, dir, &t, 0x374, IDS[i], buffer, 6), -2));
+    EXPECT(!memcmp(buffer, "\x09\x09\x09\x09\x09\x09", 6));
+    EXPECT(is_found(get_from(&yard, dir, &t, 0x374, 8, buffer, 6), 0x37402002, 6, 405));
+    EXPECT(!memcmp(buffer, "\x3c\0\0\0\0\0", 6));
+    /* no table: nothing is found */
+    EXPECT(is_refused(lanolin_index_get(WIDE, yard.b0, 512, yard.b1, 512, 0, 1, dir, NULL, 0, 0x374, 2, buffer, 6),
+                      LANOLIN_ERR_NOENT));
+}
+
+/* As a lookup refuses: sizes, numbers, records and the buffer's length, which is left as it was. */
+static void test_index_get_invalid(void) {
+    static uint8_t plenty[LANOLIN_BUFFER_MAX + 1];
+    const uint32_t *w = LISTED_PLACES;
+    const lanolin_mdir dir = {.pair = {0, 1}, .off = 48}, other = {.pair = {0, 2}, .off = 48}, past = ending(dir, 129);
+    uint8_t buffer[4] = {9, 9, 9, 9};
+    EXPECT(is_found(lanolin_index_get(G, b0, 128, b1, 128, 0, 1, dir, w, 6, 0x374, 0, plenty, LANOLIN_BUFFER_MAX),
+                    0x37400004, 8, 27));
+    EXPECT(!memcmp(plenty, LISTED + 27, 4) && is_zero(plenty + 4, LANOLIN_BUFFER_MAX - 4));
+    plenty[0] = 9;
+    EXPECT(is_refused(lanolin_index_get(G, b0, 128, b1, 128, 0, 1, dir, w, 6, 0x374, 0, plenty, sizeof plenty), -22));
+    EXPECT(is_refused(lanolin_index_get(G, b0, 128, b1, 128, 0, 1, dir, w, 6, 0x100, 9, plenty, sizeof plenty), -22));
+    EXPECT(plenty[0] == 9);
+    EXPECT(is_refused(lanolin_index_get(G, b0, 128, b1, 128, 0, 1, other, w, 6, 0x374, 0, buffer, 4), -22));
+    EXPECT(is_refused(lanolin_index_get(G, b0, 128, b1, 128, 0, 1, past, w, 6, 0x374, 0, buffer, 4), -22));
+    EXPECT(is_refused(lanolin_index_get(G, b0, 127, b1, 128, 0, 1, dir, w, 6, 0x374, 0, buffer, 4), -22));
+    EXPECT(is_refused(lanolin_index_get(G, b0, 128, b1, 128, 1, 1, dir, w, 6, 0x374, 0, buffer, 4), -22));
+    EXPECT(!memcmp(buffer, "\x09\x09\x09\x09", 4));
+    /* the end need be no commit's: the log is not read */
+    for (uint32_t end = 0; end <= 128; end++)
+        EXPECT(is_found(lanolin_index_get(G, b0, 128, b1, 128, 0, 1, ending(dir, end), w, 6, 0x374, 0, buffer, 4),
+                        0x37400004, 8, 27));
+}
+
+/* What a table says that no build made: tag, offset, how many bytes are asked for, and the answer. It is read as it
+ * stands, in the bounds of the block, whose 128 bytes begin with the listing. */
+static void test_get_from_any_place(void) {
+    static const struct { uint32_t tag, off; size_t size; int32_t result; uint32_t length; } CASES[15] = {
+        {0x00100004, 124, 4, LANOLIN_OK, 8},            /* up to the block's end, behind the log's */
+        {0x00100004, 125, 4, LANOLIN_ERR_CORRUPT, 0},   /* a byte past it */
+        {0x00100004, 125, 3, LANOLIN_OK, 8},            /* which is not read */
+        {0x00100004, 128, 0, LANOLIN_OK, 8},
+        {0x00100004, 128, 1, LANOLIN_ERR_CORRUPT, 0},
+        {0x00100004, 129, 0, LANOLIN_ERR_CORRUPT, 0},   /* an offset past the block */
+        {0x00100004, 0xffffffff, 4, LANOLIN_ERR_CORRUPT, 0},
+        {0x00100004, 0xfffffffc, 4, LANOLIN_ERR_CORRUPT, 0}, /* whose sum would wrap to 0 */
+        {0x001003fe, 0xfffffc02, 4, LANOLIN_ERR_CORRUPT, 0},
+        {0x001003fe, 0, 6, LANOLIN_OK, 1026},           /* more data than a block has, of which six are asked for */
+        {0x00100000, 128, 4, LANOLIN_OK, 4},            /* no data */
+        {0x001003ff, 128, 4, LANOLIN_OK, 4},            /* a removal's size: none either */
+        {0x0ab00004, 20, 4, LANOLIN_OK, 8},             /* a type that no name has, and another entry's bytes */
+        {0x80100004, 12, 4, LANOLIN_OK, 8},             /* a tag with its top bit */
+        {0x00000004, 12, 4, LANOLIN_OK, 8},
+    };
+    const lanolin_mdir dir = {.pair = {0, 1}, .off = 48};
+    for (int i = 0; i < 15; i++) {
+        const uint32_t place[3] = {CASES[i].tag, CASES[i].off, 0x37400004};
+        uint8_t buffer[7] = {9, 9, 9, 9, 9, 9, 9}, want[7] = {9, 9, 9, 9, 9, 9, 9};
+        lanolin_got got =
+            lanolin_index_get(G, b0, 128, b1, 128, 0, 1, dir, place, 3, 0x001, 0, buffer, CASES[i].size);
+        if (CASES[i].result) EXPECT(is_refused(got, CASES[i].result));
+        else {
+            const size_t size = CASES[i].length - 4, n = size < CASES[i].size ? size : CASES[i].size;
+            EXPECT(is_found(got, CASES[i].tag, CASES[i].length, CASES[i].off));
+            memset(want, 0, CASES[i].size);
+            memcpy(want, b0 + CASES[i].off, n);
+        }
+        EXPECT(!memcmp(buffer, want, sizeof want));
+    }
+}
+
+/* Tables of two places and an odd word: which of them halving meets. Of two it looks at the second first; a tag of 0
+ * stands behind all, and a tag of no class is never asked for. */
+static void test_get_from_any_table(void) {
+    enum { NAME = 0x00100004, DUE = 0x37400004 };
+    static const struct { uint32_t first, second; int32_t name, due; } CASES[7] = {
+        {NAME, DUE, 0, 0},
+        {DUE, NAME, -2, -2}, /* the wrong way round */
+        {0, NAME, -2, -2},
+        {NAME, 0, 0, -2},
+        {0, 0, -2, -2},
+        {NAME, NAME, 0, -2},
+        {NAME, 0x40100000, 0, -2},
+    };
+    const lanolin_mdir dir = {.pair = {0, 1}, .off = 48};
+    for (int i = 0; i < 7; i++) {
+        const uint32_t words[5] = {CASES[i].first, 12, CASES[i].second, 27, DUE};
+        lanolin_got name = lanolin_index_get(G, b0, 128, b1, 128, 0, 1, dir, words, 5, 0x001, 0, NULL, 0);
+        lanolin_got due = lanolin_index_get(G, b0, 128, b1, 128, 0, 1, dir, words, 5, 0x374, 0, NULL, 0);
+        EXPECT(CASES[i].name ? is_refused(name, -2) : is_found(name, NAME, 8, 12));
+        EXPECT(CASES[i].due ? is_refused(due, -2) : is_found(due, DUE, 8, 27));
+    }
+    /* an odd word is not looked at, though it would lead halving past the one place */
+    const uint32_t odd[3] = {DUE, 27, NAME};
+    EXPECT(is_found(lanolin_index_get(G, b0, 128, b1, 128, 0, 1, dir, odd, 3, 0x374, 0, NULL, 0), DUE, 8, 27));
+    EXPECT(is_refused(lanolin_index_get(G, b0, 128, b1, 128, 0, 1, dir, odd, 3, 0x001, 0, NULL, 0), -2));
+}
+
+/* A compaction with a table and without: the same answer and images; and the table as a build of the log before leaves
+ * it, where the log was compacted or there is no way to write it, and else as it was. */
+static void expect_compaction(const images *given, uint32_t rules, uint8_t erased, size_t len, int32_t result) {
+    images p = *given, q = *given;
+    table t = of_words(len), want = t;
+    const lanolin_mdir before = record_of(given);
+    lanolin_committed c = lanolin_compact(WIDE, p.b0, 512, p.b1, 512, 0, 1, 0, 7, rules, erased);
+    lanolin_committed with =
+        lanolin_compact_with(WIDE, q.b0, 512, q.b1, 512, 0, 1, 0, 7, rules, erased, t.words, t.len);
+    EXPECT(c.result == result && with.result == result && with.index == c.index && with.seed == c.seed);
+    EXPECT(same_dir(with.dir, c.dir) && !memcmp(&p, &q, sizeof p));
+    if (result == LANOLIN_OK || result == LANOLIN_ERR_NOSPC || result == LANOLIN_ERR_COINCIDENCE)
+        EXPECT(build(given, before, rules, &want).result != LANOLIN_ERR_IRREGULAR);
+    EXPECT(same_table(&t, &want));
+}
+
+static void test_compact_with(void) {
+    static const uint32_t NAMES[4] = {0x00100004, 0x20100004, 0x00200804, 0x37400804};
+    static const uint8_t COINCIDES[4] = {0xd2, 0xd9, 0xeb, 0x28}, ITS_SUM[4] = {0x3e, 0x7e, 0xf4, 0x8b};
+    uint32_t many[61];
+    for (uint32_t i = 0; i < 61; i++) many[i] = lanolin_mktag(LANOLIN_TYPE_REG, i, 4);
+    const images listed = listing(), named = logged(NAMES, 4), crowded = logged(many, 61);
+    images erased, over = listed, slots = listed;
+    memset(&erased, 0xff, sizeof erased);
+    memcpy(over.b0 + 27, COINCIDES, 4); /* compact-coincidence of samples/writes/cases */
+    memcpy(over.b0 + 35, ITS_SUM, 4);
+    lay_one(slots.b0, lanolin_mktag(LANOLIN_TYPE_REG, LANOLIN_SLOTS_MAX, 4), LISTED, 4);
+    for (size_t len = 0; len < 130; len += len < 10 || (len > 50 && len < 60) || len > 118 ? 1 : 8) {
+        for (uint32_t rules = DOCUMENT; rules <= LITTLEFS; rules++) {
+            expect_compaction(&listed, rules, ONES, len, LANOLIN_OK);
+            expect_compaction(&yard, rules, ONES, len, LANOLIN_OK);
+            expect_compaction(&yard, rules, ZEROS, len, LANOLIN_OK);
+            expect_compaction(&over, rules, ONES, len, LANOLIN_ERR_COINCIDENCE);
+            expect_compaction(&erased, rules, ONES, len, LANOLIN_ERR_CORRUPT);
+            expect_compaction(&slots, rules, ONES, len, LANOLIN_ERR_NOENT);
+        }
+        expect_compaction(&named, DOCUMENT, ONES, len, LANOLIN_ERR_IRREGULAR);
+        expect_compaction(&named, LITTLEFS, ONES, len, LANOLIN_OK);
+        expect_compaction(&crowded, LITTLEFS, ONES, len, LANOLIN_ERR_NOSPC);
+        expect_compaction(&listed, 2, ONES, len, LANOLIN_ERR_INVAL);
+        expect_compaction(&listed, DOCUMENT, 7, len, LANOLIN_ERR_INVAL);
+    }
+    images p = listed;
+    table t = of_words(6);
+    EXPECT(lanolin_compact_with(WIDE, p.b0, 512, p.b1, 512, 0, 1, 1, 7, DOCUMENT, ONES, t.words, 6).result ==
+               LANOLIN_ERR_CORRUPT && is_untouched(&t, 0)); /* number 1 is too high */
+    EXPECT(lanolin_compact_with(WIDE, p.b0, 511, p.b1, 512, 0, 1, 0, 7, DOCUMENT, ONES, t.words, 6).result ==
+               LANOLIN_ERR_INVAL && is_untouched(&t, 0));
+    EXPECT(!memcmp(&p, &listed, sizeof p));
+    lanolin_committed c = lanolin_compact_with(WIDE, p.b0, 512, p.b1, 512, 0, 1, 0, 7, DOCUMENT, ONES, t.words, 6);
+    EXPECT(c.result == LANOLIN_OK && c.dir.pair[0] == 1 && holds(&t, LISTED_PLACES, 3));
+    EXPECT(lanolin_compact_with(WIDE, p.b0, 512, p.b1, 512, 0, 1, 0, 7, DOCUMENT, ONES, NULL, 0).result == LANOLIN_OK);
+}
+
+/* The table's order is a compaction's own: in a log that was just compacted the places rise with their tags. */
+static void test_index_behind_compaction(void) {
+    images p = yard;
+    const lanolin_mdir old = record_of(&p), dir = compact_by(DOCUMENT, &p).dir;
+    table t = of_words(56), u = of_words(56);
+    EXPECT(dir.pair[0] == 0 && build(&p, dir, DOCUMENT, &t).places == 28);
+    for (int i = 0; i < 28; i++) {
+        EXPECT(t.words[2 * i] == YARD_PLACES[2 * i] && t.words[2 * i + 1] < dir.off);
+        if (i) EXPECT(t.words[2 * i + 1] > t.words[2 * i - 1]);
+    }
+    expect_lookups(&p, dir, &t);
+    /* the record from before is of the other block: its log is still there, but nothing extends it to the new one */
+    EXPECT(is_left(extend(&p, old, dir, DOCUMENT, &u), &u, LANOLIN_ERR_INVAL));
+    EXPECT(is_table(build(&p, old, DOCUMENT, &u), &u, YARD_PLACES, 28));
+}
+
+static void test_index(void) {
+    test_index_of_samples();
+    test_index_reads_pair_and_end();
+    test_index_of_every_end();
+    test_index_too_short();
+    test_index_of_moved_slots();
+    test_index_order();
+    test_index_of_the_rest();
+    test_index_ids();
+    test_index_of_all_attributes();
+    test_index_invalid();
+    test_extend_is_build();
+    for (int i = 0; i < 2; i++) test_extend_behind_commits(&FLASH[i]);
+    test_extend_of_any_table();
+    test_extend_refused();
+    test_index_get();
+    test_index_get_invalid();
+    test_get_from_any_place();
+    test_get_from_any_table();
+    test_compact_with();
+    test_index_behind_compaction();
+}
+
+/* samples/instructions.pair: two blocks of 512 bytes. */
+static int read_yard(const char *samples) {
+    char path[1024];
+    snprintf(path, sizeof path, "%s/instructions.pair", samples);
+    FILE *f = fopen(path, "rb");
+    if (!f) return 0;
+    size_t read = fread(yard.b0, 1, 512, f) + fread(yard.b1, 1, 512, f);
+    fclose(f);
+    return read == 1024;
+}
+
 /* ---- the names of lanolin.h, each by what the archive answers to it; document 01 says what that is */
 
 /* A commit behind the listing, on a copy. */
@@ -1171,6 +1825,8 @@ static void test_names_of_refusals(void) {
     memcpy(c0, b0, sizeof c0);
     EXPECT(lanolin_commit(G, c0, 128, b1, 128, 0, 1, 0, 0, DOCUMENT, ONES, &large, 1, b1, 69).result ==
            LANOLIN_ERR_NOSPC);
+    lanolin_mdir dir = fetch(0, 1, 0, 0).dir;
+    EXPECT(lanolin_index(G, b0, 128, b1, 128, 0, 1, dir, DOCUMENT, NULL, 0).result == LANOLIN_ERR_TABLE);
     lay_one(block, lanolin_mktag(LANOLIN_TYPE_REG, 0, 4), LISTED + 12, 4); /* a name without its create */
     memset(erased, 0xff, sizeof erased);
     EXPECT(lanolin_compact((lanolin_geometry){512, 16}, block, 512, erased, 512, 0, 1, 0, 0, DOCUMENT, ONES).result ==
@@ -1435,7 +2091,9 @@ static void test_names_of_limits(void) {
     EXPECT(lanolin_fetch(g, block, 512, erased, 512, 0, 1, 0, 0).result == LANOLIN_ERR_NOENT);
 }
 
-int main(void) {
+int main(int argc, char **argv) {
+    if (argc != 2 || !read_yard(argv[1]))
+        return fprintf(stderr, "usage: lanolin_test SAMPLES   (the directory that has instructions.pair)\n"), 2;
     memset(b0, 0xff, sizeof b0);
     memset(b1, 0xff, sizeof b1);
     memcpy(b0, LISTED, sizeof LISTED);
@@ -1467,6 +2125,7 @@ int main(void) {
     test_find_sizes();
     test_forward();
     test_refetch();
+    test_index();
     test_names_of_refusals();
     for (int i = 0; i < 2; i++) test_no_room(&FLASH[i], &FLASH[1 - i]);
     test_erased();

@@ -1,12 +1,14 @@
-/* Fetches every pair of samples/real/ or samples/zero/ and looks up each name, struct, size and attribute, all 256 attribute types of
- * each slot: they must be what the littlefs that wrote the pairs shows (shown.txt; README.md there has its lines), and
- * stand in the block where the answer says. Each name is found by lanolin_find too. Then commits to a copy of each, and
- * compacts one, under both rules: by littlefs's no pair is irregular, and after each accepted call all that littlefs
- * shows is shown as before. The forward check of the record is the log's last one; that of a commit is the same whether
- * littlefs wrote it or this library. Last each pair is brought to a board of the other erased byte: no commit is taken
- * there before a compaction.
+/* Fetches every pair of samples/real/ or samples/zero/ and looks up each name, struct, size and attribute, all 256
+ * attribute types of each slot: they must be what the littlefs that wrote the pairs shows (shown.txt; README.md there
+ * has its lines), and stand in the block where the answer says. Each name is found by lanolin_find too. Then commits to
+ * a copy of each, and compacts one, under both rules: by littlefs's no pair is irregular, and after each accepted call
+ * all that littlefs shows is shown as before. The forward check of the record is the log's last one; that of a commit
+ * is the same whether littlefs wrote it or this library. In each of these ways an index by both rules answers every
+ * lookup as the backward walk does; it is the same by extension from each earlier commit as by a build; and a
+ * compaction with a table of any length is the same as one without. Last each pair is brought to a board of the other
+ * erased byte: no commit is taken there before a compaction.
  *
- *     real_test DIRECTORY ERASED      prints each difference and exits 1, or five lines with what was compared
+ *     real_test DIRECTORY ERASED      prints each difference and exits 1, or six lines with what was compared
  *
  * DIRECTORY is samples/real with ERASED ff, or samples/zero, of flash that erases to 0x00, with 00. */
 #include "lanolin.h"
@@ -51,6 +53,9 @@ static bool refused; /* the pair at hand, in this way */
 static unsigned found, nowhere, irregular; /* names asked for, and pairs that are not regular by document 01's rules */
 /* of the logs that littlefs wrote and of those that were written to: whether the last commit carries a forward check */
 static struct { unsigned carried, without; } forward[2];
+static uint32_t end_before; /* of the log that was committed to */
+/* tables by each rule, entries looked up in them, extensions to them, compactions with a table */
+static struct { unsigned tables[2], lookups, extended, compacted; } indexed;
 
 /* What a commit sets: an attribute of slot 0 that no pair has. */
 enum { NEW = 0x65 };
@@ -187,6 +192,7 @@ static void write_pair(void) {
     lanolin_committed c = {0};
     if (WRITES[way].compact) c = lanolin_compact(at.g, at.b0, size, at.b1, size, at.n0, at.n1, 0, 0, rules, erased());
     bool half = WRITES[way].compact && c.result == LANOLIN_OK;
+    end_before = fetch().dir.off;
     if (WRITES[way].commit && c.result == LANOLIN_OK)
         c = lanolin_commit(at.g, at.b0, size, at.b1, size, at.n0, at.n1, 0, 0, rules, erased(), &entry, entries,
                            NEW_DATA, 4);
@@ -205,6 +211,139 @@ static bool is_irregular(uint32_t rules) {
     const uint32_t size = at.g.block_size;
     return lanolin_compact_stores(at.g, at.b0, size, at.b1, size, at.n0, at.n1, 0, 0, rules, erased(), 0).result ==
            LANOLIN_ERR_IRREGULAR;
+}
+
+/* ---- the index of a log */
+
+enum { WORDS = MOST_BLOCK / 2 }; /* always enough: an entry takes four bytes of the log or more */
+
+/* A table before it is lent: any words. */
+static void any_words(uint32_t *table) { memset(table, 0xa5, WORDS * sizeof *table); }
+
+static bool is_as_it_was(const uint32_t *table, size_t from) {
+    for (size_t i = from; i < WORDS; i++)
+        if (table[i] != 0xa5a5a5a5) return false;
+    return true;
+}
+
+static lanolin_indexed build(uint32_t off, uint32_t rules, uint32_t *table, size_t len) {
+    const uint32_t size = at.g.block_size;
+    const lanolin_mdir dir = {.pair = {at.dir.pair[0], at.dir.pair[1]}, .off = off};
+    any_words(table);
+    return lanolin_index(at.g, at.b0, size, at.b1, size, at.n0, at.n1, dir, rules, table, len);
+}
+
+/* The name, struct or attribute from the table, and by the backward walk where no move is pending: answer and buffer.
+ * Answers whether it is there. */
+static bool check_lookup(const uint32_t *table, uint32_t mask, uint32_t type, uint32_t id) {
+    const uint32_t size = at.g.block_size;
+    uint8_t have[16], want[16];
+    memset(have, 0xa5, sizeof have);
+    memset(want, 0xa5, sizeof want);
+    lanolin_got walked = look_by((lanolin_gstate){0}, mask, lanolin_mktag(type, id, 0), want, sizeof want);
+    lanolin_got got = lanolin_index_get(at.g, at.b0, size, at.b1, size, at.n0, at.n1, at.dir, table, WORDS, type, id,
+                                        have, sizeof have);
+    if (got.result != walked.result || got.tag != walked.tag || got.length != walked.length || got.off != walked.off ||
+        memcmp(have, want, sizeof have))
+        differs("what the index has of a type", id, type < 0x300 ? "the name or the struct" : "an attribute");
+    indexed.lookups++;
+    return got.result == LANOLIN_OK;
+}
+
+/* Every lookup of every slot; what is found has a place, and no other is in use. */
+static void check_lookups(const uint32_t *table, uint32_t places) {
+    uint32_t there = 0;
+    for (uint32_t id = 0; id < at.dir.count; id++) {
+        there += check_lookup(table, LANOLIN_MASK_CLASS, LANOLIN_TYPE_NAME, id);
+        there += check_lookup(table, LANOLIN_MASK_CLASS, LANOLIN_TYPE_STRUCT, id);
+        for (uint32_t u = 0; u < 256; u++)
+            there += check_lookup(table, LANOLIN_MASK_TYPE, LANOLIN_TYPE_USERATTR + u, id);
+    }
+    if (there != places) differs("the number of places", 0, "not that of what is found");
+}
+
+/* Tables from no word on, up to one that has places enough: all zero, and then the same places. Answers how many were
+ * needed. */
+static size_t check_shorter(uint32_t rules, const uint32_t *table, uint32_t places) {
+    uint32_t less[WORDS];
+    for (size_t len = 0; len <= WORDS; len++) {
+        lanolin_indexed short_of = build(at.dir.off, rules, less, len);
+        if (short_of.result == LANOLIN_OK) {
+            if (len % 2 || len / 2 < places || short_of.places != places || memcmp(less, table, len * sizeof *less) ||
+                !is_as_it_was(less, len))
+                differs("the shortest table", 0, "not the same places");
+            return len;
+        }
+        bool zero = is_as_it_was(less, len);
+        for (size_t i = 0; i < len; i++) zero &= less[i] == 0;
+        if (short_of.result != LANOLIN_ERR_TABLE || short_of.places || !zero) differs("a short table", 0, "not zero");
+    }
+    return WORDS;
+}
+
+/* From the end of each earlier commit, that of the log before the last one among them: as a build. */
+static void check_extended(uint32_t rules, const uint32_t *table, uint32_t places) {
+    const uint32_t size = at.g.block_size;
+    uint32_t longer[WORDS];
+    bool from_before = false;
+    for (uint32_t off = 0; off <= at.dir.off; off++) {
+        if (build(off, rules, longer, WORDS).result != LANOLIN_OK) continue;
+        lanolin_mdir old = at.dir;
+        old.off = off;
+        lanolin_indexed extended = lanolin_index_extend(at.g, at.b0, size, at.b1, size, at.n0, at.n1, old, at.dir,
+                                                        rules, longer, WORDS);
+        if (extended.result || extended.places != places || memcmp(longer, table, sizeof longer))
+            differs("an extended table", 0, "not as it is built");
+        from_before |= off == end_before;
+        indexed.extended++;
+    }
+    if (!from_before) differs("the end before", 0, "no commit's");
+}
+
+/* A compaction with a table and without: the same answer and blocks, and the table as a build of the log leaves it, or
+ * as it was. */
+static void check_compacted_with(uint32_t rules, size_t len) {
+    const uint32_t size = at.g.block_size;
+    pair_t with = at, without = at;
+    uint32_t used[WORDS], want[WORDS];
+    any_words(used);
+    any_words(want);
+    lanolin_committed a = lanolin_compact_with(at.g, with.b0, size, with.b1, size, at.n0, at.n1, 0, 0, rules, erased(),
+                                               used, len);
+    lanolin_committed b =
+        lanolin_compact(at.g, without.b0, size, without.b1, size, at.n0, at.n1, 0, 0, rules, erased());
+    if (b.result != LANOLIN_ERR_IRREGULAR) build(at.dir.off, rules, want, len);
+    if (a.result != b.result || a.index != b.index || a.seed != b.seed || !same_record(a.dir, b.dir) ||
+        memcmp(with.b0, without.b0, size) || memcmp(with.b1, without.b1, size))
+        differs("a compaction with a table", 0, "not as without");
+    if (memcmp(used, want, sizeof used)) differs("the table behind a compaction", 0, "not as it must be");
+    indexed.compacted++;
+}
+
+/* By each rule; where both take the log, the tables are the same. */
+static void check_index(void) {
+    uint32_t tables[2][WORDS], places = 0;
+    for (uint32_t rules = LANOLIN_RULES_DOCUMENT; rules <= LANOLIN_RULES_LITTLEFS; rules++) {
+        const pair_t before = at;
+        lanolin_indexed built = build(at.dir.off, rules, tables[rules], WORDS);
+        size_t enough = 0;
+        if (is_irregular(rules)) {
+            if (built.result != LANOLIN_ERR_IRREGULAR || built.places || !is_as_it_was(tables[rules], 0))
+                differs("the index", 0, "not refused");
+        } else {
+            if (built.result != LANOLIN_OK) differs("the index", 0, "refused");
+            enough = check_shorter(rules, tables[rules], built.places);
+            check_extended(rules, tables[rules], built.places);
+            indexed.tables[rules]++;
+        }
+        const size_t lengths[5] = {0, 1, enough ? enough - 1 : 0, enough, WORDS};
+        for (int i = 0; i < 5; i++) check_compacted_with(rules, lengths[i]);
+        if (!same_blocks(&before)) differs("a block", 0, "altered by an index");
+        places = built.places;
+    }
+    if (!is_irregular(LANOLIN_RULES_DOCUMENT) && memcmp(tables[0], tables[1], sizeof *tables))
+        differs("the index", 0, "not the same by both rules");
+    check_lookups(tables[LANOLIN_RULES_LITTLEFS], places);
 }
 
 /* The lowest id that has the name, asked slot by slot, or -1. No move is pending here: find reads no global state. */
@@ -247,6 +386,7 @@ static void check_record(const char *line) {
     check_forward();
     if (is_irregular(LANOLIN_RULES_LITTLEFS)) differs("the log", 0, "irregular by littlefs's rules");
     irregular += is_irregular(LANOLIN_RULES_DOCUMENT);
+    check_index();
     if (find_name(LANOLIN_TYPE_REG, (const uint8_t *)"nowhere", 7, line) >= 0)
         differs("a name that is not there", 0, line);
     if (f.result || d->count != count || d->split != split || d->tail[0] != t0 || d->tail[1] != t1)
@@ -368,5 +508,9 @@ int main(int argc, char **argv) {
     printf("%s pairs, moved to a board of the other erased byte: %u not committed to for the end tag's validity bit, "
            "%u compacted and committed to; %u differences\n",
            name, wrong_validity, accepted[BOTH_MOVED], differences);
+    printf("%s pairs, indexed in each of these ways: %u tables by document 01's rules and %u by littlefs's, %u lookups "
+           "in them, %u extensions, %u compactions with a table; %u differences\n",
+           name, indexed.tables[0], indexed.tables[1], indexed.lookups, indexed.extended, indexed.compacted,
+           differences);
     return differences != 0 || pairs == 0;
 }

@@ -1,8 +1,8 @@
 /* How deep each call of the archive really goes: the stack below a call is painted, the call is made, and the paint
- * that is gone is counted. A pair of 32,768-byte blocks with 1,000 slots is read, written and compacted, by both rules
- * and with both erased bytes, and refused calls are among them. Prints each call's name and the most bytes that it
- * took, return address included: a measure on these inputs, to hold beside the bounds of tools/stack.py. Exits 1 if a
- * call does not answer as it must.
+ * that is gone is counted. A pair of 32,768-byte blocks with 1,000 slots is read, indexed, written and compacted, by
+ * both rules and with both erased bytes, and refused calls are among them. Prints each call's name and the most bytes
+ * that it took, return address included: a measure on these inputs, to hold beside the bounds of tools/stack.py. Exits
+ * 1 if a call does not answer as it must.
  *
  * Compiled with -maccumulate-outgoing-args, so that the stack pointer stays where it is in a function that calls, and
  * linked with -z now, since a function of the C library that is bound at its first call goes through the loader. */
@@ -12,11 +12,12 @@
 #include <stdlib.h>
 #include <string.h>
 
-enum { BLOCK = 32768, PROG = 16, SLOTS = 1000, PAINTED = 65536, PAINT = 0xa5 };
+enum { BLOCK = 32768, PROG = 16, SLOTS = 1000, WORDS = BLOCK / 2, PAINTED = 65536, PAINT = 0xa5 };
 
 static const lanolin_geometry G = {BLOCK, PROG};
 static const lanolin_gstate STILL;
 static uint8_t b0[BLOCK], b1[BLOCK], buffer[65536];
+static uint32_t table[WORDS];
 
 #define MUST(c) ((c) ? (void)0 : (printf("%s:%d: not so: %s\n", __FILE__, __LINE__, #c), exit(1)))
 
@@ -129,6 +130,33 @@ static __attribute__((noinline)) void finding(const char *name, uint32_t rules, 
     DEPTH(lanolin_find, G, PAIR, 0, 0, NONE, bytes, n, 0x001);
 }
 
+/* An index of all slots, and one that is too short; extended from the end of the first commit, and from one that is
+ * none; what it has and has not; and a number that is no rule. */
+static __attribute__((noinline)) void indexing(uint32_t first, uint32_t rules, uint32_t places) {
+    const lanolin_mdir dir = lanolin_fetch(G, PAIR, 0, 0).dir;
+    lanolin_mdir old = dir, none = dir, past = dir;
+    old.off = first;
+    none.off = first + 1;
+    past.off = BLOCK + 1;
+    MUST(lanolin_index(G, PAIR, dir, rules, table, WORDS).places == places);
+    DEPTH(lanolin_index, G, PAIR, dir, rules, table, WORDS);
+    for (uint32_t id = 0; id < SLOTS + 2; id += 77) {
+        DEPTH(lanolin_index_get, G, PAIR, dir, table, WORDS, 0x000, id, buffer, sizeof buffer);
+        DEPTH(lanolin_index_get, G, PAIR, dir, table, 2 * places, 0x374, id, buffer, 4);
+        DEPTH(lanolin_index_get, G, PAIR, dir, table, WORDS, 0x375, id, buffer, 4);
+    }
+    DEPTH(lanolin_index_get, G, PAIR, past, table, WORDS, 0x374, 0, buffer, 4);
+    DEPTH(lanolin_index, G, PAIR, dir, rules, table, places); /* half as many: -221 */
+    DEPTH(lanolin_index, G, PAIR, dir, NONE, table, WORDS);
+    DEPTH(lanolin_index, G, PAIR, none, rules, table, WORDS);
+    MUST(lanolin_index(G, PAIR, old, rules, table, WORDS).result == LANOLIN_OK);
+    DEPTH(lanolin_index_extend, G, PAIR, old, dir, rules, table, WORDS);
+    DEPTH(lanolin_index_extend, G, PAIR, old, dir, rules, table, places); /* any table: -221 */
+    DEPTH(lanolin_index_extend, G, PAIR, none, dir, rules, table, WORDS);
+    DEPTH(lanolin_index_extend, G, PAIR, dir, old, rules, table, WORDS);
+    MUST(lanolin_index_extend(G, PAIR, dir, dir, rules, table, WORDS).result == LANOLIN_OK);
+}
+
 /* An entry of every kind, and one that is bad; the other erased byte, for which the end tag has the wrong bit, a byte
  * that is none, and a number that is no rule. */
 static __attribute__((noinline)) void committing(uint32_t rules, uint8_t erased) {
@@ -163,6 +191,10 @@ static __attribute__((noinline)) void compacting(uint32_t rules, uint8_t erased)
     DEPTH(lanolin_compact_stores, G, PAIR, 0, 0, rules, erased, 0xffffffff);
     DEPTH(lanolin_compact, G, PAIR, 1, 0, rules, erased);
     DEPTH(lanolin_compact, G, PAIR, 0, 0, rules, NO_ERASED);
+    DEPTH(lanolin_compact_with, G, PAIR, 0, 0, rules, erased, table, WORDS);
+    DEPTH(lanolin_compact_with, G, PAIR, 0, 0, rules, erased, table, 1000); /* too short */
+    DEPTH(lanolin_compact_with, G, PAIR, 1, 0, rules, erased, table, WORDS);
+    DEPTH(lanolin_compact_with, G, PAIR, 0, 0, NONE, erased, table, WORDS);
     MUST(lanolin_fetch(G, PAIR, 0, 0).dir.count == SLOTS);
 }
 
@@ -221,11 +253,14 @@ int main(void) {
     without_forward();
     format(PROG);
     DEPTH(lanolin_compact, G, PAIR, 0, 0, DOCUMENT, ONES); /* no slot */
+    const uint32_t first = lanolin_fetch(G, PAIR, 0, 0).dir.off;
     fill(SLOTS);
     reading();
     finding("q212", DOCUMENT, LANOLIN_OK);
+    indexing(first, DOCUMENT, 3 * SLOTS);
     committing(DOCUMENT, ONES);
     finding("q212", DOCUMENT, LANOLIN_OK); /* a delete and a rename are in the log */
+    indexing(first, DOCUMENT, 3 * SLOTS);
     compacting(DOCUMENT, ONES);
     DEPTH(lanolin_compact, G, PAIR, 0, 0, DOCUMENT, ZEROS); /* moved to a board of the other byte */
     committing(DOCUMENT, ZEROS);
@@ -233,7 +268,9 @@ int main(void) {
     name_all(SLOTS);
     finding("\xff", DOCUMENT, LANOLIN_ERR_IRREGULAR);
     finding("\xff", LITTLEFS, LANOLIN_OK);
+    indexing(lanolin_fetch(G, PAIR, 0, 0).dir.off, LITTLEFS, SLOTS); /* one commit */
     DEPTH(lanolin_compact, G, PAIR, 0, 0, DOCUMENT, ONES); /* -202 */
+    DEPTH(lanolin_compact_with, G, PAIR, 0, 0, DOCUMENT, ONES, table, WORDS);
     committing(LITTLEFS, ONES);
     compacting(LITTLEFS, ONES);
     for (int i = 0; calls[i].name; i++) printf("%s %ld\n", calls[i].name, calls[i].most);

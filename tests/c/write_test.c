@@ -1,14 +1,18 @@
 /* Makes the commits and compactions of samples/writes/cases and prints what each answers and leaves, one line a case,
- * as samples/writes/expected has it (samples/make_writes.py says how a case is written). Usage: write_test FILE. */
+ * as samples/writes/expected has it (samples/make_writes.py says how a case is written).
+ *
+ *     write_test FILE [WORDS]     with WORDS each whole compaction is made with a table of so many words: the same */
 #include "lanolin.h"
 
 #include <stdio.h>
 #include <stdlib.h>
 #include <string.h>
 
-enum { MOST_BYTES = 65537, MOST_ENTRIES = 8193, MOST_LINE = 200000 };
+enum { MOST_BYTES = 65537, MOST_ENTRIES = 8193, MOST_LINE = 200000, MOST_WORDS = 16384 };
 static uint8_t b0[MOST_BYTES], b1[MOST_BYTES], data[MOST_BYTES];
 static lanolin_entry entries[MOST_ENTRIES];
+static uint32_t table[MOST_WORDS];
+static size_t words = MOST_WORDS + 1; /* more than there are: no table is lent */
 
 static void broken(const char *what) {
     fprintf(stderr, "write_test: not a case: %s\n", what);
@@ -64,6 +68,12 @@ static void print_record(lanolin_mdir dir) {
     else printf(dir.forward_size || dir.forward_sum ? "none, and not 0" : "none");
 }
 
+static lanolin_committed compact(lanolin_geometry g, size_t l0, size_t l1, uint32_t n0, uint32_t n1, uint32_t count,
+                                 uint32_t seed, uint32_t rules, uint8_t erased) {
+    if (words > MOST_WORDS) return lanolin_compact(g, b0, l0, b1, l1, n0, n1, count, seed, rules, erased);
+    return lanolin_compact_with(g, b0, l0, b1, l1, n0, n1, count, seed, rules, erased, table, words);
+}
+
 static void run(char *line) {
     enum { FIELDS = 15 };
     char *field[FIELDS];
@@ -92,7 +102,7 @@ static void run(char *line) {
     } else {
         lanolin_committed c =
             commit ? lanolin_commit(g, b0, l0, b1, l1, n0, n1, count, seed, rules, erased, entries, e, data, d)
-                   : lanolin_compact(g, b0, l0, b1, l1, n0, n1, count, seed, rules, erased);
+                   : compact(g, l0, l1, n0, n1, count, seed, rules, erased);
         if (c.result == 0) print_record(c.dir);
         else printf("refused %d index %u", c.result, c.index);
     }
@@ -101,9 +111,10 @@ static void run(char *line) {
 
 int main(int argc, char **argv) {
     static char line[MOST_LINE];
-    FILE *file = argc == 2 ? fopen(argv[1], "r") : NULL;
-    if (!file) {
-        fprintf(stderr, "usage: write_test FILE\nFILE has the cases, as samples/writes/cases\n");
+    FILE *file = argc == 2 || argc == 3 ? fopen(argv[1], "r") : NULL;
+    if (argc == 3) words = strtoul(argv[2], NULL, 10);
+    if (!file || (argc == 3 && words > MOST_WORDS)) {
+        fprintf(stderr, "usage: write_test FILE [WORDS]\nFILE has the cases, as samples/writes/cases\n");
         return 2;
     }
     while (fgets(line, sizeof line, file)) run(line);

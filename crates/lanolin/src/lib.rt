@@ -19,6 +19,9 @@ pub mod reading;
 // Commit and compaction; the exports that hold the list of entries are below.
 pub mod writing;
 
+// An index in memory.
+pub mod indexing;
+
 // The global state, which stands with the caller.
 pub mod global;
 

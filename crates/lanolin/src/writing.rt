@@ -1,7 +1,8 @@
-// Compaction for C callers, and the same with a limit of stores. Each export hands its numbers and slices to the call
+// Compaction for C callers, and the same with a limit of stores or with a table. Each export hands its numbers and slices to the call
 // of the same name.
 ghost use mathlib.Core.Path.{_≡_};
 ghost use Rattle.format.specs.Compaction.{compactOf, compactStoresOf};
+ghost use Rattle.format.specs.Index.{compactTable};
 ghost use Rattle.format.specs.Stopped.{CompactLeaves, CompactStoresLeaves};
 ghost use Rattle.lanolin_answers.specs.Values.{committedOut, storedOut};
 use format::Geometry;
@@ -63,4 +64,31 @@ pub extern "C" fn lanolin_compact_stores(
         erased,
         stores,
     ))
+}
+
+// The same with a table as working memory.
+#[no_mangle]
+pub extern "C" fn lanolin_compact_with(
+    g: Geometry,
+    b0: &mut [u8],
+    b1: &mut [u8],
+    n0: u32,
+    n1: u32,
+    block_count: u32,
+    seed: u32,
+    rules: u32,
+    erased: u8,
+    table: &mut [u32],
+) -> CommittedOut
+    ensures { λ r. ⌜ r ≡ committedOut seed (compactOf g (now (b0 .entry)) (now (b1 .entry)) n0 n1 «block_count»
+        seed rules erased) ⌝ }
+    ensures { λ _. ⌜ CompactLeaves g (now (b0 .entry)) (now (b1 .entry)) n0 n1 «block_count» seed rules erased
+        (now (b0 .exit)) (now (b1 .exit)) ⌝ }
+    ensures { λ _. ⌜ now (table .exit) ≡ compactTable g (now (b0 .entry)) (now (b1 .entry)) n0 n1 «block_count» seed
+        rules erased (now (table .entry)) ⌝ }
+{
+    committed_out(
+        seed,
+        compact::lfs_dir_compact_with(g, b0, b1, n0, n1, block_count, seed, rules, erased, table),
+    )
 }

@@ -1,6 +1,7 @@
-//! littlefs metadata pairs from Rust: fetch and refetch, lookup, finding by name,
-//! commit and compaction of one pair, each proved against its definition, through the
-//! C-callable archive `liblanolin.a`, which `./lanolin lib` builds.
+//! littlefs metadata pairs from Rust: fetch and refetch, lookup, finding by name, an
+//! index in memory, commit and compaction of one pair, each proved against its
+//! definition, through the C-callable archive `liblanolin.a`, which `./lanolin lib`
+//! builds.
 //!
 //! The deadline of a slot, its user attribute 0x74:
 //!
@@ -25,14 +26,15 @@
 //! has the theorems' names, what they rest on and what they do not say. The
 //! caller owes nothing: every call takes any bytes, numbers and records, ends,
 //! and answers bad input with a [`Refusal`], which alters no byte of what was
-//! lent. "Document 01" is what this project calls the rules that it is built to;
+//! lent, but for the table of an [`Index`]. "Document 01" is what this project calls the rules that it is built to;
 //! `docs/FORMAT.md` tells the format, `docs/REFUSALS.md` each refusal and what to
 //! do then.
 //!
 //! The constants are those of `include/lanolin.h` without their `LANOLIN_`. Whole
 //! programs are `examples/first.rs`, in ten lines, `examples/deadline.rs`,
 //! `examples/find.rs`, which asks by name, `examples/set_deadline.rs`, which
-//! writes, and `examples/restart.rs`, a controller's restart.
+//! writes, `examples/restart.rs`, a controller's restart, and `examples/wheel.rs`,
+//! the same from an index.
 //!
 //! The calls with a limit of stores, which are for trying what a power cut
 //! leaves, and most of the leaves are not here; `include/lanolin.h` has them.
@@ -44,6 +46,7 @@
 
 mod entry;
 mod erased;
+mod index;
 mod names;
 #[allow(unsafe_code)]
 mod raw;
@@ -52,6 +55,7 @@ mod rules;
 
 pub use entry::Entry;
 pub use erased::Erased;
+pub use index::{Held, Holding, Index, Slot, Slots};
 pub use names::*;
 pub use refusal::Refusal;
 pub use rules::Rules;
@@ -125,6 +129,12 @@ impl Tag {
     /// next.
     pub fn new(type_: u32, id: u32, size: u32) -> Tag {
         Tag(raw::mktag(type_, id, size))
+    }
+
+    /// The type's upper three bits: its class, [`TYPE_NAME`], [`TYPE_STRUCT`],
+    /// [`TYPE_USERATTR`], ..
+    pub fn type1(self) -> u32 {
+        raw::tag_type1(self.0)
     }
 
     /// All eleven bits of the type: one of the `TYPE_` names.
@@ -446,7 +456,7 @@ impl Pair<'_> {
     }
 }
 
-/// The answer of the two lookups of an entry.
+/// The answer of the lookups of an entry, and of an index.
 fn found(got: raw::Got) -> Result<Found, Refusal> {
     let raw::Got {
         result,
@@ -574,6 +584,46 @@ impl PairMut<'_> {
     ) -> Result<Fetched, Refusal> {
         let (rules, erased) = (rules.number(), erased.byte());
         let answer = raw::compact(self, block_count, seed, rules, erased);
+        refusal::of_fetch(answer.result, answer.index, answer.dir.into(), answer.seed)
+    }
+
+    /// [`PairMut::compact`] with a table lent as working memory, of any length and
+    /// with any words: the same images and the same answer, and sooner where the table
+    /// has places enough for an [`Index`] of the pair. Where it has not, the old way is
+    /// taken.
+    ///
+    /// Behind the call the table is as [`Index::build`] leaves it for the log that was
+    /// compacted, also where there is no way to write it
+    /// ([`Refusal::NoSpace`], [`Refusal::Coincidence`]): all zero where that would be
+    /// [`Refusal::TableFull`]. With any other refusal it is as it was. It is not the index
+    /// of the new block, which is built anew.
+    ///
+    /// Proved: images and answer are those of [`PairMut::compact`], whatever the table,
+    /// and the table behind it equals `compactTable`.
+    ///
+    /// ```
+    /// # use lanolin::*;
+    /// # let mut image = *include_bytes!(concat!(env!("CARGO_MANIFEST_DIR"), "/../../samples/q212.pair"));
+    /// # let (b0, b1) = image.split_at_mut(128);
+    /// # let geometry = Geometry { block_size: 128, prog_size: 16 };
+    /// # let mut pair = PairMut { geometry, images: [b0, b1], numbers: [0, 1] };
+    /// let (rules, mut table) = (Rules::Document, [0; 64]);
+    /// let record = pair.compact_with(0, 0, rules, Erased::Ones, &mut table)?.record;
+    /// assert_eq!((record.pair, record.rev, record.count), ([1, 0], 2, 1));
+    /// let index = Index::build(&pair.as_pair(), record, rules, &mut table)?;
+    /// # assert_eq!(index.places(), 3);
+    /// # Ok::<(), lanolin::Refusal>(())
+    /// ```
+    pub fn compact_with(
+        &mut self,
+        block_count: u32,
+        seed: u32,
+        rules: Rules,
+        erased: Erased,
+        table: &mut [u32],
+    ) -> Result<Fetched, Refusal> {
+        let (rules, erased) = (rules.number(), erased.byte());
+        let answer = raw::compact_with(self, block_count, seed, rules, erased, table);
         refusal::of_fetch(answer.result, answer.index, answer.dir.into(), answer.seed)
     }
 }

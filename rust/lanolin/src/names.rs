@@ -7,7 +7,7 @@
 /// The version of the header, major number.
 pub const VERSION_MAJOR: u32 = 0;
 /// The version of the header, minor number.
-pub const VERSION_MINOR: u32 = 8;
+pub const VERSION_MINOR: u32 = 9;
 /// Both: the major number in the upper half, the minor in the lower.
 pub const VERSION: u32 = VERSION_MAJOR << 16 | VERSION_MINOR;
 
@@ -34,6 +34,8 @@ pub const ERR_VALIDITY: i32 = -212;
 pub const ERR_NOTERASED: i32 = -213;
 /// The number of [`Refusal::Coincidence`](crate::Refusal::Coincidence).
 pub const ERR_COINCIDENCE: i32 = -204;
+/// The number of [`Refusal::TableFull`](crate::Refusal::TableFull).
+pub const ERR_TABLE: i32 = -221;
 
 /// The class of names.
 pub const TYPE_NAME: u32 = 0x000;

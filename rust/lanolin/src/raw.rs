@@ -21,7 +21,7 @@ const _: () = {
     assert!(size_of::<Gstate>() == 12 && size_of::<Entry>() == 12);
     assert!(size_of::<Fetched>() == 52 && size_of::<Committed>() == 56);
     assert!(size_of::<Got>() == 16 && size_of::<Info>() == 268);
-    assert!(size_of::<Named>() == 12);
+    assert!(size_of::<Named>() == 12 && size_of::<Indexed>() == 8);
 };
 
 /// `lanolin_mdir`.
@@ -116,6 +116,13 @@ pub struct Named {
     pub id: u32,
 }
 
+/// `lanolin_indexed`.
+#[repr(C)]
+pub struct Indexed {
+    pub result: i32,
+    pub places: u32,
+}
+
 /// `lanolin_committed`.
 #[repr(C)]
 pub struct Committed {
@@ -158,6 +165,19 @@ extern "C" {
         n0: u32, n1: u32, block_count: u32, seed: u32, rules: u32,
         name: *const u8, name_len: usize, type_: u32,
     ) -> Named;
+    fn lanolin_index(
+        geometry: Geometry, b0: *const u8, b0_len: usize, b1: *const u8, b1_len: usize,
+        n0: u32, n1: u32, dir: Mdir, rules: u32, table: *mut u32, table_len: usize,
+    ) -> Indexed;
+    fn lanolin_index_extend(
+        geometry: Geometry, b0: *const u8, b0_len: usize, b1: *const u8, b1_len: usize,
+        n0: u32, n1: u32, old: Mdir, dir: Mdir, rules: u32, table: *mut u32, table_len: usize,
+    ) -> Indexed;
+    fn lanolin_index_get(
+        geometry: Geometry, b0: *const u8, b0_len: usize, b1: *const u8, b1_len: usize,
+        n0: u32, n1: u32, dir: Mdir, table: *const u32, table_len: usize,
+        type_: u32, id: u32, buffer: *mut u8, gsize: usize,
+    ) -> Got;
     fn lanolin_commit(
         geometry: Geometry, b0: *mut u8, b0_len: usize, b1: *mut u8, b1_len: usize,
         n0: u32, n1: u32, block_count: u32, seed: u32, rules: u32, erased: u8,
@@ -167,7 +187,13 @@ extern "C" {
         geometry: Geometry, b0: *mut u8, b0_len: usize, b1: *mut u8, b1_len: usize,
         n0: u32, n1: u32, block_count: u32, seed: u32, rules: u32, erased: u8,
     ) -> Committed;
+    fn lanolin_compact_with(
+        geometry: Geometry, b0: *mut u8, b0_len: usize, b1: *mut u8, b1_len: usize,
+        n0: u32, n1: u32, block_count: u32, seed: u32, rules: u32, erased: u8,
+        table: *mut u32, table_len: usize,
+    ) -> Committed;
     fn lanolin_mktag(type_: u32, id: u32, size: u32) -> u32;
+    fn lanolin_tag_type1(tag: u32) -> u32;
     fn lanolin_tag_type3(tag: u32) -> u32;
     fn lanolin_tag_id(tag: u32) -> u32;
     fn lanolin_tag_size(tag: u32) -> u32;
@@ -258,6 +284,46 @@ pub fn find(
     unsafe { lanolin_find(g, p0, l0, p1, l1, n0, n1, count, seed, rules, p, l, type_) }
 }
 
+pub fn index(pair: &crate::Pair, record: Record, rules: u32, table: &mut [u32]) -> Indexed {
+    let (g, [b0, b1], [n0, n1]) = (pair.geometry, pair.images, pair.numbers);
+    let (p0, l0, p1, l1) = (b0.as_ptr(), b0.len(), b1.as_ptr(), b1.len());
+    let (t, tl, dir) = (table.as_mut_ptr(), table.len(), record.into());
+    // SAFETY: images and table are valid for their lengths, and the table is lent
+    // exclusively; any number and record is answered.
+    unsafe { lanolin_index(g, p0, l0, p1, l1, n0, n1, dir, rules, t, tl) }
+}
+
+pub fn index_extend(
+    pair: &crate::Pair,
+    old: Record,
+    record: Record,
+    rules: u32,
+    table: &mut [u32],
+) -> Indexed {
+    let (g, [b0, b1], [n0, n1]) = (pair.geometry, pair.images, pair.numbers);
+    let (p0, l0, p1, l1) = (b0.as_ptr(), b0.len(), b1.as_ptr(), b1.len());
+    let (t, tl, old, dir) = (table.as_mut_ptr(), table.len(), old.into(), record.into());
+    // SAFETY: as for `index`.
+    unsafe { lanolin_index_extend(g, p0, l0, p1, l1, n0, n1, old, dir, rules, t, tl) }
+}
+
+pub fn index_get(
+    pair: &crate::Pair,
+    record: Record,
+    table: &[u32],
+    type_: u32,
+    id: u32,
+    buffer: &mut [u8],
+) -> Got {
+    let (g, [b0, b1], [n0, n1]) = (pair.geometry, pair.images, pair.numbers);
+    let (p0, l0, p1, l1) = (b0.as_ptr(), b0.len(), b1.as_ptr(), b1.len());
+    let (t, tl, dir) = (table.as_ptr(), table.len(), record.into());
+    let (p, l) = (buffer.as_mut_ptr(), buffer.len());
+    // SAFETY: images, table and buffer are valid for their lengths, and the buffer is
+    // lent exclusively; any words of the table are answered.
+    unsafe { lanolin_index_get(g, p0, l0, p1, l1, n0, n1, dir, t, tl, type_, id, p, l) }
+}
+
 pub fn commit(
     pair: &mut crate::PairMut,
     count: u32,
@@ -292,10 +358,29 @@ pub fn compact(
     unsafe { lanolin_compact(g, p0, l0, p1, l1, n0, n1, count, seed, rules, erased) }
 }
 
+pub fn compact_with(
+    pair: &mut crate::PairMut,
+    count: u32,
+    seed: u32,
+    rules: u32,
+    erased: u8,
+    table: &mut [u32],
+) -> Committed {
+    let (g, [b0, b1], [n0, n1]) = (pair.geometry, &mut pair.images, pair.numbers);
+    let (p0, l0, p1, l1) = (b0.as_mut_ptr(), b0.len(), b1.as_mut_ptr(), b1.len());
+    let (t, tl) = (table.as_mut_ptr(), table.len());
+    // SAFETY: as for `commit`; the table is lent exclusively too.
+    unsafe { lanolin_compact_with(g, p0, l0, p1, l1, n0, n1, count, seed, rules, erased, t, tl) }
+}
+
 pub fn mktag(type_: u32, id: u32, size: u32) -> u32 {
     // SAFETY: numbers alone, and any number is answered; here and in the next
-    // three.
+    // four.
     unsafe { lanolin_mktag(type_, id, size) }
+}
+
+pub fn tag_type1(tag: u32) -> u32 {
+    unsafe { lanolin_tag_type1(tag) }
 }
 
 pub fn tag_type3(tag: u32) -> u32 {
@@ -327,6 +412,13 @@ mod tests {
         split: false,
         tail: [0; 2],
         forward: None,
+    };
+
+    /// Of the listing's record pair and end.
+    const LISTED: Record = Record {
+        pair: [0, 1],
+        off: 48,
+        ..NOTHING
     };
 
     /// A record goes into a lookup as it came, with a forward check and without.
@@ -370,14 +462,17 @@ mod tests {
         }
     }
 
-    /// A commit and a compaction with these numbers: -22, and no byte altered.
-    fn both_are_invalid(image: [u8; 256], rules: u32, erased: u8) {
-        let mut bytes = image;
+    /// A commit and a compaction, with a table and without, with these numbers: -22,
+    /// and no byte altered.
+    fn all_are_invalid(image: [u8; 256], rules: u32, erased: u8) {
+        let (mut bytes, mut table) = (image, [7; 9]);
         let mut pair = pair_of(&mut bytes);
         let answers = [
             commit(&mut pair, 0, 7, rules, erased, &[], &[]),
             compact(&mut pair, 0, 7, rules, erased),
+            compact_with(&mut pair, 0, 7, rules, erased, &mut table),
         ];
+        assert_eq!(table, [7; 9]);
         for answer in answers {
             assert_eq!((answer.result, answer.index), (ERR_INVAL, 0));
             assert_eq!((Record::from(answer.dir), answer.seed), (NOTHING, 7));
@@ -394,13 +489,21 @@ mod tests {
         for image in [LISTING, [0xff; 256]] {
             for rules in [2, 3, 1 << 31, u32::MAX] {
                 for erased in [ERASED_ONES, ERASED_ZEROS] {
-                    both_are_invalid(image, rules, erased);
+                    all_are_invalid(image, rules, erased);
                 }
                 let mut bytes = image;
                 let pair = pair_of(&mut bytes);
                 let named = find(&pair.as_pair(), 0, 7, rules, b"q212", TYPE_REG);
                 let answer = (named.result, named.found, named.id);
                 assert_eq!(answer, (ERR_INVAL, false, 0));
+                let (reader, mut table) = (pair.as_pair(), [7; 9]);
+                for indexed in [
+                    index(&reader, LISTED, rules, &mut table),
+                    index_extend(&reader, LISTED, LISTED, rules, &mut table),
+                ] {
+                    assert_eq!((indexed.result, indexed.places), (ERR_INVAL, 0));
+                }
+                assert_eq!(table, [7; 9]);
                 assert_eq!(bytes, image);
             }
         }
@@ -415,9 +518,37 @@ mod tests {
             moved[48..].fill(erased);
             for image in [LISTING, [0xff; 256], [erased; 256], moved] {
                 for rules in [RULES_DOCUMENT, RULES_LITTLEFS, 2] {
-                    both_are_invalid(image, rules, erased);
+                    all_are_invalid(image, rules, erased);
                 }
             }
+        }
+    }
+
+    /// Of a table that no build made, which [`Index`](crate::Index) can't have, the
+    /// answer stays in the block: up to its end, past it, and where the sum of offset
+    /// and size would wrap.
+    #[test]
+    fn any_table_is_answered_in_bounds() {
+        let mut bytes = LISTING;
+        let pair = pair_of(&mut bytes);
+        let places = [
+            (124, OK),
+            (125, ERR_CORRUPT),
+            (128, ERR_CORRUPT),
+            (u32::MAX, ERR_CORRUPT),
+            (u32::MAX - 3, ERR_CORRUPT),
+        ];
+        for (off, result) in places {
+            let (table, mut buffer) = ([0x37400004, off, 9], [7; 4]);
+            let got = index_get(&pair.as_pair(), LISTED, &table, 0x374, 0, &mut buffer);
+            let expected = if result == OK { (8, off) } else { (0, 0) };
+            assert_eq!(got.result, result, "offset {off}");
+            assert_eq!((got.length, got.off), expected);
+            assert_eq!(buffer, if result == OK { [0xff; 4] } else { [7; 4] });
+        }
+        for table in [&[][..], &[0x37400004], &[0, 27], &[0x37400404, 27]] {
+            let got = index_get(&pair.as_pair(), LISTED, table, 0x374, 0, &mut []);
+            assert_eq!(got.result, ERR_NOENT, "{table:x?}");
         }
     }
 }

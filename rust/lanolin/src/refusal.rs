@@ -1,7 +1,7 @@
 //! Refusals: document 01's numbers as an enum, one case for each line of its
 //! table, with what comes back; in the place of its -203 three cases say why
-//! there is no room. The cases and their names are those of
-//! `crates/format/src/lib.rt`.
+//! there is no room, and one is the index's. The cases and their names are those
+//! of `crates/format/src/lib.rt`.
 //!
 //! That a call gives no other answers than its own is proved (`fetch-possible`,
 //! `getslice-possible`, `find-possible`, `commit-possible`, `compact-possible`), of the archive of
@@ -12,7 +12,10 @@ use crate::names::*;
 use crate::{Fetched, Record};
 use core::fmt;
 
-/// Why a call was refused. A refused call alters no byte of what it was lent.
+/// Why a call was refused. A refused call alters no byte of what it was lent, but
+/// for the table of an index: with [`Refusal::TableFull`] it is all zero, and
+/// [`PairMut::compact_with`](crate::PairMut::compact_with) has used it also where it
+/// then can't write.
 ///
 /// There may be more of them one day, so that a `match` needs a last arm. What
 /// is right there is what is right for [`Refusal::Unknown`]: not to repeat the
@@ -33,7 +36,8 @@ pub enum Refusal {
     /// -201: an entry is bad; the index from 0 of the first bad one. Commit only.
     BadEntry(u32),
     /// -202: the committed log isn't regular by the [`Rules`](crate::Rules) given.
-    /// Find, commit and compaction.
+    /// Find, index, commit and compaction; of an index also where no commit ends at the
+    /// record's end.
     Irregular,
     /// -28: the rounded end passes the block. Commit and compaction; of a
     /// compaction also where the creates of a block that littlefs compacted have
@@ -51,6 +55,9 @@ pub enum Refusal {
     /// -204: the checksum coincidence, in which a commit cut short could be
     /// taken for a whole one. Commit and compaction.
     Coincidence,
+    /// -221: after some entry of the log more are live than the table of an
+    /// [`Index`](crate::Index) has places. The table is then all zero. Index only.
+    TableFull,
     /// A number that none of these has. The archive of this repository never
     /// answers one; it comes from an archive that is newer than this crate. Of
     /// it nothing is promised here.
@@ -79,6 +86,7 @@ impl Refusal {
             Refusal::WrongValidity => ERR_VALIDITY,
             Refusal::NotErased(_) => ERR_NOTERASED,
             Refusal::Coincidence => ERR_COINCIDENCE,
+            Refusal::TableFull => ERR_TABLE,
             Refusal::Unknown(number) => number,
         }
     }
@@ -125,6 +133,7 @@ impl fmt::Display for Refusal {
                 )
             }
             Refusal::Coincidence => write!(f, "the checksum coincidence"),
+            Refusal::TableFull => write!(f, "the table has too few places"),
             Refusal::Unknown(_) => write!(f, "a number that this crate doesn't know"),
         }
     }
@@ -132,7 +141,7 @@ impl fmt::Display for Refusal {
 
 impl core::error::Error for Refusal {}
 
-/// The answer of a lookup.
+/// The answer of a lookup, or of an index.
 pub(crate) fn of_lookup<T>(result: i32, found: T) -> Result<T, Refusal> {
     match result {
         OK => Ok(found),
@@ -168,6 +177,7 @@ fn refused(number: i32, index: u32) -> Refusal {
         ERR_VALIDITY => Refusal::WrongValidity,
         ERR_NOTERASED => Refusal::NotErased(index),
         ERR_COINCIDENCE => Refusal::Coincidence,
+        ERR_TABLE => Refusal::TableFull,
         other => Refusal::Unknown(other),
     }
 }
@@ -180,12 +190,12 @@ mod tests {
     /// number that it hasn't is handed on, whatever it is.
     #[test]
     fn numbers_are_kept() {
-        for number in [-22, -84, -201, -202, -28, -211, -212, -213, -204] {
+        for number in [-22, -84, -201, -202, -28, -211, -212, -213, -204, -221] {
             let refusal = refused(number, 0);
             assert_eq!(refusal.number(), number);
             assert!(!matches!(refusal, Refusal::Unknown(_)));
         }
-        for number in [-203, -1, 1, i32::MIN, i32::MAX] {
+        for number in [-203, -220, -222, -1, 1, i32::MIN, i32::MAX] {
             assert_eq!(refused(number, 0), Refusal::Unknown(number));
             assert_eq!(of_lookup(number, ()), Err(Refusal::Unknown(number)));
             assert_eq!(Refusal::Unknown(number).number(), number);

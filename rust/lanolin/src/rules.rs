@@ -1,11 +1,11 @@
-//! Which logs are regular: what finding by name, and a call that writes, ask of
-//! the log that is there.
+//! Which logs are regular: what finding by name, an index, and a call that writes
+//! ask of the log that is there.
 
 use crate::names::*;
 
-/// The rules by which the log of a pair is regular. Of any other log a find, a
-/// commit or a compaction is [`Refusal::Irregular`](crate::Refusal::Irregular);
-/// fetch and the lookups read it.
+/// The rules by which the log of a pair is regular. Of any other log a find, an
+/// index, a commit or a compaction is
+/// [`Refusal::Irregular`](crate::Refusal::Irregular); fetch and the lookups read it.
 ///
 /// Use [`Rules::Document`], the default, for pairs that this library wrote. Use
 /// [`Rules::Littlefs`] where littlefs itself wrote to the pair: its compaction
