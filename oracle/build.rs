@@ -116,8 +116,9 @@ fn find_port(root: &Path) {
 }
 
 /// Sets a cfg for each call that an older archive lacks, if it is there: the two
-/// that write with and without a limit, the find, and the refetch. An archive keeps
-/// the names of its calls as text, each with a zero behind it.
+/// that write with and without a limit, the find, the refetch, the index with its
+/// three calls, and the compaction with a lent table. An archive keeps the names of
+/// its calls as text, each with a zero behind it.
 fn find_calls(archive: &Path) {
     let bytes = fs::read(archive).expect("the archive is read");
     let there = |name: &[u8]| bytes.windows(name.len()).any(|part| part == name);
@@ -126,6 +127,8 @@ fn find_calls(archive: &Path) {
         ("lanolin_compact", "lanolin_compact_stores\0"),
         ("lanolin_find", "lanolin_find\0"),
         ("lanolin_refetch", "lanolin_refetch\0"),
+        ("lanolin_index", "lanolin_index_extend\0"),
+        ("lanolin_compact_with", "lanolin_compact_with\0"),
     ] {
         println!("cargo::rustc-check-cfg=cfg({call})");
         if there(needs.as_bytes()) {

@@ -1,8 +1,8 @@
 //! A directory of many slots, and what is measured on it: fetch and lookups.
 //!
-//! Each slot is a small file with a user attribute. Slots are created at places
-//! spread over the directory, a few in each commit, so that a lookup has
-//! splices to go around.
+//! Each slot is a small file with a user attribute, a number of four bytes. Slots are
+//! created at places spread over the directory, a few in each commit, so that a lookup
+//! has splices to go around; or, for the index, in another order.
 //!
 //! Assumes that the slots fit into the block, and checks it.
 
@@ -23,7 +23,7 @@ pub struct Directory {
     pub images: [Vec<u8>; 2],
     pub geometry: Geometry,
     pub dir: Mdir,
-    slots: u32,
+    pub slots: u32,
     /// The slot that was created first: its create is the log's first tag.
     oldest: u32,
 }
@@ -36,37 +36,50 @@ pub struct Line {
     pub times: Times,
 }
 
+/// Where the slots are created: the place of each, by how many there are.
+pub type Order = fn(u32) -> u32;
+
+/// A multiplier without a common factor spreads the places.
+pub const SPREAD: Order = |i| i * 7919 % (i + 1);
+pub const IN_ORDER: Order = |i| i;
+pub const ALWAYS_FIRST: Order = |_| 0;
+
 impl Directory {
-    pub fn new(block_size: u32, slots: u32, in_a_commit: u32) -> Directory {
-        let geometry = Geometry {
-            block_size,
-            prog_size: PROG_SIZE,
-        };
+    pub fn new(order: Order, block_size: u32, slots: u32, in_a_commit: u32) -> Directory {
         let mut log = Log::new(block_size as usize, 1);
         let mut oldest = 0;
         for i in 0..slots {
-            // A multiplier without a common factor spreads the places.
-            let id = i * 7919 % (i + 1);
+            let id = order(i);
             oldest += u32::from(i > 0 && id <= oldest);
             create(&mut log, id, i);
             if i % in_a_commit == in_a_commit - 1 || i == slots - 1 {
                 commit(&mut log);
             }
         }
-        let images = [log.bytes, vec![0xff; block_size as usize]];
-        let mut directory = Directory {
-            images,
-            geometry,
-            dir: Mdir::default(),
-            slots,
-            oldest,
-        };
-        directory.dir = Rust::default().fetch(&directory.fetch(0)).dir;
-        assert_eq!(u32::from(directory.dir.count), slots, "the slots fit");
+        let directory = Directory::of(log, oldest);
+        assert_eq!(directory.slots, slots, "the slots fit");
         directory
     }
 
-    fn blocks<'a>(&self, images: &'a [Vec<u8>; 2]) -> Blocks<'a> {
+    /// What a log leaves.
+    pub fn of(log: Log, oldest: u32) -> Directory {
+        let block_size = log.bytes.len();
+        let mut directory = Directory {
+            images: [log.bytes, vec![0xff; block_size]],
+            geometry: Geometry {
+                block_size: block_size as u32,
+                prog_size: PROG_SIZE,
+            },
+            dir: Mdir::default(),
+            slots: 0,
+            oldest,
+        };
+        directory.dir = Rust::default().fetch(&directory.fetch(0)).dir;
+        directory.slots = directory.dir.count.into();
+        directory
+    }
+
+    pub fn blocks<'a>(&self, images: &'a [Vec<u8>; 2]) -> Blocks<'a> {
         Blocks {
             geometry: self.geometry,
             images: [&images[0], &images[1]],
@@ -95,10 +108,15 @@ impl Directory {
         }
     }
 
+    /// So many of its slots, spread evenly.
+    pub fn ids(&self, looked_up: u32) -> Vec<u32> {
+        let step = self.slots.div_ceil(looked_up).max(1);
+        (0..self.slots).step_by(step as usize).collect()
+    }
+
     /// Every line of this directory, with so many of its slots looked up.
     pub fn lines(&self, looked_up: u32) -> Vec<Line> {
-        let step = self.slots.div_ceil(looked_up).max(1);
-        let ids: Vec<u32> = (0..self.slots).step_by(step as usize).collect();
+        let ids = self.ids(looked_up);
         let mut found = Vec::new();
         for &id in &ids {
             found.push(name_of(id));
@@ -177,14 +195,14 @@ fn create(log: &mut Log, id: u32, i: u32) {
         (tag_of(CREATE, id, 0), &[][..]),
         (tag_of(FILE, id, 5), name.as_bytes()),
         (tag_of(INLINE, id, 4), b"data"),
-        (tag_of(ATTRIBUTE, id, 4), b"attr"),
+        (tag_of(ATTRIBUTE, id, 4), &i.to_le_bytes()),
     ];
     for (tag, data) in entries {
         assert!(log.put(tag, data), "the slots fit");
     }
 }
 
-fn commit(log: &mut Log) {
+pub fn commit(log: &mut Log) {
     let size = log.check_size(0, PROG_SIZE as usize);
     assert!(log.check(tag_of(CHECK, NO_SLOT, size)), "the slots fit");
 }
@@ -194,7 +212,7 @@ pub fn name_of(id: u32) -> Query {
     query(0x700, NAME, id)
 }
 
-fn query(types: u32, type_: u32, id: u32) -> Query {
+pub fn query(types: u32, type_: u32, id: u32) -> Query {
     Query {
         mask: types << 20 | ID_BITS,
         key: tag_of(type_, id, 0),
@@ -203,6 +221,6 @@ fn query(types: u32, type_: u32, id: u32) -> Query {
 }
 
 /// Makes the register depend on an answer and on a byte that was read.
-fn mixed(register: u32, word: u32, byte: u8) -> u32 {
+pub fn mixed(register: u32, word: u32, byte: u8) -> u32 {
     register.rotate_left(5) ^ word ^ u32::from(byte)
 }

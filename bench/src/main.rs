@@ -13,23 +13,33 @@ mod directory;
 #[cfg(lfs_rust)]
 mod finding;
 #[cfg(lfs_rust)]
+mod index_lines;
+#[cfg(lfs_rust)]
+mod indexing;
+#[cfg(lfs_rust)]
 mod measure;
+#[cfg(lfs_rust)]
+mod orders;
 #[cfg(lfs_rust)]
 mod refetching;
 #[cfg(lfs_rust)]
 mod writing;
 
 #[cfg(lfs_rust)]
+use directory::{Directory, SPREAD};
+#[cfg(lfs_rust)]
 use std::hint::black_box;
 use std::process::ExitCode;
 
 const USAGE: &str = "usage: bench [--goal | --unjudged]
-Measures the port beside the unchanged Rust, and finding, fetching again and writing
-beside one fetch of the same pair. It exits 1 if a compaction of 1,000 slots takes more
-than 300 fetches; with --goal also if lfs_crc of 4,096 bytes takes more than 1.10 times
-the Rust's time, finding a name more than 1.5 fetches, a refetch behind one commit in a
-block of 32,768 bytes more than 0.05 of a fetch, or a commit more than 1.3 fetches. With
---unjudged, for an emulator, no time makes it fail.";
+Measures the port beside the unchanged Rust, and finding, fetching again, building a
+table and writing beside one fetch of the same pair. It exits 1 if a compaction of 1,000
+slots takes more than 300 fetches; with --goal also if lfs_crc of 4,096 bytes takes more
+than 1.10 times the Rust's time, finding a name more than 1.5 fetches, a refetch behind
+one commit in a block of 32,768 bytes more than 0.05 of a fetch, all deadlines of 1,000
+slots by a table more than 0.02 of the Rust's lookups, a build of 1,000 slots written in
+order more than 4 fetches, a commit more than 1.3 fetches, or a compaction of 1,000 slots
+with a table more than 30. With --unjudged, for an emulator, no time makes it fail.";
 
 /// Which figures make the program fail.
 #[derive(Clone, Copy, PartialEq)]
@@ -76,9 +86,14 @@ fn measure(judged: Judged) -> ExitCode {
         refetch_lines(),
         format!("{} of a fetch", refetching::MOST_OF_A_FETCH),
     );
-    let (long, slow) = write_lines(judged);
+    let (slow_table, slow_build) = index_lines::print();
+    let table = format!("{} of the Rust's lookups", indexing::MOST_OF_LOOKUPS);
+    let build = format!("{} fetches, of a build", indexing::MOST_FETCHES);
+    let (long, slow, slow_with) = write_lines(judged);
     let commit = (slow, format!("{} fetches", writing::MOST_OF_A_COMMIT));
-    let goals = [read, find, again, commit];
+    let with = format!("{} fetches, with a table", writing::MOST_WITH_A_TABLE);
+    let index = [(slow_table, table), (slow_build, build), (slow_with, with)];
+    let goals = [&[read, find, again, commit][..], &index].concat();
     if judged == Judged::WritingAndGoal {
         for (missed, goal) in &goals {
             let end = if *missed { "missed" } else { "met" };
@@ -96,10 +111,7 @@ fn measure(judged: Judged) -> ExitCode {
 /// The lines of reading. True if the port misses the goal.
 #[cfg(lfs_rust)]
 fn read_lines() -> bool {
-    println!(
-        "{:<26}{:>7}{:>12}{:>12}{:>12}{:>12}{:>12}",
-        "", "bytes", "port ns", "port MB/s", "Rust ns", "Rust MB/s", "port/Rust"
-    );
+    print_head_beside_rust("");
     let mut missed = false;
     for len in [4096, 512, 64] {
         let bytes: Vec<u8> = oracle::random::Random::new(len as u64).bytes(len);
@@ -131,7 +143,7 @@ fn read_lines() -> bool {
 /// The lines of finding a name beside a fetch. True if the longest misses the goal.
 #[cfg(lfs_rust)]
 fn find_lines() -> bool {
-    print_head_beside("finding a name");
+    print_head_beside("finding a name", "fetch");
     let mut most: f64 = 0.0;
     for (block_size, slots, in_a_commit, _) in DIRECTORIES {
         let directory = made(block_size, slots, in_a_commit);
@@ -150,7 +162,7 @@ fn find_lines() -> bool {
 /// misses the goal.
 #[cfg(lfs_rust)]
 fn refetch_lines() -> bool {
-    print_head_beside("fetching again");
+    print_head_beside("fetching again", "fetch");
     let mut first = 0.0;
     for (block_size, slots, in_a_commit) in HALF_FULL {
         let directory = made(block_size, slots, in_a_commit);
@@ -166,10 +178,10 @@ fn refetch_lines() -> bool {
 }
 
 /// The lines of writing. Whether the last compaction takes too long, and whether a
-/// commit misses the goal.
+/// commit, and the last compaction with a table, miss their goals.
 #[cfg(lfs_rust)]
-fn write_lines(judged: Judged) -> (bool, bool) {
-    print_head_beside("writing");
+fn write_lines(judged: Judged) -> (bool, bool, bool) {
+    print_head_beside("writing", "fetch");
     let (mut fetches, mut slowest) = (0.0, 0.0_f64);
     for (block_size, slots, in_a_commit) in HALF_FULL.into_iter().chain([LARGE]) {
         let directory = made(block_size, slots, in_a_commit);
@@ -180,6 +192,7 @@ fn write_lines(judged: Judged) -> (bool, bool) {
         slowest = slowest.max(lines[0].beside.fetches());
         fetches = lines[1].beside.fetches();
     }
+    let with = index_lines::compactions();
     let goal = writing::MOST_OF_A_COMMIT;
     println!("a commit takes up to {slowest:.2} fetches; the goal: at most {goal}");
     let (most, long) = (writing::MOST_FETCHES, fetches > writing::MOST_FETCHES);
@@ -189,26 +202,38 @@ fn write_lines(judged: Judged) -> (bool, bool) {
         _ => "holds",
     };
     println!("a compaction of 1,000 slots takes {fetches:.1} fetches; at most {most}: {holds}");
-    (long, slowest > goal)
+    let most = writing::MOST_WITH_A_TABLE;
+    println!("with a table it takes up to {with:.1} fetches; the goal: at most {most}");
+    (long, slowest > goal, with > most)
 }
 
 /// A directory, and the line above those that are measured on it.
 #[cfg(lfs_rust)]
-fn made(block_size: u32, slots: u32, in_a_commit: u32) -> directory::Directory {
+fn made(block_size: u32, slots: u32, in_a_commit: u32) -> Directory {
     println!("a block of {block_size} bytes, {slots} slots:");
-    directory::Directory::new(block_size, slots, in_a_commit)
+    Directory::new(SPREAD, block_size, slots, in_a_commit)
 }
 
 #[cfg(lfs_rust)]
-fn print_head_beside(what: &str) {
+fn print_head_beside_rust(what: &str) {
     println!(
-        "\n{what:<26}{:>7}{:>12}{:>12}{:>12}",
-        "bytes", "port ns", "fetch ns", "port/fetch"
+        "{what:<26}{:>7}{:>12}{:>12}{:>12}{:>12}{:>12}",
+        "bytes", "port ns", "port MB/s", "Rust ns", "Rust MB/s", "port/Rust"
+    );
+}
+
+/// `other` is the call that the others stand beside.
+#[cfg(lfs_rust)]
+fn print_head_beside(what: &str, other: &str) {
+    let (time, ratio) = (format!("{other} ns"), format!("port/{other}"));
+    println!(
+        "\n{what:<26}{:>7}{:>12}{time:>12}{ratio:>12}",
+        "bytes", "port ns"
     );
 }
 
 #[cfg(lfs_rust)]
-fn print_line_beside(line: &writing::Line, directory: &directory::Directory) {
+fn print_line_beside(line: &writing::Line, directory: &Directory) {
     print_beside(line.name, directory.dir.off, &line.beside);
 }
 

@@ -1,6 +1,7 @@
 //! The five calls that read a pair of blocks, as values: what goes in, what comes
 //! out, and who can be asked. Those that write are in `write`, the one that fetches
-//! again is in `refetch`, the one that finds a name in `find`.
+//! again is in `refetch`, the one that finds a name in `find`, those of the index are
+//! in `index`.
 //!
 //! The structs with `repr(C)` are those of `include/lanolin.h`. The three marks of
 //! a record are bytes here, not `bool`: any byte that the archive hands back is
@@ -9,6 +10,7 @@
 //! Assumes nothing.
 
 pub mod find;
+pub mod index;
 pub mod refetch;
 pub mod write;
 

@@ -4,7 +4,7 @@
 //! Assumes what `device` assumes of the Rust, and `slots` of the second
 //! implementation.
 
-mod crowd;
+pub mod crowd;
 pub mod inputs;
 mod past;
 pub mod slots;

@@ -43,6 +43,8 @@ pub mod find;
 pub mod generate;
 #[cfg(lfs_rust)]
 pub mod histories;
+#[cfg(lfs_rust)]
+pub mod index;
 pub mod inputs;
 #[cfg(lfs_rust)]
 pub mod leaves;

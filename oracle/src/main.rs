@@ -7,20 +7,26 @@
 //! Assumes nothing beyond what `build.rs` found.
 
 #[cfg(lfs_rust)]
+mod there;
+
+#[cfg(lfs_rust)]
 use std::iter::once_with;
 use std::process::ExitCode;
+#[cfg(lfs_rust)]
+use there::{finding, indexing, refetching, some_write, writing};
 
 const USAGE: &str = "usage: oracle [--one-in N] | oracle refetch [stand-in] [--one-in N]
-       oracle find [stand-in] [--one-in N] | oracle histories [stand-in] [--one-in N]
-       oracle stopped [stand-in] [--one-in N] | oracle teeth | oracle record FILE N
+       oracle find [stand-in] [--one-in N] | oracle index [stand-in] [--one-in N]
+       oracle histories [stand-in] [--one-in N] | oracle stopped [stand-in] [--one-in N]
+       oracle teeth | oracle record FILE N
 Compares the port with the unchanged Rust. `refetch` compares fetching again from a
-known end alone, `find` finding a name alone, `histories` writing alone, and `stopped`
-stops accepted calls after every number of stores: of the port or, with `stand-in`, of
-the second implementation. `teeth` instead runs every fault of the second
-implementation through the comparisons, and `record` writes N inputs with the Rust's
-answers to a file. With --one-in N only the first of N equal parts of the random pairs
-and histories is taken. What is compared is fixed when the program is built, by
-LFS_RUST_SRC and LANOLIN_LIB.";
+known end alone, `find` finding a name alone, `index` the tables in memory and the
+compaction with one alone, `histories` writing alone, and `stopped` stops accepted calls
+after every number of stores: of the port or, with `stand-in`, of the second
+implementation. `teeth` instead runs every fault of the second implementation through
+the comparisons, and `record` writes N inputs with the Rust's answers to a file. With
+--one-in N only the first of N equal parts of the random pairs and histories is taken.
+What is compared is fixed when the program is built, by LFS_RUST_SRC and LANOLIN_LIB.";
 
 fn main() -> ExitCode {
     let arguments: Vec<String> = std::env::args_os()
@@ -42,6 +48,8 @@ fn main() -> ExitCode {
         (["refetch", "stand-in"], _) => refetch(true, parts),
         (["find"], _) => find(false, parts),
         (["find", "stand-in"], _) => find(true, parts),
+        (["index"], _) => index(false, parts),
+        (["index", "stand-in"], _) => index(true, parts),
         (["histories"], _) => histories(false, parts),
         (["histories", "stand-in"], _) => histories(true, parts),
         (["stopped"], _) => stopped(false, parts),
@@ -67,7 +75,7 @@ fn compare(_parts: u64) -> ExitCode {
 }
 
 #[cfg(not(lfs_rust))]
-use {alone as find, alone as histories, alone as refetch, alone as stopped};
+use {alone as find, alone as histories, alone as index, alone as refetch, alone as stopped};
 
 #[cfg(not(lfs_rust))]
 fn alone(_stand_in: bool, _parts: u64) -> ExitCode {
@@ -104,8 +112,9 @@ fn compare(parts: u64) -> ExitCode {
     let dirs = once_with(|| oracle::dirs::compare(parts));
     let refetch = once_with(|| refetching(parts));
     let find = once_with(|| finding(parts));
+    let index = once_with(|| indexing(parts));
     let histories = once_with(|| writing(parts));
-    let reads = dirs.chain(refetch).chain(find);
+    let reads = dirs.chain(refetch).chain(find).chain(index);
     print_all(leaves.chain(reads).chain(histories))
 }
 
@@ -153,6 +162,25 @@ fn find(stand_in: bool, parts: u64) -> ExitCode {
             compare(&Voices { finder, reader }, parts)
         }
         false => finding(parts),
+    }))
+}
+
+/// The index alone; with `stand-in`, that of the second implementation, to try it
+/// against the Rust's lookups.
+#[cfg(lfs_rust)]
+fn index(stand_in: bool, parts: u64) -> ExitCode {
+    use oracle::index::{compare, compare_compactions, STAND_IN};
+
+    println!("The index in memory, and what the unchanged Rust looks up.");
+    say_parts(parts);
+    print_all(once_with(|| match stand_in {
+        true => {
+            say_stand_in();
+            let mut subjects = compare(&STAND_IN, parts);
+            subjects.extend(compare_compactions(&STAND_IN, parts));
+            subjects
+        }
+        false => indexing(parts),
     }))
 }
 
@@ -213,55 +241,6 @@ fn say_parts(parts: u64) {
 #[cfg(lfs_rust)]
 fn say_stand_in() {
     println!("NOT THE PORT: the second implementation stands in for it.");
-}
-
-/// The refetches, if the archive has the call.
-#[cfg(lfs_rust)]
-fn refetching(parts: u64) -> Vec<oracle::tally::Subject> {
-    match some_there(&[("lanolin_refetch", oracle::port::CAN_REFETCH)]) {
-        true => oracle::refetch::compare(&oracle::refetch::PORT, parts),
-        false => Vec::new(),
-    }
-}
-
-/// The finds, if the archive has the call.
-#[cfg(lfs_rust)]
-fn finding(parts: u64) -> Vec<oracle::tally::Subject> {
-    use oracle::find::{compare, Voices};
-    use oracle::port::Port;
-
-    let (finder, reader) = (&Port, &Port);
-    match some_there(&[("lanolin_find", oracle::port::CAN_FIND)]) {
-        true => compare(&Voices { finder, reader }, parts),
-        false => Vec::new(),
-    }
-}
-
-/// The histories, of the calls that the archive has.
-#[cfg(lfs_rust)]
-fn writing(parts: u64) -> Vec<oracle::tally::Subject> {
-    match some_write() {
-        true => oracle::histories::compare(&oracle::port::Port, parts),
-        false => Vec::new(),
-    }
-}
-
-#[cfg(lfs_rust)]
-fn some_write() -> bool {
-    some_there(&[
-        ("lanolin_commit", cfg!(lanolin_commit)),
-        ("lanolin_compact", cfg!(lanolin_compact)),
-    ])
-}
-
-/// Whether the archive has one of the calls. What it lacks is said, and nothing
-/// counts for it.
-#[cfg(lfs_rust)]
-fn some_there(calls: &[(&str, bool)]) -> bool {
-    for (call, _) in calls.iter().filter(|(_, there)| !there) {
-        println!("SKIPPED: the archive has no {call}, and nothing was compared with it.");
-    }
-    calls.iter().any(|(_, there)| *there)
 }
 
 /// The last lines. In the very last the count has plain digits, for scripts.

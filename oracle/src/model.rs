@@ -1,11 +1,11 @@
-//! A second implementation of fetch, refetch, lookups, the find and the added writer,
-//! written from document 01 and not from the Rust: a third voice beside the port and
-//! the Rust, and the one that decides where document 01 leaves the Rust (what it marks
-//! Ours) and where there is no Rust (the writer).
+//! A second implementation of fetch, refetch, lookups, the find, the index and the
+//! added writer, written from document 01 and not from the Rust: a third voice beside
+//! the port and the Rust, and the one that decides where document 01 leaves the Rust
+//! (what it marks Ours) and where there is no Rust (the writer).
 //!
-//! It can be given a `Fault`, a `RefetchFault`, a `FindFault` or a `WriteFault`, a
-//! change in one place. `oracle teeth` runs each one through the comparison, to show
-//! that it is seen.
+//! It can be given a `Fault`, a `RefetchFault`, a `FindFault`, an `IndexFault` or a
+//! `WriteFault`, a change in one place. `oracle teeth` runs each one through the
+//! comparison, to show that it is seen.
 //!
 //! Assumes nothing, and never panics, also with a fault: a slice is read by
 //! `get`, never by an index.
@@ -20,6 +20,8 @@ mod fetch;
 mod find;
 mod find_fault;
 mod forward;
+mod index;
+mod index_fault;
 mod info;
 mod lay;
 mod lookup;
@@ -41,6 +43,8 @@ pub use fault::{Fault, Seen, FAULTS};
 pub use fetch::Met;
 pub use find::{Finder, FAULTLESS_FINDER};
 pub use find_fault::{FindFault, FIND_FAULTS};
+pub use index::{commit_at, needed, Indexer, Needed, FAULTLESS_INDEXER};
+pub use index_fault::{IndexFault, INDEX_FAULTS};
 pub use lay::Laid;
 pub use refetch::{known_to, Refetcher, FAULTLESS_REFETCHER};
 pub use refetch_fault::{RefetchFault, REFETCH_FAULTS};

@@ -1,6 +1,7 @@
 //! The port: every call of `liblanolin.a`, each with a safe wrapper. The leaves
-//! are here, the calls that read a pair of blocks in `dir`, `refetch` and `find`,
-//! those that write one in `write`.
+//! are here, the calls that read a pair of blocks in `dir`, `refetch`, `find` and
+//! `index`, those that write one in `write`, but for the compaction with a lent table,
+//! which is in `index` too.
 //!
 //! The shapes are those of `include/lanolin.h`. A wrapper adds nothing: it
 //! passes a slice as a pointer and a count, and hands back what the call
@@ -11,12 +12,14 @@
 
 mod dir;
 mod find;
+mod index;
 mod refetch;
 mod write;
 
 pub use crate::calls::Gstate;
 pub use dir::Port;
 pub use find::CAN_FIND;
+pub use index::{CAN_COMPACT_WITH, CAN_INDEX};
 pub use refetch::CAN_REFETCH;
 
 /// A word, or the refusal and 0.

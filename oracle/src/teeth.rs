@@ -3,12 +3,13 @@
 //!
 //! A fault that the Rust decides must be seen against the Rust; one that is
 //! Ours, against the second implementation without a fault. The refetch's faults are
-//! in `refetching`, the find's in `finding`, the writer's in `writing`; those of them
-//! that break demand 3 go through its stops too, in `stopped`.
+//! in `refetching`, the find's in `finding`, the index's in `indexing`, the writer's in
+//! `writing`; those of them that break demand 3 go through its stops too, in `stopped`.
 //!
 //! Assumes nothing.
 
 mod finding;
+mod indexing;
 mod refetching;
 mod stopped;
 mod writing;
@@ -39,6 +40,7 @@ pub fn bite() -> bool {
         reading(),
         refetching::bite(),
         finding::bite(),
+        indexing::bite(),
         writing::bite(),
     ];
     let caught: usize = parts.iter().map(|part| part.0).sum();

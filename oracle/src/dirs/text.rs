@@ -4,6 +4,7 @@
 
 use super::inputs::Question;
 use crate::calls::find::Find;
+use crate::calls::index::Index;
 use crate::calls::refetch::Refetch;
 use crate::calls::{hex, Blocks, Fetch, Lookup};
 
@@ -72,6 +73,15 @@ pub fn find(input: &Find) -> String {
         input.rules,
         hex(input.name),
         input.type_
+    )
+}
+
+pub fn index(input: &Index) -> String {
+    format!(
+        "{}\n    {:?}\n    rules {}",
+        blocks(&input.blocks),
+        input.dir,
+        input.rules
     )
 }
 

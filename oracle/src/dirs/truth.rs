@@ -119,6 +119,14 @@ impl Sliced {
             buffer: self.buffer.clone(),
         }
     }
+
+    /// One word, as the Rust answers, and the buffer.
+    pub fn in_a_word(&self) -> Sliced {
+        Sliced {
+            got: got_of(self.got.word()),
+            buffer: self.buffer.clone(),
+        }
+    }
 }
 
 impl Debug for Sliced {
@@ -152,7 +160,7 @@ impl Slicer {
         Sliced { got, buffer }
     }
 
-    fn ask_rust(self, rust: &mut Rust, input: &Lookup, query: Query, length: usize) -> Sliced {
+    pub fn ask_rust(self, rust: &mut Rust, input: &Lookup, query: Query, length: usize) -> Sliced {
         let mut buffer = vec![FILL; length + 2 * MARGIN];
         let lent = &mut buffer[MARGIN..MARGIN + length];
         let word = match self {
@@ -213,12 +221,8 @@ impl Truth for SliceTruth {
         }
     }
 
-    /// One word, as the Rust answers, and the buffer.
     fn compared(&self, answer: &Sliced) -> Sliced {
-        Sliced {
-            got: got_of(answer.got.word()),
-            buffer: answer.buffer.clone(),
-        }
+        answer.in_a_word()
     }
 }
 

@@ -1,0 +1,143 @@
+//! The index's faults: each a change of the second implementation in one place.
+//!
+//! Assumes that each one, where it matters, gives another answer on some question of
+//! `index::inputs` or `index::compactions`: `oracle teeth` looks for that question.
+
+use super::fault::faults;
+
+faults! { IndexFault INDEX_FAULTS;
+    AnyPair Ours "index: record's pair not tested";
+    PairInOrder Rust "index: record's pair in the given order only";
+    EndPastBlock Ours "index: record's end past the block accepted";
+    EndAtBlock Rust "index: record's end at the block's end refused";
+    RulesOfAnyNumber Ours "index: rules of any number accepted";
+    InvalidZeroes Ours "index: -22 zeroes the table";
+    FirstImageAlways Rust "index: always in the first image";
+    IrregularTaken Ours "index: irregular log accepted";
+    IrregularZeroes Ours "index: -202 zeroes the table";
+    DocumentIsLittlefs Ours "index: littlefs's rule under rule 0 too";
+    LittlefsIsDocument Rust "index: document 01's rule under rule 1 too";
+    EndNeedsNoCommit Ours "index: an end inside a commit accepted";
+    SumsUntested Ours "index: a commit whose checksum fails accepted";
+    End4IsEmpty Ours "index: an end of 4 taken for an empty log";
+    EndBehindLogTaken Ours "index: an end behind the log taken for the log's";
+    WholeLogTaken Rust "index: the whole log followed, not to the end";
+    LastEndOnly Rust "index: the end of an earlier commit refused";
+    RegularBehindToo Rust "index: a log irregular behind the end refused";
+    EmptyTableFirst Ours "index: -221 before -202";
+
+    FullAtEnd Ours "index: -221 judged at the end";
+    FullAtCommits Ours "index: -221 judged behind each commit";
+    FullAtLastPlace Ours "index: -221 where the last place is needed";
+    OneMoreTaken Ours "index: one more live entry than places accepted";
+    OddWordIsPlace Ours "index: odd last word counted as a place";
+    BareCounted Ours "index: bare slots counted as a place";
+    OthersCounted Ours "index: tail, move state, forward check counted";
+    FullLeavesTable Ours "index: table left as it was on -221";
+    FullLeavesPlaces Ours "index: -221 leaves the places so far";
+    FullLeavesOddWord Ours "index: odd last word not zeroed on -221";
+    FullTellsPlaces Ours "index: -221 tells how many places there are";
+    OddWordLeft Ours "index: odd last word not zeroed";
+    UnusedLeft Ours "index: unused places not zeroed";
+    PlacesAreWords Ours "index: words counted, not places";
+    PlacesAreRoom Ours "index: all places counted, not those in use";
+
+    CreateRaisesNothing Rust "index: ids above a create not raised";
+    CreateLeavesItsOwn Rust "index: the slot at a create's id not raised";
+    DeletedKept Rust "index: the places of a deleted slot kept";
+    DeletedAttributesKept Rust "index: the attributes of a deleted slot kept";
+    DeleteLowersNothing Rust "index: ids above a delete not lowered";
+    IdAsWritten Rust "index: id as it was written, not the present one";
+    NamesByType Rust "index: a name of another type gets a second place";
+    StructsByType Rust "index: a struct of another type gets a second place";
+    RemovedKept Rust "index: a removed attribute kept";
+    RemovalIsPlace Rust "index: a removal takes a place";
+    BarePlaced Rust "index: a bare slot takes a place";
+    OldType Rust "index: the old type kept on overwrite";
+    OldSize Rust "index: the old size kept on overwrite";
+    OldOffset Rust "index: the old offset kept on overwrite";
+    OldStays Rust "index: what is overwritten stays";
+    OffsetOfTag Rust "index: the tag's offset, not the first data byte's";
+    AttributesFall Rust "index: attributes by falling type";
+    AttributesAsWritten Rust "index: attributes in the order written";
+    AttributesSigned Rust "index: attribute types ordered as signed bytes";
+    AttributesFirst Rust "index: attributes before the name";
+    StructFirst Rust "index: struct before the name";
+
+    AnyBlock Ours "extend: records of two blocks accepted";
+    OldEndAbove Ours "extend: old end above the new one accepted";
+    EqualEndsRefused Ours "extend: equal ends refused";
+    OldUntested Ours "extend: old record not tested";
+    OldTestedLast Ours "extend: -22 of the old record behind -202";
+    OldEndUntested Ours "extend: old end inside a commit accepted";
+    WholeLogAgain Ours "extend: the whole log run again";
+    LastCommitOnly Rust "extend: only the last commit followed";
+    FirstEntryMissed Rust "extend: first entry behind the old end missed";
+    ExtendIrregularTaken Ours "extend: irregular log accepted";
+    ExtendIrregularZeroes Ours "extend: -202 zeroes the table";
+    ExtendFullAtEnd Ours "extend: -221 judged at the end";
+    ExtendFullLeavesTable Ours "extend: table left as it was on -221";
+    ExtendUnusedLeft Ours "extend: unused places not zeroed";
+    ExtendOddWordLeft Ours "extend: odd last word not zeroed";
+    ZeroPassedOver Ours "extend: a zero place passed over";
+    ZeroOfBothWords Ours "extend: only two zero words end the places";
+    ExtendForgetsCreate Rust "extend: a create forgotten";
+    ExtendCreateLeavesItsOwn Rust "extend: the slot at a create's id not raised";
+    ExtendForgetsDelete Rust "extend: a delete forgotten";
+    ExtendDeletedKept Rust "extend: the places of a deleted slot kept";
+    ExtendDeletesOne Rust "extend: one place of a deleted slot taken out";
+    ExtendDeleteLowersNothing Rust "extend: ids above a delete not lowered";
+    ExtendRemovedKept Rust "extend: a removed attribute kept";
+    ExtendRemovalIsPlace Rust "extend: a removal takes a place";
+    ExtendNewLast Rust "extend: a new attribute put behind the others";
+    ExtendOverwrittenLast Rust "extend: an overwritten attribute put behind the others";
+    ExtendAddsAgain Ours "extend: what is overwritten keeps a second place";
+    ExtendOldSize Rust "extend: the old size kept on overwrite";
+    ExtendOldOffset Rust "extend: the old offset kept on overwrite";
+    ExtendOldStays Rust "extend: what is overwritten stays";
+    ExtendOffsetOfTag Rust "extend: the tag's offset, not the first data byte's";
+    ShiftStaysInId Ours "extend: an id past its bits does not carry";
+    LastFromFirstPlace Ours "extend: a slot's last place sought from the first on";
+
+    FirstToLast Ours "halving: the places gone through one by one";
+    LowerMiddle Ours "halving: the lower of two middle places";
+    PastEqual Rust "halving: the place behind an equal one";
+    OneTooFar Rust "halving: looks one place too far";
+    ZeroRanksFirst Rust "halving: a zero tag ranks as slot 0's name";
+
+    GetUntested Ours "get: record not tested";
+    Buffer65537 Ours "get: buffer of 65,537 bytes accepted";
+    Buffer65535 Ours "get: buffer of 65,536 bytes refused";
+    LeadingOnly Ours "get: places behind a zero one not looked at";
+    LastPlaceMissed Rust "get: last place never found";
+    NextTaken Rust "get: the next place where the asked one is missing";
+    NameTypesTold Rust "get: types of names told apart";
+    StructTypesTold Rust "get: types of structs told apart";
+    StructUnfound Rust "get: structs never found";
+    AttributesAreOne Rust "get: attributes not told apart";
+    TypeOf11Bits Ours "get: type cut to 11 bits";
+    OtherTypesAskName Ours "get: types 0x1xx ask for the name";
+    IdOf10Bits Ours "get: id above 1,023 wraps";
+    IdOf16Bits Ours "get: id cut to 16 bits";
+    LastIdUnfound Ours "get: id 1,023 never found";
+    RefusalZeroesBuffer Rust "get: buffer zeroed where nothing is found";
+    ReadFillsBuffer Rust "get: buffer filled past the entry";
+    RestUnzeroed Rust "get: rest of the buffer not zeroed";
+    RemovalIsRead Ours "get: a removal has 1,023 bytes";
+    RemovalHasLength Ours "get: length of a removal is 1,027";
+    WholeEntryInBlock Ours "get: -84 by the entry's size, not what is read";
+    EndOfBlockPasses Ours "get: bytes that end with the block are -84";
+    PastAnswered Ours "get: an offset past the block answered";
+    EmptyReadPasses Ours "get: no bytes past the block answered";
+    PastIsNoent Ours "get: an offset past the block is -2";
+    LengthWithoutTag Ours "get: length without the tag's four bytes";
+    PlaceOfTag Ours "get: the tag's place, not the first data byte's";
+    Bit31Cleared Ours "get: bit 31 of the table's tag cleared";
+
+    ShortTableRefused Ours "compact with: -221 for a table too short";
+    CompactLeavesTable Ours "compact with: table left as it was";
+    RefusedLeavesTable Ours "compact with: table left on -28 and -204";
+    ShortTableLeft Ours "compact with: table too short left as it was";
+    TableOfCompacted Ours "compact with: table of the compacted log";
+    CompactZeroesIrregular Ours "compact with: table zeroed on -202";
+}
