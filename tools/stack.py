@@ -4,13 +4,13 @@
     tools/stack.py                       print the bound of every lanolin_ call, deepest first; calls alike in a line
     tools/stack.py --at-most N           and exit 1 if a call may take more than N bytes
     tools/stack.py --measured FILE       beside the bounds what tests/c/stack.c measured (- is standard input), and exit
-                                         1 if a measure is above its bound, by more than memcpy and memset may
+                                         1 if a measure is above its bound, by more than memcpy and its like may
                                          take, or a call was not measured
 
 A bound counts the return address, what a function pushes and takes off the stack pointer, and the deepest function that
 it calls. It is a bound because the code has no recursion, no call through a pointer and no frame whose size is known
 only at run time: the script stops on any of them, and wherever it can't follow the stack pointer. Not counted are
-memcpy and memset, the two functions of the C library that the archive calls.
+memcpy, memmove and memset, the functions of the C library that the archive calls.
 """
 import argparse
 import re
@@ -19,7 +19,7 @@ import subprocess
 import sys
 
 ARCHIVE = "target/staticlib/liblanolin.a"
-OUTSIDE = {"memcpy": 0, "memset": 0}  # the C library's own: not counted
+OUTSIDE = {"memcpy": 0, "memmove": 0, "memset": 0}  # the C library's own: not counted
 OUTSIDE_TAKES = 64  # and what they may add to a measure: each C library has several of them, one for each processor
 RED_ZONE = 128  # the x86-64 ABI: so many bytes below the stack pointer belong to a function that calls nothing
 ADDRESS = 8  # of a return, pushed by the call
