@@ -2,7 +2,8 @@
 """The stack that each call of the archive takes at most, read from its machine code.
 
     tools/stack.py                       print the bound of every lanolin_ call, deepest first; calls alike in a line
-    tools/stack.py --at-most N           and exit 1 if a call may take more than N bytes
+    tools/stack.py --at-most N [M]       and exit 1 if a compaction may take more than N bytes, or any other call more
+                                         than M, which is N where it isn't named
     tools/stack.py --measured FILE       beside the bounds what tests/c/stack.c measured (- is standard input), and exit
                                          1 if a measure is above its bound, by more than memcpy and its like may
                                          take, or a call was not measured
@@ -23,6 +24,7 @@ OUTSIDE = {"memcpy": 0, "memmove": 0, "memset": 0}  # the C library's own: not c
 OUTSIDE_TAKES = 64  # and what they may add to a measure: each C library has several of them, one for each processor
 RED_ZONE = 128  # the x86-64 ABI: so many bytes below the stack pointer belong to a function that calls nothing
 ADDRESS = 8  # of a return, pushed by the call
+COMPACTION = "lanolin_compact"  # how the names of its calls begin
 
 FUNCTION = re.compile(r"^[0-9a-f]+ <(.+)>:$")
 PREFIXES = r"(?:(?:rep|repz|repnz|lock|notrack|bnd|data16|cs) )*"
@@ -160,10 +162,11 @@ def shown(most, seen):
         print(f"{n:6} {m:6}  " + (", ".join(sorted(names)) if len(names) <= 3 else f"{len(names)} calls"))
 
 
-def complaints(most, seen, at_most):
+def complaints(most, seen, limits):
+    """`limits` has at most two: a compaction's, and that of every other call."""
     for name, n in most.items():
-        if at_most is not None and n > at_most:
-            yield f"{name} may take {n} bytes, more than {at_most}"
+        if limits and n > (limit := limits[0 if name.startswith(COMPACTION) else -1]):
+            yield f"{name} may take {n} bytes, more than {limit}"
         if seen is not None and name not in seen:
             yield f"{name} was not measured"
         elif seen is not None and seen[name] > n + OUTSIDE_TAKES:
@@ -172,10 +175,13 @@ def complaints(most, seen, at_most):
 
 def main():
     parser = argparse.ArgumentParser(description="The stack that each call of the archive takes at most.")
-    parser.add_argument("--at-most", type=int, metavar="N", help="exit 1 if a call may take more than N bytes")
+    parser.add_argument("--at-most", type=int, nargs="+", metavar="N", default=[],
+                        help="exit 1 if a compaction may take more than the first, or any other call more than the last")
     parser.add_argument("--measured", metavar="FILE", help="what tests/c/stack.c printed; - is standard input")
     parser.add_argument("archive", nargs="?", default=ARCHIVE)
     options = parser.parse_args()
+    if len(options.at_most) > 2:
+        parser.error("--at-most takes one or two numbers")
     most = bounds(options.archive)
     seen = measured(options.measured) if options.measured else None
     shown(most, seen)

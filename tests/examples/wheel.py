@@ -4,24 +4,12 @@ prints what `restart` prints, without the payloads, and exits as it does; any ot
 
     tests/examples/wheel.py RESTART WHEEL..     the commands of a controller's restart and of the wheel from an index
 """
-import os
 import re
-import shlex
-import subprocess
 import sys
-import tempfile
 
-LISTINGS = os.path.join(os.path.dirname(os.path.abspath(__file__)), "../../samples/listings")
+from programs import LISTINGS, cases, said
+
 PAYLOAD = re.compile(r" payload (-|[0-9]+)(?= deadline )")
-
-
-def unrolled(runs):
-    """The bytes of a case, which are runs of hex: aa*9 is aa nine times."""
-    data = b""
-    for part in runs.split(","):
-        digits, _, times = part.partition("*")
-        data += bytes.fromhex(digits) * int(times or 1)
-    return data
 
 
 def irregular():
@@ -31,28 +19,18 @@ def irregular():
     return {text.split("\n", 1)[0] for text in texts if text.endswith("refused -202\n")}
 
 
-def said(command, file):
-    done = subprocess.run(shlex.split(command) + [file], capture_output=True, text=True, timeout=60)
-    return done.returncode, done.stdout, done.stderr
-
-
-def tried(name, file, refused, restart, wheels):
-    status, text, _ = said(restart, file)
+def tried(name, data, refused, restart, wheels):
+    status, text, _ = said(restart, data)
     expected = (1, "") if refused else (status, PAYLOAD.sub("", text))
     for wheel in wheels:
-        *answer, why = said(wheel, file)
+        *answer, why = said(wheel, data)
         if tuple(answer) != expected or refused != ("-202" in why):
             sys.exit(f"{wheel}, {name}: {answer} {why}, not {expected}")
 
 
-refused = irregular()
-with open(f"{LISTINGS}/cases") as f:
-    cases = dict(map(str.split, f))
-if not refused or not refused < cases.keys():
-    sys.exit(f"{LISTINGS} has no irregular pair, or one that is no case")
-for name, runs in cases.items():
-    with tempfile.NamedTemporaryFile() as file:
-        file.write(b"" if runs == "-" else unrolled(runs))
-        file.flush()
-        tried(name, file.name, name in refused, sys.argv[1], sys.argv[2:])
-print(f"wheels from an index: {len(cases)} pairs, {len(refused)} of them irregular, as restart has them by lookups")
+refused, pairs = irregular(), cases()
+if not refused or not refused < pairs.keys():
+    sys.exit("samples/listings has no irregular pair, or one that is no case")
+for name, data in pairs.items():
+    tried(name, data, name in refused, sys.argv[1], sys.argv[2:])
+print(f"wheels from an index: {len(pairs)} pairs, {len(refused)} of them irregular, as restart has them by lookups")

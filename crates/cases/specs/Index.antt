@@ -3,7 +3,6 @@
 -- made. A place's tag is type * 2^20 + id * 2^10 + size, its offset where the tag stands + 4. Assumes nothing.
 use mathlib.Core.Path.{_≡_, refl}
 use mathlib.Core.Bool.{Bool, true, false}
-use mathlib.Core.Option.{none, some}
 use mathlib.Core.List.{List, [], _∷_, _++_, map}
 use Prim.Native.Nat.{ℕ}
 use lib.ListN.{replicate}
@@ -22,7 +21,6 @@ use Rattle.format.specs.Directory.{empty, upd, reaching, apply, applyAll, act, 
 use Rattle.format.specs.Index.{placedAct, placedFrom, slotPlaces, dirPlaces, placesOf, fitFrom, indexedAs, tableAs}
 use Rattle.format.specs.Index.{built, indexOf, indexTable, rankOf, halving, indexHit, indexGetOf, indexGetBuffer}
 use Rattle.format.specs.Index.{shifted, placesAfter, ranOn, leading, extendOf, extendTable}
-use Rattle.format.specs.declared.Geometry.{Geometry}
 use Rattle.format.specs.declared.LfsMdir.{LfsMdir}
 use Rattle.format.specs.declared.Refusal.the-variants.{Invalid, Corrupt, NoEntry, Irregular, TableFull}
 use Rattle.format.specs.declared.Rules.the-variants.{Document, Littlefs}

@@ -24,3 +24,5 @@ pub mod Refusals
 -- Which logs are regular: document 01's rule and littlefs's; the slots that a directory is made to reach.
 pub mod Growing
 pub mod Slots
+-- The places of an index.
+pub mod Places

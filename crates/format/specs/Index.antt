@@ -2,7 +2,7 @@
 -- attribute of each slot stands, and answer from it." The table of a log, said of the directory machine; what is
 -- answered from any table; and how an entry alters one, by which a table is extended. That the three agree are theorems
 -- (`index-answers` and `index-extends` of promises). Assumes nothing.
-use mathlib.Core.Bool.{Bool, true, false, not, cond, _&&_}
+use mathlib.Core.Bool.{Bool, true, not, cond, _&&_}
 use mathlib.Core.Option.{Option, none, some}
 use mathlib.Core.List.{List, [], _∷_, _++_}
 use Prim.Native.Nat.{ℕ, zero, suc, _+_, _-_, _*_, _/_, _^_}

@@ -1,13 +1,13 @@
 -- A build of one block, by its tests: where its log ends, and whether it is regular. Assumes nothing.
 use mathlib.Core.Path.{_≡_, refl, sym, ap, _∙_}
 use mathlib.Core.Logic.{_≢_}
-use mathlib.Core.Bool.{Bool, true, false, not, _&&_, and-false}
+use mathlib.Core.Bool.{Bool, true, false, not, and-false}
 use mathlib.Core.Option.{Option}
 use mathlib.Core.List.{List}
 use Prim.Native.Nat.{ℕ, _-_, _≤_, _<_}
 use native.Mathlib.Omega.{arith}
 use lib.ListN.{length, take, drop, length-take}
-use lib.Dec.{eqb, ltb}
+use lib.Dec.{ltb}
 use borrow.Author.Tests.{ne-eqb, eq-eqb, le-ltb, lt-ltb, not-true, not-false}
 use Rattle.format.specs.Log.{log, logEnd}
 use Rattle.format.specs.Regular.{Regular, rulesOf}

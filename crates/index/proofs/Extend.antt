@@ -1,7 +1,7 @@
 -- An extension in one block, by its tests: where both logs end, and whether the longer one is regular. Assumes nothing.
 use mathlib.Core.Path.{_≡_, refl, sym, ap, ap₂, _∙_}
 use mathlib.Core.Logic.{_≢_}
-use mathlib.Core.Bool.{Bool, true, false, not, _&&_, and-false}
+use mathlib.Core.Bool.{Bool, true, false, not, and-false}
 use mathlib.Core.Option.{Option}
 use mathlib.Core.List.{List}
 use Prim.Native.Nat.{ℕ, _+_, _-_, _*_, _≤_, _<_}
@@ -11,7 +11,7 @@ use Rattle.format.specs.Word.{allOnes}
 use Rattle.format.specs.Walk.{walkFrom}
 use Rattle.format.specs.Log.{committed, log, span, logEnd, logEndTag}
 use Rattle.format.specs.Regular.{Regular, rulesOf}
-use Rattle.format.specs.Index.{placedFrom, logTo, endsAt, indexable, extendable, newActs, extended, ranOn, leading}
+use Rattle.format.specs.Index.{placedFrom, logTo, endsAt, extendable, extended, ranOn, leading}
 use Rattle.format.specs.Index.{indexedAs, tableAs}
 use Rattle.format.specs.declared.Rules.{Rules}
 use Rattle.format.specs.declared.Refusal.the-variants.{Irregular}
@@ -23,7 +23,7 @@ use Rattle.commit_regular.specs.Ends.{CommittedTo}
 use Rattle.index_theory.specs.Ends.{between-ends, new-acts, end-next}
 use Rattle.index_table.specs.Held.{Holds}
 use Rattle.index_table.proofs.Holding.{held, room}
-use Rattle.index_pass.specs.Run.{Onwards, Startable, Ran, Runs, Buildable}
+use Rattle.index_pass.specs.Run.{Onwards, Startable, Runs}
 use Rattle.index.specs.Blocks.{InBlock, extendedIn, extendedTable}
 use Rattle.index.proofs.Block.{front, front-is, refuses, accepts, no-end-low, no-end, an-end, walked-end}
 use Rattle.index.proofs.Block.{front-committed, not-indexable, is-indexable, front-buildable}

@@ -1,19 +1,17 @@
 -- A build: the run of a whole log on an empty table. Assumes nothing.
 use mathlib.Core.Path.{_≡_, refl, sym, ap, _∙_}
-use mathlib.Core.Option.{Option}
 use mathlib.Core.List.{List, []}
-use Prim.Native.Nat.{ℕ, _+_, _-_, _*_}
+use Prim.Native.Nat.{ℕ, _-_, _*_}
 use native.Mathlib.Omega.{arith}
-use lib.ListN.{length, take, drop, replicate, length-replicate}
+use lib.ListN.{length, take, replicate, length-replicate}
 use Rattle.format.specs.Word.{allOnes}
 use Rattle.format.specs.Crc.{crc}
 use Rattle.format.specs.Walk.{walk}
-use Rattle.format.specs.Log.{log, span}
+use Rattle.format.specs.Log.{log}
 use Rattle.format.specs.Index.{placedFrom, ranOn, indexedAs, tableAs, built}
 use Rattle.format.specs.declared.Indexed.{Indexed}
 use Rattle.index_theory.specs.Ran.{built-is}
-use Rattle.index_table.specs.Held.{Holds}
-use Rattle.index_pass.specs.Run.{Onwards, Startable, Ran, Runs, Buildable}
+use Rattle.index_pass.specs.Run.{Onwards, Startable, Runs, Buildable}
 
 module _ (b : List ℕ) (end : ℕ) (k : Buildable b end) (T : List ℕ) where
   onwards : Onwards b 4 allOnes end

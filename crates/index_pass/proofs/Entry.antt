@@ -1,14 +1,14 @@
 -- What an entry does to the places, by its class and its type. Assumes nothing.
-use mathlib.Core.Path.{_≡_, refl, sym, ap, ap₂, subst, _∙_}
+use mathlib.Core.Path.{_≡_, refl, sym, _∙_}
 use mathlib.Core.Logic.{_≢_}
 use mathlib.Core.Bool.{Bool, true, false, cond}
-use mathlib.Core.Option.{none, some}
+use mathlib.Core.Option.{none}
 use mathlib.Core.List.{List, [], _∷_}
 use Prim.Native.Nat.{ℕ, _+_, _^_, _≤_, _<_}
 use native.Mathlib.Omega.{arith}
 use lib.Dec.{eqb}
 use borrow.Author.Tests.{ne-eqb}
-use Rattle.format.specs.Tag.{tagType1, tagType3, tagChunk, tagId, tagSize, tagDelete, tagOf}
+use Rattle.format.specs.Tag.{tagType3, tagChunk, tagId, tagSize, tagDelete}
 use Rattle.format.specs.Kind.{isName, typeCreate, typeDelete}
 use Rattle.format.specs.Directory.{classes, seatClass, Act, mk, rm, put, skip, isStruct, isAttr, loadOf, act}
 use Rattle.format.specs.Index.{rankAt, placedAct, placesAfter, slotMade, slotRemoved, placeSet, placeCleared}

@@ -1,14 +1,13 @@
 -- A turn of the pass, and what it keeps: the entries that are still to come, run on the places that stand in the table.
 -- Assumes nothing.
 use mathlib.Core.Path.{_≡_, refl, sym, ap, _∙_}
-use mathlib.Core.Bool.{Bool, true, false, cond}
-use mathlib.Core.Option.{Option, none, some}
-use mathlib.Core.List.{List, [], _∷_}
+use mathlib.Core.Bool.{Bool, true, false}
+use mathlib.Core.Option.{none, some}
+use mathlib.Core.List.{List, _∷_}
 use Prim.Native.Nat.{ℕ, _+_, _-_, _*_, _/_, _^_, _≤_, _<_}
 use native.Mathlib.Omega.{arith}
 use lib.ListN.{length, take, drop, replicate, length-drop, length-append}
 use lib.Bits.{bitXor}
-use lib.Dec.{leb}
 use borrow.Author.Tests.{le-leb, lt-leb}
 use Rattle.format.specs.Word.{be32, xor}
 use Rattle.format.specs.Tag.{tagLength, tagFlipped}
@@ -18,7 +17,6 @@ use Rattle.format.specs.Log.{span, eventLength}
 use Rattle.format.specs.Directory.{Act, skip}
 use Rattle.format.specs.Index.{placedAct, placedFrom, placesAfter, padded, ranOn, indexedAs, tableAs}
 use Rattle.format.specs.declared.Refusal.the-variants.{TableFull}
-use Rattle.format.specs.declared.Indexed.{Indexed}
 use Rattle.format.specs.declared.Indexed.the-variants as indexed
 use Rattle.format.proofs.Words.{tagLength-ge}
 use Rattle.format.proofs.Classes.{Whole}
@@ -27,7 +25,7 @@ use Rattle.commit_regular.proofs.Place.{rest, tagOn, Behind, Met, more-met, non
 use Rattle.index_table.specs.Held.{Holds, InUse, Keeps, Goes}
 use Rattle.index_table.specs.declared.Placed.{Placed}
 use Rattle.index_table.specs.declared.Placed.the-variants.{To, Full}
-use Rattle.index_pass.specs.Run.{onFrom, Onwards, Startable, ranFrom, Ran}
+use Rattle.index_pass.specs.Run.{Onwards, Startable, ranFrom, Ran}
 
 -- all places stand in the table
 pub within : (table : List ℕ) (n : ℕ) (P : List ℕ) → Holds table n P → length P ≤ length table

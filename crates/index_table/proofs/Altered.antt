@@ -2,7 +2,7 @@
 use mathlib.Core.Path.{_≡_, refl, sym, ap, _∙_}
 use mathlib.Core.Bool.{Bool, true, false}
 use mathlib.Core.List.{List, [], _∷_, _++_, append-nil}
-use Prim.Native.Nat.{ℕ, suc, _+_, _-_, _*_, _/_, _≤_, _<_}
+use Prim.Native.Nat.{ℕ, _+_, _-_, _*_, _/_, _≤_, _<_}
 use native.Mathlib.Numerals.{add-one}
 use native.Mathlib.Omega.{arith}
 use borrow.Rule.Slice.PartMut.{midOf, putMid}
@@ -10,15 +10,10 @@ use lib.ListN.{length, take, drop, replicate, length-append, length-drop, take-a
 use lib.Seq.{take-at, drop-at, drop-drop, length-take-le, take-append-le, drop-append-le}
 use Rattle.format.specs.Index.{rankAt, seek, seekFrom, isAt, shifted, oneUp, oneDown}
 use Rattle.format.specs.Index.{slotMade, slotRemoved, placeSet, placeCleared}
+use Rattle.format.proofs.Places.{shifted-length}
 use Rattle.index_table.specs.Held.{Holds}
 use Rattle.index_table.proofs.Holding.{held, part-is, room, replaced, more}
 use Rattle.index_table.proofs.Ranks.{at-inside}
-
-shifted-length : (by : ℕ) (P : List ℕ) → length (shifted by P) ≡ length P
-unfolding shifted
-shifted-length by [] = refl
-shifted-length by (x ∷ []) = refl
-shifted-length by (t ∷ o ∷ P) = ap (λ (n : ℕ). suc (suc n)) (shifted-length by P)
 
 -- what `seek` says of the n places in use
 abbrev pub Sought : (ws : List ℕ) (n r from s : ℕ) → Type 0

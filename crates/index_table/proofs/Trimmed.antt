@@ -1,11 +1,11 @@
 -- A table with its leading places, and zeros behind them. Assumes nothing.
-use mathlib.Core.Path.{_≡_, refl, sym, ap, _∙_}
+use mathlib.Core.Path.{_≡_, sym}
 use mathlib.Core.List.{List, [], _∷_, _++_, append-nil}
 use Prim.Native.Nat.{ℕ, _-_, _*_, _≤_}
 use native.Mathlib.Omega.{arith}
 use borrow.Rule.Slice.PartMut.{midOf, putMid, post-is}
 use lib.Dec.{eqb}
-use lib.ListN.{length, take, drop, replicate, drop-of-length-le}
+use lib.ListN.{length, take, replicate, drop-of-length-le}
 use mathlib.Core.Bool.{Bool, true, false, cond}
 use Rattle.format.specs.Index.{leading}
 use Rattle.index_table.specs.Held.{Holds}

@@ -1,29 +1,27 @@
 -- What a table answers: of the table of a block with a regular log, what the search back answers. Assumes nothing.
-use mathlib.Core.Path.{_≡_, refl, sym, ap, ap₂, _∙_}
-use mathlib.Core.Logic.{_≢_}
-use mathlib.Core.Bool.{Bool, true, false, cond, _&&_}
+use mathlib.Core.Path.{_≡_, refl, sym, ap, _∙_}
+use mathlib.Core.Bool.{cond}
 use mathlib.Core.Option.{Option, none, some}
-use mathlib.Core.List.{List, [], _∷_, _++_, append-assoc}
-use Prim.Native.Nat.{ℕ, suc, _+_, _-_, _*_, _/_, _%_, _^_, _≤_, _<_}
+use mathlib.Core.List.{List, _∷_, _++_, append-assoc}
+use Prim.Native.Nat.{ℕ, suc, _+_, _-_, _*_, _^_, _≤_, _<_}
 use native.Mathlib.Omega.{arith}
 use lib.ListN.{length, getD, replicate}
-use lib.Dec.{eqb, leb, ltb}
 use borrow.Author.Tests.{lt-ltb, le-leb}
 use Rattle.format.specs.Tag.{tagType3, tagLength, tagOf}
 use Rattle.format.specs.Kind.{noSlot}
 use Rattle.format.specs.Directory.{classes, seatClass, Load, Slot, empty}
-use Rattle.format.specs.Look.{dataSize, FoundIn, HitIn}
-use Rattle.format.specs.Index.{rankAt, rankOf, classPlaces, dirPlaces, padded, tagIn, offIn, seek, isAt, placeHit}
-use Rattle.format.specs.Index.{askable, indexHit}
+use Rattle.format.specs.Look.{dataSize, HitIn}
+use Rattle.format.specs.Index.{rankAt, classPlaces, dirPlaces, padded, seek, isAt, placeHit}
+use Rattle.format.specs.Index.{indexHit}
 use Rattle.format.specs.declared.Found.{Found}
 use Rattle.format.specs.declared.Hit.{Hit}
 use Rattle.format.specs.declared.Hit.the-variants as hit
 use Rattle.format.proofs.Tags.{of-length}
 use Rattle.theory.specs.Directory.Machine.{mostSlots}
 use Rattle.theory.specs.Lookup.ByMask.{holdsAs, Answers}
-use Rattle.index_theory.specs.Ordered.{NoneBefore, none-app, zeros-none, seek-is, tag-seam, off-seam, at-seam}
+use Rattle.index_theory.specs.Ordered.{NoneBefore, none-app, zeros-none, tag-seam, off-seam, at-seam}
 use Rattle.index_theory.specs.Ordered.{not-at-seam}
-use Rattle.index_theory.specs.Places.{Fits, FitsIn, AllFit, rank-of, class-between}
+use Rattle.index_theory.specs.Places.{FitsIn, AllFit, rank-of, class-between}
 use Rattle.index_theory.specs.Step.{Parted, class-parted, fit-at}
 use Rattle.index_theory.specs.Looked.{placeOf}
 

@@ -2,30 +2,30 @@
 -- regular beginning of the block's log that ends in a commit is one. Assumes nothing.
 use mathlib.Core.Path.{_≡_, refl, sym, ap, _∙_}
 use mathlib.Core.Logic.{_≢_}
-use mathlib.Core.Bool.{Bool, true, false, _&&_}
+use mathlib.Core.Bool.{Bool, true}
 use mathlib.Core.List.{List, [], _∷_, _++_, append-nil, append-assoc}
-use Prim.Native.Nat.{ℕ, zero, suc, _+_, _-_, _≤_, _<_, min}
+use Prim.Native.Nat.{ℕ, _+_, _-_, _≤_, _<_}
 use native.Mathlib.Omega.{arith}
 use native.Mathlib.Nat.{add-zero}
 use lib.ListN.{length, take, drop, take-append-drop, length-take, length-drop, length-append, drop-of-length-le}
-use lib.Seq.{take-take, drop-drop, drop-append-seam, take-append-le, drop-append-le}
+use lib.Seq.{take-take, drop-append-seam, drop-append-le}
 use lib.Dec.{ltb, eqb}
-use borrow.Author.Tests.{eqb-true, eq-eqb, ltb-true, lt-ltb}
-use Rattle.format.specs.Word.{be32, xor, allOnes}
+use borrow.Author.Tests.{eqb-true, ltb-true}
+use Rattle.format.specs.Word.{allOnes}
 use Rattle.format.specs.Crc.{crc}
 use Rattle.format.specs.Walk.{Event, ent, chk, inv, classOf, walkFrom, walk}
-use Rattle.format.specs.Log.{committed, log, eventLength, span, tagAfter, logEnd, logEndTag}
+use Rattle.format.specs.Log.{committed, log, eventLength, span, logEnd, logEndTag}
 use Rattle.format.specs.Regular.{ruleHolds, between, loggedRule, countAt, countAfter, growsAfter, regularFrom, Regular}
 use Rattle.format.specs.declared.Rules.{Rules}
 use Rattle.format.specs.declared.Rules.the-variants.{Littlefs}
 use Rattle.format.specs.Tag.{tagId, tagSize, tagLength}
 use Rattle.format.specs.Directory.{Act, skip}
-use Rattle.format.specs.Index.{placedAct, placedFrom, logTo, endsAt, indexable, newActs}
+use Rattle.format.specs.Index.{placedAct, placedFrom, logTo, endsAt, newActs}
 use Rattle.format.proofs.Walk.{walk-step}
 use Rattle.format.proofs.Growing.{widest}
 use Rattle.theory.specs.Walk.Step.{both-true}
-use Rattle.theory.specs.Log.Committed.{committed-app, committed-split}
-use Rattle.theory.specs.Log.Continued.{continues, log-whole, log-read-within, log-continues, contained-end, some-long}
+use Rattle.theory.specs.Log.Committed.{committed-split}
+use Rattle.theory.specs.Log.Continued.{continues, log-read-within, log-continues, contained-end}
 use Rattle.theory.specs.Log.Folds.{span-app}
 use Rattle.theory.specs.Back.EventBytes.{Stands, log-stands}
 use Rattle.theory.specs.Commit.Tested.{regular-from}

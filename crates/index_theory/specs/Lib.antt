@@ -4,6 +4,7 @@ pub mod Ordered
 pub mod Places
 pub mod Step
 pub mod Ran
+pub mod Enough
 pub mod Looked
 pub mod Answered
 pub mod Ends

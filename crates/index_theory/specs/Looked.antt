@@ -2,17 +2,16 @@
 -- present id, and the offset of its first data byte. Assumes nothing.
 use mathlib.Core.Path.{_≡_, refl, sym, ap, ap₂, _∙_}
 use mathlib.Core.Logic.{_≢_, inl}
-use mathlib.Core.Bool.{Bool, true, false, cond}
-use mathlib.Core.Option.{Option, none, some}
-use mathlib.Core.List.{List, [], _∷_, reverse, reverseAux, map}
+use mathlib.Core.Bool.{Bool, true}
+use mathlib.Core.List.{List, [], _∷_, reverse, map}
 use Prim.Native.Nat.{ℕ, _+_, _-_, _%_, _^_, _≤_, _<_}
 use native.Mathlib.Omega.{arith}
 use lib.ListN.{length, take, drop, getD}
 use borrow.Author.Tests.{eqb-false}
 use Rattle.format.specs.Word.{allOnes, minus32}
 use Rattle.format.specs.Crc.{crc}
-use Rattle.format.specs.Tag.{tagType3, tagId, tagSize, removalSize, tagDelete, tagLength, tagOf}
-use Rattle.format.specs.Kind.{isSplice, isCheck}
+use Rattle.format.specs.Tag.{tagType3, tagId, tagSize, removalSize, tagLength, tagOf}
+use Rattle.format.specs.Kind.{isCheck}
 use Rattle.format.specs.Walk.{Event, ent, chk, inv, walkFrom, walk}
 use Rattle.format.specs.Log.{committed, log, logEnd, logEndTag}
 use Rattle.format.specs.Back.{Met, back, places}
@@ -20,7 +19,7 @@ use Rattle.format.specs.Look.{dataSize, wlook}
 use Rattle.format.specs.Regular.{Rule, ruleOf, between, ruleHolds, countAfter, growsAfter, countRaised, regularFrom, Regular}
 use Rattle.format.specs.declared.Rules.the-variants.{Littlefs}
 use Rattle.format.specs.declared.Found.{Found}
-use Rattle.format.specs.Directory.{Act, Slot, dir, act, acts, empty, dirOf, applyAll}
+use Rattle.format.specs.Directory.{Act, Slot, dir, act, empty, applyAll}
 use Rattle.format.specs.Index.{placedAct, placedFrom}
 use Rattle.format.proofs.Tags.{length-size, low-size, of-valid}
 use Rattle.theory.specs.Walk.Step.{both-true}
@@ -31,9 +30,9 @@ use Rattle.theory.specs.Directory.Types.{act-check}
 use Rattle.theory.specs.Back.WalkBack.{back-log}
 use Rattle.theory.specs.Back.EventBytes.{Stands, log-stands, chains}
 use Rattle.theory.specs.Back.BackActs.{seenAs, Topless, back-without-top, map-reverseAux}
-use Rattle.theory.specs.Lookup.SlotCount.{slotsAfter, slotsAfterAll, slots-all, allowed-newest}
+use Rattle.theory.specs.Lookup.SlotCount.{allowed-newest}
 use Rattle.theory.specs.Lookup.Masks.{Query}
-use Rattle.theory.specs.Lookup.ByMask.{Alike, holdsAs, Answers, Shapes, FewBack, metAs, wlook-as}
+use Rattle.theory.specs.Lookup.ByMask.{Alike, holdsAs, Shapes, wlook-as}
 use Rattle.theory.specs.Lookup.OnBlock.{RegularLog, check-one, shapes-rev, shapes-without-top, last-check, few-rev}
 use Rattle.theory.specs.Rules.RuledEntry.{ruled, rule-says}
 use Rattle.theory.specs.Commit.Tested.{regular-log}

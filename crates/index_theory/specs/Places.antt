@@ -2,20 +2,18 @@
 -- directory with the ids; a slot more or less before them shifts the ids. Assumes nothing.
 use mathlib.Core.Path.{_≡_, refl, sym, ap, ap₂, _∙_}
 use mathlib.Core.Logic.{_≢_}
-use mathlib.Core.Bool.{Bool, true, false, cond}
 use mathlib.Core.Option.{Option, none, some}
 use mathlib.Core.List.{List, [], _∷_, _++_, append-assoc}
-use Prim.Native.Nat.{ℕ, zero, suc, _+_, _-_, _*_, _/_, _%_, _^_, _≤_, _<_}
+use Prim.Native.Nat.{ℕ, zero, suc, _+_, _-_, _*_, _^_, _≤_, _<_}
 use native.Mathlib.Omega.{arith}
 use native.Mathlib.Nat.{zero-add, add-zero, suc-add}
 use lib.ListN.{length, getD, replicate, length-append}
-use lib.Dec.{eqb}
 use borrow.Author.Tests.{ne-eqb}
 use Rattle.format.specs.Word.{plus32}
-use Rattle.format.specs.Tag.{tagType1, tagType3, tagChunk, tagId, tagOf}
-use Rattle.format.specs.Directory.{classes, seatClass, Load, Slot, empty, upd}
+use Rattle.format.specs.Tag.{tagType3, tagOf}
+use Rattle.format.specs.Directory.{classes, seatClass, Load, Slot, empty}
 use Rattle.format.specs.Index.{rankAt, rankOf, classPlaces, slotPlaces, dirPlaces, shifted, oneUp, oneDown}
-use Rattle.format.proofs.Tags.{of-type1, of-type3, of-chunk, of-id, of-valid}
+use Rattle.format.proofs.Tags.{of-type3, of-id}
 use Rattle.theory.specs.Directory.Types.{type1-of, chunk-of}
 use Rattle.index_theory.specs.Ordered.{Between, between-app, between-wider}
 

@@ -1,11 +1,11 @@
 -- The table of a regular log: run from entry to entry it is what the directory machine says, and it is too small exactly
 -- where after some entry more are live. Assumes nothing.
-use mathlib.Core.Path.{_≡_, refl, sym, ap, ap₂, _∙_}
+use mathlib.Core.Path.{_≡_, refl, sym, ap, _∙_}
 use mathlib.Core.Logic.{_≢_}
 use mathlib.Core.Bool.{Bool, true, false, cond, _&&_}
-use mathlib.Core.Option.{Option, none, some}
-use mathlib.Core.List.{List, [], _∷_, _++_}
-use Prim.Native.Nat.{ℕ, suc, _+_, _*_, _^_, _≤_, _<_}
+use mathlib.Core.Option.{none, some}
+use mathlib.Core.List.{List, [], _∷_}
+use Prim.Native.Nat.{ℕ, _+_, _*_, _^_, _≤_, _<_}
 use native.Mathlib.Omega.{arith}
 use lib.ListN.{length}
 use lib.Dec.{eqb, leb}
@@ -15,17 +15,17 @@ use Rattle.format.specs.Walk.{Event, ent, chk, inv}
 use Rattle.format.specs.Log.{log}
 use Rattle.format.specs.Regular.{Rule, ruleOf, between, ruleHolds, countAfter, growsAfter, countRaised, regularFrom, Regular}
 use Rattle.format.specs.declared.Rules.the-variants.{Littlefs}
-use Rattle.format.specs.Directory.{classes, seatClass, Load, Slot, Act, mk, rm, put, skip, isStruct, isAttr, act, loadOf}
+use Rattle.format.specs.Directory.{classes, seatClass, Slot, Act, mk, rm, put, skip, isStruct, isAttr, act, loadOf}
 use Rattle.format.specs.Directory.{apply, applyAll}
 use Rattle.format.specs.Index.{placedAct, placedFrom, dirPlaces, placesAfter, ranOn, fitFrom, built}
 use Rattle.theory.specs.Walk.Step.{both-true}
-use Rattle.theory.specs.Directory.Machine.{mostSlots, Allowed, growsBehind}
+use Rattle.theory.specs.Directory.Machine.{mostSlots, growsBehind}
 use Rattle.theory.specs.Directory.Types.{type1-of, chunk-of}
 use Rattle.theory.specs.Back.EventBytes.{Stands, log-stands}
 use Rattle.theory.specs.Lookup.SlotCount.{AllowedFrom, slotsAfter, length-apply}
 use Rattle.theory.specs.Lookup.OnBlock.{FewFrom}
 use Rattle.theory.specs.Rules.RuledEntry.{ruled, rule-says}
-use Rattle.index_theory.specs.Places.{Fits, FitsIn, AllFit}
+use Rattle.index_theory.specs.Places.{FitsIn, AllFit}
 use Rattle.index_theory.specs.Step.{ActFits, apply-fits, step-places}
 
 -- ---- an entry that passed its rule puts what belongs there

@@ -1,21 +1,21 @@
 -- What an entry does to the places of a directory is what the directory machine does: the places of the directory
 -- behind it. Assumes nothing.
 use mathlib.Core.Path.{_≡_, refl, sym, ap, ap₂, _∙_}
-use mathlib.Core.Logic.{_≢_, _⊎_, inl, inr}
+use mathlib.Core.Logic.{_≢_}
 use mathlib.Core.Bool.{Bool, true, false, cond}
 use mathlib.Core.Option.{Option, none, some}
 use mathlib.Core.List.{List, [], _∷_, _++_, append-assoc, append-nil}
 use Prim.Native.Nat.{ℕ, zero, suc, _+_, _-_, _*_, _/_, _^_, _≤_, _<_, max}
 use native.Mathlib.Omega.{arith}
 use native.Mathlib.Nat.{zero-add}
-use lib.ListN.{length, getD, set, take, drop, replicate, take-append-drop, length-append, length-drop}
+use lib.ListN.{length, getD, take, drop, replicate, take-append-drop, length-append, length-drop}
 use lib.Seq.{length-take-le, drop-cons, split-at, set-split, take-at, drop-at, drop-drop}
 use lib.Dec.{eqb}
 use borrow.Author.Tests.{eqb-true, eq-eqb, ne-eqb}
 use Rattle.format.specs.Tag.{tagOf}
 use Rattle.format.specs.Directory.{classes, Load, Slot, Act, mk, rm, put, skip, empty, upd, reaching, apply}
-use Rattle.format.specs.Index.{rankAt, rankOf, seek, seekFrom, isAt, classPlaces, slotPlaces, dirPlaces, shifted, oneUp}
-use Rattle.format.specs.Index.{oneDown, slotMade, slotRemoved, placeSet, placeCleared, placesAfter}
+use Rattle.format.specs.Index.{rankAt, seek, seekFrom, isAt, classPlaces, slotPlaces, dirPlaces, shifted, oneUp}
+use Rattle.format.specs.Index.{oneDown, slotMade, slotRemoved, placesAfter}
 use Rattle.format.proofs.Slots.{length-reaching, getD-reaching}
 use Rattle.theory.specs.Directory.Machine.{mostSlots, Allowed}
 use Rattle.index_theory.specs.Ordered.{Between, between-app, between-wider, between-even, NoneBefore, none-app}

@@ -1,5 +1,5 @@
-// Compaction for C callers, and the same with a limit of stores or with a table. Each export hands its numbers and slices to the call
-// of the same name.
+// Compaction for C callers, and the same with a limit of stores or with a table. Each export hands its numbers and
+// slices to the call of the same name.
 ghost use mathlib.Core.Path.{_≡_};
 ghost use Rattle.format.specs.Compaction.{compactOf, compactStoresOf};
 ghost use Rattle.format.specs.Index.{compactTable};

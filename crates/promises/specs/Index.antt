@@ -2,7 +2,7 @@
 -- lookup. A log that grows by one commit shall be able to extend the table, with the same table as building afresh."
 -- And what stands in the definitions, in other words: which ends are commit boundaries, and when a table is too small.
 -- Assumes nothing.
-use mathlib.Core.Path.{_≡_, refl, sym, ap, ap₂, _∙_}
+use mathlib.Core.Path.{_≡_, refl, sym, ap, _∙_}
 use mathlib.Core.Logic.{_≢_}
 use mathlib.Core.Bool.{Bool, true, false, not, cond, _&&_, and-false}
 use mathlib.Core.Option.{Option, none, some}
@@ -23,24 +23,23 @@ use Rattle.format.specs.Fetch.{pairFits, fetchOf}
 use Rattle.format.specs.Back.{back}
 use Rattle.format.specs.Look.{maskType1, maskType3, HitIn, wlook}
 use Rattle.format.specs.Lookup.{recordFits, blockOf, hasIds, searched, getsliceFits, getsliceOf, getsliceBuffer}
-use Rattle.format.specs.Lookup.{sliceAnswer, sliceBuffer, longestBuffer}
 use Rattle.format.specs.Machine.{Ask, askMask, askKey}
 use Rattle.format.specs.Machine as machine
 use Rattle.format.specs.Writer.{blockAt}
 use Rattle.format.specs.Regular.{Regular, rulesFit, rulesOf}
 use Rattle.format.specs.Directory.{classes, seatClass, Slot, Act, empty, isStruct, isAttr, dirOf, apply, applyAll}
-use Rattle.format.specs.Index.{placesOf, dirPlaces, padded, fitFrom, allFit, logTo, endsAt, indexable, indexFits, built}
+use Rattle.format.specs.Index.{placesOf, dirPlaces, padded, fitFrom, logTo, endsAt, indexable, indexFits, built}
 use Rattle.format.specs.Index.{indexedAs, tableAs, indexOf, indexTable, askable, indexHit, indexGetOf, indexGetBuffer}
-use Rattle.format.specs.Index.{extended, extendable, extendFits, extendOf, extendTable}
+use Rattle.format.specs.Index.{extendOf, extendTable}
 use Rattle.format.specs.declared.Geometry.{Geometry}
 use Rattle.format.specs.declared.LfsMdir.{LfsMdir}
 use Rattle.format.specs.declared.LfsGstate.{LfsGstate}
 use Rattle.format.specs.declared.Refusal.{Refusal}
+use Rattle.format.specs.declared.Refusal.the-variants.{Invalid, Irregular, TableFull}
 use Rattle.format.specs.declared.Rules.{Rules}
 use Rattle.format.specs.declared.Rules.the-variants.{Littlefs}
 use Rattle.format.specs.declared.Fetched.the-variants as fetched
 use Rattle.format.specs.declared.Hit.{Hit}
-use Rattle.format.specs.declared.Indexed.{Indexed}
 use Rattle.format.specs.declared.Indexed.the-variants as indexed
 use Rattle.format.proofs.Growing.{widest}
 use Rattle.theory.specs.Walk.Step.{both-true}
@@ -54,9 +53,10 @@ use Rattle.theory.specs.Commit.Tested.{regular-log}
 use Rattle.theory.specs.Fetch.FoundBlock.{Sized, pair-sized, found-sized, found-reads}
 use Rattle.theory.specs.Stopped.Shown.{block-is}
 use Rattle.index_theory.specs.Places.{dir-few}
+use Rattle.index_theory.specs.Enough.{built-enough}
 use Rattle.index_theory.specs.Looked.{placedDir, placed-few, placed-lookup}
 use Rattle.index_theory.specs.Answered.{loadHit, found-load, table-answers}
-use Rattle.index_theory.specs.Ends.{end-is, end-some, end-high, long, log-begins, ends-there}
+use Rattle.index_theory.specs.Ends.{end-is, end-some, long, log-begins, ends-there}
 use Rattle.index_theory.specs.Items.{placed-count}
 use Rattle.index_theory.specs.Extended.{placed-fit, padded-length, built-places, built-fits, extend-afresh}
 
@@ -222,6 +222,36 @@ index-few g b0 b1 n0 n1 dir rules table k accepted =
     rw (u .fits, u .regular, u .all) at accepted in
     let q : length (placesOf (logTo b (dir .off))) / 2 ≡ k = cc in
     omega (arith, q, dir-few 0 (placedDir f wide), placed-few f wide)
+
+-- A table of half as many words as a block has bytes is never too small.
+pub index-enough : (g : Geometry) (b0 b1 : List ℕ) (n0 n1 : ℕ) (dir : LfsMdir) (rules : ℕ) (table : List ℕ)
+    → g .«block_size» / 2 ≤ length table → indexOf g b0 b1 n0 n1 dir rules table ≢ indexed.Refused TableFull
+unfolding indexOf recordFits
+index-enough g b0 b1 n0 n1 dir rules table long =
+    go (indexFits g b0 b1 n0 n1 dir rules) refl (indexable (rulesOf rules) b end) refl
+  where
+    b : List ℕ
+    b = blockOf b0 b1 n0 dir
+
+    end : ℕ
+    end = dir .off
+
+    kept : (v : Option (List ℕ)) → v ≢ none → indexedAs v ≢ indexed.Refused TableFull
+    kept none k = λ e. k refl
+    kept (some P) k = λ e. absurd (let z : _≡_ {A = ℕ} 0 1 = cc in omega arith)
+
+    go : (x : Bool) → indexFits g b0 b1 n0 n1 dir rules ≡ x → (y : Bool) → indexable (rulesOf rules) b end ≡ y
+        → cond (not x) (indexed.Refused Invalid) (cond (not y) (indexed.Refused Irregular)
+        (indexedAs (built (length table) (logTo b end)))) ≢ indexed.Refused TableFull
+    go false f y r = λ e. absurd (let z : _≡_ {A = ℕ} 0 1 = cc in omega arith)
+    go true f false r = λ e. absurd (let z : _≡_ {A = ℕ} 0 1 = cc in omega arith)
+    go true f true r =
+        let fits = both-true (recordFits g (length b0) (length b1) n0 n1 dir) (rulesFit rules) f .0 in
+        let low = leb-true end (g .«block_size») (both-true (pairFits g (length b0) (length b1) n0 n1
+        && pairSync (dir .pair) (record { n0 = n0; n1 = n1 })) (leb end (g .«block_size»)) fits .1) in
+        let u = both-true (endsAt b end) (Regular (rulesOf rules) (logTo b end)) r in
+        kept (built (length table) (logTo b end)) (built-enough (length table) (take end b)
+        (widest (rulesOf rules) (logTo b end) (u .1)) (omega (arith, end-is b end (u .0))))
 
 -- The record of a fetch is such a one: where the log is regular by the rule, its end is a commit boundary, the log up to
 -- it is the block's, and the end tag is the log's. So a build with room enough is accepted.

@@ -2,8 +2,8 @@
 -- which refusals each call gives, and that what C gets determines the answer. Demand 1 is amended here: "-221 .. and the
 -- table is then all zero", and a compaction with a table has used it where it is refused by -28 or -204. Assumes
 -- nothing.
-use mathlib.Core.Path.{_≡_, refl, sym, ap}
-use mathlib.Core.Logic.{_≢_, _⊎_, inl, inr}
+use mathlib.Core.Path.{_≡_, refl, ap}
+use mathlib.Core.Logic.{_⊎_, inl, inr}
 use mathlib.Core.Bool.{Bool, true, false, not, cond}
 use mathlib.Core.Option.{Option, none, some}
 use mathlib.Core.List.{List}

@@ -26,7 +26,7 @@ use Rattle.theory.specs.Directory.Machine.{mostSlots, stillGrows, AllAll
 use Rattle.theory.specs.Back.WalkBack.{Chain, back-log}
 use Rattle.theory.specs.Back.EventBytes.{Told, chains}
 use Rattle.theory.specs.Directory.Types.{check-type1, act-check, act-without-top}
-use Rattle.theory.specs.Back.BackActs.{Eights, bytesAt, seenAs, seen, Topless, bytes-topless, back-without-top}
+use Rattle.theory.specs.Back.BackActs.{Eights, bytesAt, seenAs, seen, bytes-topless, back-without-top}
 use Rattle.theory.specs.Back.BackActs.{map-reverseAux, seen-places}
 use Rattle.theory.specs.Lookup.SlotCount.{slotsAfter, AllowedFrom, length-apply, Sound, allowed-newest}
 use Rattle.theory.specs.Lookup.Masks.{Query}
