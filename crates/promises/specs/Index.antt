@@ -50,14 +50,17 @@ use Rattle.theory.specs.Lookup.ByMask.{Answers}
 use Rattle.theory.specs.Lookup.AtStart.{back-in, wlook-in, back-same}
 use Rattle.theory.specs.Lookup.OnBlock.{regular-searchable, block-lookup}
 use Rattle.theory.specs.Commit.Tested.{regular-log}
-use Rattle.theory.specs.Fetch.FoundBlock.{Sized, pair-sized, found-sized, found-reads}
-use Rattle.theory.specs.Stopped.Shown.{block-is}
+use Rattle.theory.specs.Compact.AcceptedVerdict.{slots-counted}
+use Rattle.theory.specs.Fetch.FoundBlock.{found-sized, found-reads}
+use Rattle.theory.specs.Fetch.Places.{block-length}
+use Rattle.theory.specs.Stopped.Shown.{found-tested, block-is}
 use Rattle.index_theory.specs.Places.{dir-few}
 use Rattle.index_theory.specs.Enough.{built-enough}
 use Rattle.index_theory.specs.Looked.{placedDir, placed-few, placed-lookup}
 use Rattle.index_theory.specs.Answered.{loadHit, found-load, table-answers}
 use Rattle.index_theory.specs.Ends.{end-is, end-some, long, log-begins, ends-there}
 use Rattle.index_theory.specs.Items.{placed-count}
+use Rattle.promises.specs.PossibleLookups.{end-inside}
 use Rattle.index_theory.specs.Extended.{placed-fit, padded-length, built-places, built-fits, extend-afresh}
 
 -- ---- what is asked
@@ -141,7 +144,7 @@ pub record Built (g : Geometry) (b0 b1 : List ℕ) (n0 n1 : ℕ) (dir : LfsMdir)
   pub all : built n (logTo (blockOf b0 b1 n0 dir) (dir .off)) ≡ some (placesOf (logTo (blockOf b0 b1 n0 dir) (dir .off)))
 
 module _ (g : Geometry) (b0 b1 : List ℕ) (n0 n1 : ℕ) (dir : LfsMdir) (rules : ℕ) (table : List ℕ) where
-  places-built : (k : ℕ) → indexOf g b0 b1 n0 n1 dir rules table ≡ indexed.Places k
+  pub places-built : (k : ℕ) → indexOf g b0 b1 n0 n1 dir rules table ≡ indexed.Places k
       → Built g b0 b1 n0 n1 dir rules (length table)
   unfolding indexOf
   places-built k h =
@@ -164,24 +167,6 @@ module _ (g : Geometry) (b0 b1 : List ℕ) (n0 n1 : ℕ) (dir : LfsMdir) (rules 
   unfolding indexTable
   table-built u = rw (u .fits, u .regular, u .all)
 
--- a record that fits has its end in the block that it was read from
-record-inside : (g : Geometry) (b0 b1 : List ℕ) (n0 n1 : ℕ) (dir : LfsMdir)
-    → recordFits g (length b0) (length b1) n0 n1 dir ≡ true
-    → (dir .off ≤ length (blockOf b0 b1 n0 dir)) × (4 ≤ length (blockOf b0 b1 n0 dir))
-unfolding recordFits
-record-inside g b0 b1 n0 n1 dir h =
-    let p = both-true (pairFits g (length b0) (length b1) n0 n1 && pairSync (dir .pair) (record { n0 = n0; n1 = n1 }))
-    (leb (dir .off) (g .«block_size»)) h in
-    let q = both-true (pairFits g (length b0) (length b1) n0 n1) (pairSync (dir .pair) (record { n0 = n0; n1 = n1 })) (p .0) in
-    let s = pair-sized g b0 b1 n0 n1 (q .0) .0 in
-    let l = leb-true (dir .off) (g .«block_size») (p .1) in
-    go (eqb (dir .pair .n0) n0) s l
-  where
-    go : (x : Bool) → Sized g b0 b1 → dir .off ≤ g .«block_size»
-        → (dir .off ≤ length (cond x b0 b1)) × (4 ≤ length (cond x b0 b1))
-    go true s l = (omega (arith, s .first), omega (arith, s .first, s .block .0))
-    go false s l = (omega (arith, s .second), omega (arith, s .second, s .block .0))
-
 -- THE THEOREM. A table was built for a record whose end tag is its log's; no move is pending. For every id below the
 -- number of slots, and every type, buffer and size in the key: answer and buffer are those of `lfs_dir_getslice`.
 pub index-answers : (g : Geometry) (b0 b1 : List ℕ) (n0 n1 : ℕ) (dir : LfsMdir) (rules : ℕ) (table : List ℕ) (k : ℕ)
@@ -201,7 +186,7 @@ index-answers g b0 b1 n0 n1 dir rules table k gdisk type id size buffer accepted
     let f = both-true (recordFits g (length b0) (length b1) n0 n1 dir) (rulesFit rules) (u .fits) in
     let e = both-true (endsAt b end) (Regular (rulesOf rules) (logTo b end)) (u .regular) in
     let wide = widest (rulesOf rules) (logTo b end) (e .1) in
-    let inside = record-inside g b0 b1 n0 n1 dir (f .0) .0 in
+    let inside = end-inside g b0 b1 n0 n1 dir (f .0) in
     let x = table-is b end (e .0) inside wide (length table) type id asked low in
     let y = asked-is b end (e .0) inside wide type id size asked small low in
     let z = sym (ap (λ (t : ℕ). wlook (hasIds (askMask (asksFor type id))) (askMask (asksFor type id))
@@ -253,20 +238,26 @@ index-enough g b0 b1 n0 n1 dir rules table long =
         kept (built (length table) (logTo b end)) (built-enough (length table) (take end b)
         (widest (rulesOf rules) (logTo b end) (u .1)) (omega (arith, end-is b end (u .0))))
 
--- The record of a fetch is such a one: where the log is regular by the rule, its end is a commit boundary, the log up to
--- it is the block's, and the end tag is the log's. So a build with room enough is accepted.
+-- The record of a fetch is such a one: it fits, and where the log is regular by the rule, its end is a commit boundary,
+-- the log up to it is the block's, the end tag is the log's, and the count is the number of its slots. So a build with
+-- room enough is accepted.
 pub index-fetched : (g : Geometry) (b0 b1 : List ℕ) (n0 n1 count seed rules : ℕ) (dir : LfsMdir) (read : ℕ)
     → fetchOf g b0 b1 n0 n1 count seed ≡ fetched.Found dir read
     → Regular (rulesOf rules) (log (blockOf b0 b1 n0 dir)) ≡ true
-    → (indexable (rulesOf rules) (blockOf b0 b1 n0 dir) (dir .off) ≡ true)
+    → (recordFits g (length b0) (length b1) n0 n1 dir ≡ true)
+    × (indexable (rulesOf rules) (blockOf b0 b1 n0 dir) (dir .off) ≡ true)
     × (logTo (blockOf b0 b1 n0 dir) (dir .off) ≡ log (blockOf b0 b1 n0 dir))
     × (dir .etag ≡ logEndTag (logTo (blockOf b0 b1 n0 dir) (dir .off)))
+    × (dir .count ≡ length (dirOf (logTo (blockOf b0 b1 n0 dir) (dir .off))))
+unfolding recordFits
 index-fetched g b0 b1 n0 n1 count seed rules dir read f regular =
     let a = found-reads g b0 b1 n0 n1 count seed dir read f in
-    let s = found-sized g b0 b1 n0 n1 count seed dir read f in
+    let t = found-tested g b0 b1 n0 n1 count seed dir read f in
     let b : List ℕ = blockOf b0 b1 n0 dir in
     let same : b ≡ blockAt (a .w) b0 b1 = block-is b0 b1 n0 dir (a .w) (a .place) in
-    let four : 4 ≤ length b = rw same (long-block (a .w) s) in
+    let s = found-sized g b0 b1 n0 n1 count seed dir read f in
+    let long : length b ≡ g .«block_size» = ap length same ∙ block-length g b0 b1 (a .w) s in
+    let four : 4 ≤ length b = omega (arith, long, s .block .0) in
     let ends : dir .off ≡ logEnd (log b) = rw same (a .ends) in
     let some′ : log b ≢ [] = rw same (a .some) in
     let wide = widest (rulesOf rules) (log b) regular in
@@ -274,14 +265,12 @@ index-fetched g b0 b1 n0 n1 count seed rules dir read f regular =
     let whole : logTo b (dir .off) ≡ log b = ap (logTo b) ends ∙ ends-there (rulesOf rules) b (log b) [] four
     (sym (append-nil (log b))) (log-whole b) some′ regular inside in
     let high : 4 < dir .off = omega (arith, ends, some-long (log b) (log-whole b) some′) in (
+      rw (t .fits, t .pair) (le-leb (dir .off) (g .«block_size») (omega (arith, ends, inside, long))),
       rw (lt-ltb 4 (dir .off) high, whole, eq-eqb (logEnd (log b)) (dir .off) (sym ends)) regular,
       whole,
       rw whole (rw same (a .endTag)),
+      rw (whole, same) (a .count′ ∙ slots-counted (blockAt (a .w) b0 b1) (rw same at wide)),
     )
-  where
-    long-block : (w : Bool) → Sized g b0 b1 → 4 ≤ length (blockAt w b0 b1)
-    long-block false s = omega (arith, s .first, s .block .0)
-    long-block true s = omega (arith, s .second, s .block .0)
 
 table-at : (g : Geometry) (b0 b1 : List ℕ) (n0 n1 : ℕ) (dir : LfsMdir) (rules : ℕ) (table : List ℕ)
     → indexFits g b0 b1 n0 n1 dir rules ≡ true
@@ -311,7 +300,7 @@ index-extends g b0 b1 n0 n1 old dir rules table k accepted one later fits regula
     (Regular (rulesOf rules) (logTo (blockOf b0 b1 n0 old) (old .off))) (u .regular) .0) in
     let f = both-true (recordFits g (length b0) (length b1) n0 n1 old) (rulesFit rules) (u .fits) in
     let h = both-true (recordFits g (length b0) (length b1) n0 n1 dir) (rulesFit rules) fits in
-    let inside = record-inside g b0 b1 n0 n1 dir (h .0) .0 in
+    let inside = end-inside g b0 b1 n0 n1 dir (h .0) in
     let P : List ℕ = placesOf (logTo b (old .off)) in
     let all : built n (logTo b (old .off)) ≡ some P = rw same at (u .all) in
     let t : indexTable g b0 b1 n0 n1 old rules table ≡ padded n P =

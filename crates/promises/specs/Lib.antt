@@ -27,8 +27,9 @@ pub mod Refetch
 pub mod Directory
 pub mod Find
 pub mod FindAnswer
--- Document 02, L8: an index in memory.
-pub mod Index
-pub mod IndexAnswer
 pub mod Stopped
 pub mod Example
+-- Document 02, L8: an index in memory, and behind a commit.
+pub mod Index
+pub mod IndexGrown
+pub mod IndexAnswer

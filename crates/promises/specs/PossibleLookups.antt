@@ -68,6 +68,22 @@ info-possible b nameMax name struct h k =
     (readBuffer b (nameMax + 1) name) (readBuffer b 8 struct)
     (start-possible b (nameMax + 1) name h) (start-possible b 8 struct k)
 
+-- the end of a record that fits is in the block that it was read from
+pub end-inside : (g : Geometry) (b0 b1 : List ℕ) (n0 n1 : ℕ) (dir : LfsMdir)
+    → recordFits g (length b0) (length b1) n0 n1 dir ≡ true → dir .off ≤ length (blockOf b0 b1 n0 dir)
+unfolding recordFits pairFits
+end-inside g b0 b1 n0 n1 dir h =
+    let size : ℕ = g .«block_size» in
+    let one : Bool = geometryFits g && eqb (length b0) size in
+    let two : Bool = one && eqb (length b1) size in
+    let pair : Bool = two && not (eqb n0 n1) && pairSync (dir .pair) (record { n0 = n0; n1 = n1 }) in
+    let end = both-true pair (leb (dir .off) size) h in
+    let second = both-true one _ (both-true two _ (both-true (two && not (eqb n0 n1)) _ (end .0) .0) .0) in
+    let first = both-true (geometryFits g) _ (second .0) in
+    let inside : dir .off ≤ size = leb-true (dir .off) size (end .1) in
+    through (λ (b : List ℕ). dir .off ≤ length b) (eqb (dir .pair .n0) n0)
+    (rw (eqb-true (length b0) size (first .1)) inside) (rw (eqb-true (length b1) size (second .1)) inside)
+
 -- ---- the four calls
 module _ (g : Geometry) (b0 b1 : List ℕ) (n0 n1 : ℕ) (dir : LfsMdir) (gdisk : LfsGstate) where
   abbrev fits : Bool
@@ -79,24 +95,9 @@ module _ (g : Geometry) (b0 b1 : List ℕ) (n0 n1 : ℕ) (dir : LfsMdir) (gdisk 
   abbrev search : ℕ → ℕ → Hit
   search mask key = searched block dir gdisk mask key
 
-  -- the record's end is in the block that it was read from
-  end-inside : fits ≡ true → dir .off ≤ length block
-  unfolding recordFits pairFits
-  end-inside h =
-      let size : ℕ = g .«block_size» in
-      let one : Bool = geometryFits g && eqb (length b0) size in
-      let two : Bool = one && eqb (length b1) size in
-      let pair : Bool = two && not (eqb n0 n1) && pairSync (dir .pair) (record { n0 = n0; n1 = n1 }) in
-      let end = both-true pair (leb (dir .off) size) h in
-      let second = both-true one _ (both-true two _ (both-true (two && not (eqb n0 n1)) _ (end .0) .0) .0) in
-      let first = both-true (geometryFits g) _ (second .0) in
-      let inside : dir .off ≤ size = leb-true (dir .off) size (end .1) in
-      through (λ (b : List ℕ). dir .off ≤ length b) (eqb (dir .pair .n0) n0)
-      (rw (eqb-true (length b0) size (first .1)) inside) (rw (eqb-true (length b1) size (second .1)) inside)
-
   -- a search finds nothing behind the record's end
   search-inside : (mask key : ℕ) → fits ≡ true → HitIn (length block) (search mask key)
-  search-inside mask key h = searched-in (length block) block dir gdisk mask key (end-inside h)
+  search-inside mask key h = searched-in (length block) block dir gdisk mask key (end-inside g b0 b1 n0 n1 dir h)
 
   pub getslice-possible : (mask key offset : ℕ) (buffer : List ℕ)
       → GotOr SliceRefuses (getsliceOf g b0 b1 n0 n1 dir gdisk mask key offset buffer)

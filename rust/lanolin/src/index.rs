@@ -110,7 +110,8 @@ impl<'t> Index<'t> {
     ///
     /// Proved: answer and table equal `extendOf` and `extendTable`, and where the bytes
     /// before the old end are as they were when it was built, these are what a build for
-    /// `record` gives (`index-extends`).
+    /// `record` gives (`index-extends`); behind a commit they are so
+    /// (`index-behind-commit`).
     ///
     /// It is refused as [`Index::build`] is, and [`Refusal::Invalid`] also where the two
     /// records are not of one block, as behind a compaction, or the new end is before the

@@ -6,6 +6,7 @@ use mathlib.Core.Bool.{Bool, true, false, not, cond}
 use mathlib.Core.List.{List}
 use Prim.Native.Nat.{ℕ, _-_, min}
 use native.Mathlib.Omega.{arith}
+use lib.ListN.{take}
 use lib.Dec.{eqb}
 use Rattle.format.specs.Word.{allOnes}
 use Rattle.format.specs.Log.{log, logEnd, logEndTag}
@@ -63,16 +64,21 @@ module _ (g : Geometry) (b0 b1 : List ℕ) (n0 n1 count seed rules e : ℕ) (ent
         let long = contained-end (log (blockAt w b0 b1)) allOnes (log-whole (blockAt w b0 b1)) (o .nonempty) (o .reg) in
         rw (q, t) (omega arith)
 
+    -- up to there the block is unchanged
+    pub commit-front : take (knownTo m) (blockOf (i .b0) (i .b1) n0 m) ≡ take (knownTo m) (blockOf b0 b1 n0 m)
+    commit-front = rw (
+      known,
+      at-place (i .b0) (i .b1) n0 m w place .0,
+      at-place b0 b1 n0 m w place .0,
+      commit-written g b0 b1 n0 n1 count seed rules e entries dat w is size h n .0,
+    ) (stored-front g b0 b1 n0 n1 count seed rules e entries dat w is size h (min n (allStores is)))
+
     accepted-again : refetchOf g (i .b0) (i .b1) n0 n1 count s m ≡ fetchOf g (i .b0) (i .b1) n0 n1 count seed
     accepted-again =
-        let k = min n (allStores is) in
-        let written = commit-written g b0 b1 n0 n1 count seed rules e entries dat w is size h n in
-        let old = at-place b0 b1 n0 m w place in
-        let new = at-place (i .b0) (i .b1) n0 m w place in
-        refetched g g b0 b1 (i .b0) (i .b1) n0 n1 count count seed m s (inl found)
-        (rw (known, new .0, old .0, written .0)
-        (stored-front g b0 b1 n0 n1 count seed rules e entries dat w is size h (min n (allStores is))))
-        (new .1 ∙ written .1 ∙ sym (old .1))
+        refetched g g b0 b1 (i .b0) (i .b1) n0 n1 count count seed m s (inl found) commit-front
+        (at-place (i .b0) (i .b1) n0 m w place .1
+        ∙ commit-written g b0 b1 n0 n1 count seed rules e entries dat w is size h n .1
+        ∙ sym (at-place b0 b1 n0 m w place .1))
 
   pub refetch-behind : Gave (fetchOf g b0 b1 n0 n1 count seed) m s
       → refetchOf g (i .b0) (i .b1) n0 n1 count s m ≡ fetchOf g (i .b0) (i .b1) n0 n1 count seed
