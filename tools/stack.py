@@ -176,7 +176,7 @@ def complaints(most, seen, limits):
 def main():
     parser = argparse.ArgumentParser(description="The stack that each call of the archive takes at most.")
     parser.add_argument("--at-most", type=int, nargs="+", metavar="N", default=[],
-                        help="exit 1 if a compaction may take more than the first, or any other call more than the last")
+                        help="exit 1 if a compaction may take more than the first, another call more than the last")
     parser.add_argument("--measured", metavar="FILE", help="what tests/c/stack.c printed; - is standard input")
     parser.add_argument("archive", nargs="?", default=ARCHIVE)
     options = parser.parse_args()

@@ -232,13 +232,15 @@ pub room-for-one : (indexOf geometry two (blank 128) 0 1 (upTo 39) 0 (nines 3) �
     × (extend (upTo 21) (upTo 39) (0x0010_0001 ∷ 12 ∷ []) ≡ indexed.Refused TableFull)
     × (extendedTo (upTo 21) (upTo 39) (0x0010_0001 ∷ 12 ∷ []) ≡ 0 ∷ 0 ∷ [])
 unfolding indexOf indexTable extendOf extendTable recordFits pairFits geometryFits Regular regularFrom ruleOf ruleHolds
-    countAfter growsAfter countRaised built fitFrom dirPlaces slotPlaces placedFrom placedAct applyAll apply reaching upd
+    countAfter growsAfter countRaised built fitFrom dirPlaces slotPlaces placedFrom placedAct applyAll apply
+    reaching upd
     empty act ranOn leading placesAfter shifted halving rankOf seatClass tagOf tagLength span eventLength log committed
     walk walkFrom walkIn classOf readBehind bodyLength tagFlipped be32 le32 xor crc crcByte crcBits crcBit
 room-for-one = (refl, refl, refl, refl)
 
--- ---- "-202 .., table unchanged": a log that is regular by littlefs's rule alone, whose name q212 of slot 1 stands at 4
--- and struct at 12; ends that are no boundary: of no commit, inside one, on an entry, behind the last; and the old end
+-- ---- "-202 .., table unchanged": a log that is regular by littlefs's rule alone, whose name q212 of slot 1 stands at
+-- 4 and struct at 12; ends that are no boundary: of no commit, inside one, on an entry, behind the last; and the old
+-- end
 abbrev grownIn : ℕ → List ℕ
 grownIn rules = indexTable geometry grown (blank 128) 0 1 (upTo 32) rules (nines 4)
 
@@ -250,7 +252,8 @@ pub irregular : (grownIn 0 ≡ nines 4) × (grownIn 1 ≡ 0x0010_0404 ∷ 8 ∷ 
     × (extend (upTo 4) (upTo 39) first ≡ indexed.Refused Irregular)
     × (extendedTo (upTo 21) (upTo 38) first ≡ first)
 unfolding indexOf indexTable extendOf extendTable recordFits pairFits geometryFits Regular regularFrom ruleOf ruleHolds
-    countAfter growsAfter countRaised built fitFrom dirPlaces slotPlaces placedFrom placedAct applyAll apply reaching upd
+    countAfter growsAfter countRaised built fitFrom dirPlaces slotPlaces placedFrom placedAct applyAll apply
+    reaching upd
     empty act tagOf tagLength span eventLength log committed walk walkFrom walkIn classOf readBehind bodyLength
     tagFlipped be32 le32 xor crc crcByte crcBits crcBit
 irregular = (refl, refl, refl, refl, refl, refl, refl, refl)
@@ -275,12 +278,14 @@ invalid = (refl, refl, refl, refl, refl)
 
 -- the record's block is the second one: it is the blank one, which has no commit
 pub other-block : indexedAt second-block 0 ≡ indexed.Refused Irregular
-unfolding indexOf recordFits pairFits geometryFits span eventLength log committed walk walkFrom walkIn classOf readBehind
+unfolding indexOf recordFits pairFits geometryFits span eventLength log committed walk walkFrom walkIn classOf
+    readBehind
     bodyLength tagFlipped be32 le32 xor tagLength crc crcByte crcBits crcBit
 other-block = refl
 
 -- ---- extending, over events: from the table of some to that of more
--- Name at 8, attribute at 13, check at 21; behind it a create below at 29, its name at 33, and the attribute anew at 39.
+-- Name at 8, attribute at 13, check at 21; behind it a create below at 29, its name at 33, and the attribute anew at
+-- 39.
 abbrev earlier : List Event
 earlier = made 0 ∷ named 0 1 ∷ entry 0x374 0 4 ∷ check ∷ []
 

@@ -41,5 +41,6 @@ laidFrom s b0 b1 es dat = sealT (passOf es dat (trio s b0 b1))
 -- begin, and both
 abbrev pub ranOf : Geometry → List ℕ → List ℕ → ℕ → ℕ → ℕ → ℕ → ℕ → ℕ → List Entry → List ℕ → ℕ → Trio
 ranOf g b0 b1 n0 n1 count seed rules byte es dat stores =
-    let t : Trio = judgedFrom (begunOf g b0 b1 n0 n1 count seed rules byte (length es) dat) g b0 b1 byte es dat stores in
+    let t : Trio =
+    judgedFrom (begunOf g b0 b1 n0 n1 count seed rules byte (length es) dat) g b0 b1 byte es dat stores in
     laidFrom (t .st) (t .b0) (t .b1) es dat

@@ -29,8 +29,8 @@ fn each(es: &[Entry], dat: &[u8], b0: &mut [u8], b1: &mut [u8], st: State) -> St
     s
 }
 
-// The first pass, from a begun state: judge every entry, and decide. Each function here holds few states, and fetch runs
-// outside of both passes: so little stack is taken at once.
+// The first pass, from a begun state: judge every entry, and decide. Each function here holds few states, and fetch
+// runs outside of both passes: so little stack is taken at once.
 fn judge(
     s: State,
     g: Geometry,
@@ -41,8 +41,8 @@ fn judge(
     dat: &[u8],
     stores: u32,
 ) -> State
-    ensures { λ r. ⌜ trio r (now (b0 .exit)) (now (b1 .exit)) ≡ judgedFrom s g (now (b0 .entry)) (now (b1 .entry)) erased
-        (now (entries .entry)) (now (dat .entry)) stores ⌝ }
+    ensures { λ r. ⌜ trio r (now (b0 .exit)) (now (b1 .exit)) ≡ judgedFrom s g (now (b0 .entry)) (now (b1 .entry))
+        erased (now (entries .entry)) (now (dat .entry)) stores ⌝ }
 {
     let judged = each(entries, dat, b0, b1, s);
     commit_steps::decide(erased, judged, g, b0, b1, stores)

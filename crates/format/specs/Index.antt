@@ -32,8 +32,8 @@ use Rattle.format.specs.declared.Indexed.{Indexed}
 use Rattle.format.specs.declared.Indexed.the-variants as indexed
 
 -- ---- the table of a log
--- An entry whose tag t stands at `off`, as the directory machine takes it, with two numbers for its bytes: how many they
--- are, and "the block offset of its first data byte".
+-- An entry whose tag t stands at `off`, as the directory machine takes it, with two numbers for its bytes: how many
+-- they are, and "the block offset of its first data byte".
 unfoldable pub placedAct : ℕ → ℕ → Act
 placedAct off t = act t (tagSize t ∷ (off + 4) ∷ [])
 

@@ -79,7 +79,8 @@ module _ (T : List ℕ) (kind id : ℕ) where
 
           pub place-there : q ≡ r → (n : ℕ) → n ≡ tagLength t → (o : ℕ) → o ≡ offIn T s
               → hit.Found (record { tag = t; length = n; off = o }) ≡ indexHit T kind id
-          place-there h n en o eo = sym (said ∙ rw (lt-ltb s (length T / 2) inside, ← et, ← eq, eq-eqb q r h, ← en, ← eo))
+          place-there h n en o eo = sym
+              (said ∙ rw (lt-ltb s (length T / 2) inside, ← et, ← eq, eq-eqb q r h, ← en, ← eo))
 
 -- what is found has a tag's length
 pub hit-long : (T : List ℕ) (kind id : ℕ) (e : Found) → hit.Found e ≡ indexHit T kind id → 4 ≤ e .length

@@ -1,6 +1,6 @@
 // An index of a metadata pair in a lent table (document 02, L8): built in one forward pass, extended by what later
-// commits add, and asked in place of the walk back. Any geometry, images, numbers, records, rule and table. littlefs has
-// no such calls.
+// commits add, and asked in place of the walk back. Any geometry, images, numbers, records, rule and table. littlefs
+// has no such calls.
 ghost use mathlib.Core.Path.{_≡_};
 ghost use Prim.Native.Nat.{_≤_};
 ghost use lib.ListN.{length};
@@ -14,8 +14,8 @@ use format::Refusal;
 // What a table answers.
 pub mod get;
 
-// A block's table for the log up to `end`: "-202 for a log that is irregular by the given rule, or a record whose end is
-// no commit boundary of its block's committed log, table unchanged". The walk sums what it passes: a record is taken
+// A block's table for the log up to `end`: "-202 for a log that is irregular by the given rule, or a record whose end
+// is no commit boundary of its block's committed log, table unchanged". The walk sums what it passes: a record is taken
 // from anybody.
 fn index_block(b: &[u8], end: usize, rules: u32, table: &mut [u32]) -> Indexed
     requires { ⌜ InBlock (now b) end ⌝ }

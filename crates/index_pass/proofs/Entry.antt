@@ -35,7 +35,8 @@ class-act t d h = go (isName t) (isStruct t) (isAttr t) h
     go false false false h = absurd (omega arith)
 
 other-act : (t : ℕ) (d : List ℕ) → classes ≤ seatClass t
-    → act t d ≡ cond (eqb (tagType3 t) typeCreate) (mk (tagId t)) (cond (eqb (tagType3 t) typeDelete) (rm (tagId t)) skip)
+    → act t d ≡ cond (eqb (tagType3 t) typeCreate) (mk (tagId t))
+    (cond (eqb (tagType3 t) typeDelete) (rm (tagId t)) skip)
 unfolding act seatClass
 other-act t d h = go (isName t) (isStruct t) (isAttr t) h
   where

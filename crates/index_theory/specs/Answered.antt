@@ -59,7 +59,8 @@ module _ (n : ℕ) (D : List Slot) (f : AllFit D) (few : length D ≤ mostSlots)
   -- the table's parts
   parts : table ≡ p .before ++ (classPlaces id (getD D id empty c) ++ (p .rest ++ Z))
   unfolding table Z
-  parts = ap (λ (l : List ℕ). l ++ Z) (p .is) ∙ append-assoc (p .before) (classPlaces id (getD D id empty c) ++ p .rest) Z
+  parts = ap (λ (l : List ℕ). l ++ Z) (p .is)
+      ∙ append-assoc (p .before) (classPlaces id (getD D id empty c) ++ p .rest) Z
       ∙ ap (λ (l : List ℕ). p .before ++ l) (append-assoc (classPlaces id (getD D id empty c)) (p .rest) Z)
 
   behind : NoneBefore (suc (rankAt id c)) (p .rest ++ Z)
@@ -68,13 +69,15 @@ module _ (n : ℕ) (D : List Slot) (f : AllFit D) (few : length D ≤ mostSlots)
       (zeros-none (suc (rankAt id c)) (n - length (dirPlaces 0 D)) (omega arith))
 
   found : (m : Option Load) → FitsIn c m → (T : List ℕ) → T ≡ p .before ++ (classPlaces id m ++ (p .rest ++ Z))
-      → cond (isAt (rankAt id c) T (seek (rankAt id c) T)) (placeHit T (seek (rankAt id c) T)) hit.Nothing ≡ loadHit id m
+      → cond (isAt (rankAt id c) T (seek (rankAt id c) T)) (placeHit T (seek (rankAt id c) T)) hit.Nothing
+      ≡ loadHit id m
   found none g T e = rw (e, not-at-seam (rankAt 0 0) (rankAt id c) (p .before) (p .rest ++ Z) (p .below) behind)
   found (some v) g T e =
       let t : ℕ = tagOf (v .type) id (getD (v .bytes) 0 0) in
       let o : ℕ = getD (v .bytes) 1 0 in
       let B : List ℕ = t ∷ o ∷ (p .rest ++ Z) in
-      let b : NoneBefore (rankAt id c) B = none-app (rankAt id c) (rankAt id c) (rankAt id (suc c)) (classPlaces id (some v))
+      let b : NoneBefore (rankAt id c) B =
+      none-app (rankAt id c) (rankAt id c) (rankAt id (suc c)) (classPlaces id (some v))
       (p .rest ++ Z) (omega arith) (class-between c id (some v) g (omega arith)) (λ i. omega (arith, behind i)) in
       let x = tag-seam (rankAt 0 0) (rankAt id c) (p .before) B (p .below) b in
       let y = off-seam (rankAt 0 0) (rankAt id c) (p .before) B (p .below) b in

@@ -53,7 +53,8 @@ module _ (b : List ℕ) (end : ℕ) (h : endsAt b end ≡ true) where
         let e : logTo b end ≡ log (take end b ++ []) = ap log (sym (append-nil (take end b))) in
         log-continues (take end b) [] (logTo b end) (sym e) end-some
         (log-read-within (take end b) (omega (arith, long, end-high)) end-some) y
-        ∙ ap (λ (n : ℕ). logTo b end ++ committed (walkFrom allOnes (logEndTag (logTo b end)) (drop n (take end b ++ y))))
+        ∙ ap (λ (n : ℕ). logTo b end ++ committed
+        (walkFrom allOnes (logEndTag (logTo b end)) (drop n (take end b ++ y))))
         end-is
 
     -- it is the beginning of the block's log
@@ -75,10 +76,12 @@ module _ (b : List ℕ) (end : ℕ) (h : endsAt b end ≡ true) where
 
       pub log-next : logTo b next ≡ logTo b end ++ between-ends
       log-next = ap log (sym joined) ∙ log-behind (drop end (take next b))
-          ∙ ap (λ (l : List ℕ). logTo b end ++ committed (walkFrom allOnes (logEndTag (logTo b end)) (drop end l))) joined
+          ∙ ap (λ (l : List ℕ). logTo b end ++ committed (walkFrom allOnes (logEndTag (logTo b end)) (drop end l)))
+          joined
 
       pub new-acts : newActs b end next ≡ placedFrom end between-ends
-      new-acts = ap (placedFrom end) (ap (drop (length (logTo b end))) log-next ∙ drop-append-seam (logTo b end) between-ends)
+      new-acts = ap (placedFrom end)
+          (ap (drop (length (logTo b end))) log-next ∙ drop-append-seam (logTo b end) between-ends)
 
       -- where the walk that goes on ends
       pub end-next : logEnd (logTo b next) ≡ end + span between-ends
@@ -141,7 +144,8 @@ ends-there r b es more four is whole some regular inside =
     let parts : drop 4 b ≡ a ++ drop n b = ap (drop 4) (sym (take-append-drop n b))
     ∙ drop-append-le 4 (take n b) (drop n b) (omega (arith, k)) in
     let walked : walkFrom sum allOnes (a ++ drop n b) ≡ es ++ (more ++ sp .0) =
-    ap (walkFrom sum allOnes) (sym parts) ∙ sp .1 ∙ ap (λ (l : List Event). l ++ sp .0) is ∙ append-assoc es more (sp .0) in
+    ap (walkFrom sum allOnes) (sym parts) ∙ sp .1 ∙ ap (λ (l : List Event). l ++ sp .0) is
+    ∙ append-assoc es more (sp .0) in
     let st : Stands es = stands-front es more (rw is at (log-stands b)) in
     let reg = regular-from es true 0 st (omega arith) (by-littlefs es (widest r es regular)) in
     let eight : 8 ≤ tagLength (logEndTag es) = contained-end es allOnes whole some (reg .contained) in

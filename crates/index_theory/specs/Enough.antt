@@ -85,6 +85,7 @@ acts-span (ent t d ∷ es) off = omega (arith, tagLength-ge t, acts-span es (off
 acts-span (chk t c ∷ es) off = omega (arith, tagLength-ge t, acts-span es (off + tagLength t))
 acts-span (inv ∷ es) off = omega (arith, acts-span es off)
 
-pub built-enough : (n : ℕ) (b : List ℕ) → Regular Littlefs (log b) ≡ true → span (log b) ≤ 2 * n → built n (log b) ≢ none
+pub built-enough : (n : ℕ) (b : List ℕ) → Regular Littlefs (log b) ≡ true → span (log b) ≤ 2 * n
+    → built n (log b) ≢ none
 built-enough n b regular h e = ran-enough n (placedFrom 4 (log b)) [] (omega (arith, acts-span (log b) 4))
     (sym (built-is n b regular) ∙ e)

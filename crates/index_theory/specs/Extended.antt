@@ -72,7 +72,8 @@ module _ (n : ℕ) where
       go false e h on = absurd (let z : _≡_ {A = ℕ} 0 1 = cc in omega arith)
 
 pub padded-length : (n : ℕ) (P : List ℕ) → length P ≤ n → length (padded n P) ≡ n
-padded-length n P h = length-append P (replicate (n - length P) 0) ∙ omega (arith, length-replicate {A = ℕ} (n - length P) 0)
+padded-length n P h = length-append P (replicate (n - length P) 0)
+    ∙ omega (arith, length-replicate {A = ℕ} (n - length P) 0)
 
 -- ---- what a log leaves
 pub all-fits : (l : List Act) (D : List Slot) → ActsFit l → AllFit D → AllFit (applyAll D l)
@@ -108,7 +109,8 @@ built-front n b regular k h = go (built n (log b)) refl h
     go (some P) e h =
         let q : P ≡ placesOf (log b) = built-places n (log b) P e in
         let half : k ≡ length P / 2 = cc in
-        let few : length P ≤ n = ran-fits n (placedFrom 4 (log b)) [] P (omega arith) (sym (built-is n b regular) ∙ e) in
+        let few : length P ≤ n =
+        ran-fits n (placedFrom 4 (log b)) [] P (omega arith) (sym (built-is n b regular) ∙ e) in
         let even : length P ≡ 2 * (length P / 2) = between-even (rankAt 0 0)
         (rankAt (0 + length (placedDir b regular)) 0) P (rw q (places-between b regular)) in
         (omega arith, take-at P (replicate (n - length P) 0) (2 * k) (omega arith) ∙ q)
@@ -149,7 +151,8 @@ module _ (n : ℕ) (r : Rules) (b : List ℕ) (old end : ℕ) (ho : endsAt b old
       let k : length (padded n P) ≡ n = padded-length n P few in
       let q : P ≡ placesOf es = built-places n es P h in
       let low = placed-few (take old b) regular-old in
-      let lead : leading (padded n P) ≡ P = leading-is (rankAt 0 0) (rankAt (0 + length (placedDir (take old b) regular-old)) 0)
+      let lead : leading (padded n P) ≡ P =
+      leading-is (rankAt 0 0) (rankAt (0 + length (placedDir (take old b) regular-old)) 0)
       P (n - length P) (omega arith) (rw q (places-between (take old b) regular-old)) in
       let acts : newActs b old end ≡ placedFrom old on = new-acts b old ho (omega arith) end le in
       let at : 4 + span es ≡ old = end-is b old ho in

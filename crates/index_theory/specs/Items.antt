@@ -14,7 +14,8 @@ use Rattle.format.specs.Walk.{Event, ent, chk, inv}
 use Rattle.format.specs.Log.{log, logEnd, logEndTag}
 use Rattle.format.specs.Back.{back}
 use Rattle.format.specs.Look.{dataSize, FoundIn, HitIn, wlook, maskType1, maskType3}
-use Rattle.format.specs.Regular.{Rule, ruleOf, between, ruleHolds, countAfter, growsAfter, countRaised, regularFrom, Regular}
+use Rattle.format.specs.Regular.{Rule, ruleOf, between, ruleHolds, countAfter, growsAfter, countRaised, regularFrom}
+use Rattle.format.specs.Regular.{Regular}
 use Rattle.format.specs.declared.Rules.the-variants.{Littlefs}
 use Rattle.format.specs.declared.Found.{Found}
 use Rattle.format.specs.declared.Hit.{Hit}

@@ -16,7 +16,8 @@ use Rattle.format.specs.Walk.{Event, ent, chk, inv, walkFrom, walk}
 use Rattle.format.specs.Log.{committed, log, logEnd, logEndTag}
 use Rattle.format.specs.Back.{Met, back, places}
 use Rattle.format.specs.Look.{dataSize, wlook}
-use Rattle.format.specs.Regular.{Rule, ruleOf, between, ruleHolds, countAfter, growsAfter, countRaised, regularFrom, Regular}
+use Rattle.format.specs.Regular.{Rule, ruleOf, between, ruleHolds, countAfter, growsAfter, countRaised, regularFrom}
+use Rattle.format.specs.Regular.{Regular}
 use Rattle.format.specs.declared.Rules.the-variants.{Littlefs}
 use Rattle.format.specs.declared.Found.{Found}
 use Rattle.format.specs.Directory.{Act, Slot, dir, act, empty, applyAll}
@@ -112,7 +113,8 @@ module _ (b : List ℕ) (regular : Regular Littlefs (log b) ≡ true) where
       let twice : committed es ≡ es = committed-twice (walkFrom (crc allOnes (take 4 b)) allOnes (drop 4 b)) in
       let ch = chains es (sp .0) (crc allOnes (take 4 b)) allOnes b 4 (sp .1) (whole .base .reg) in
       let bl : back b (logEnd es) (logEndTag es % 2 ^ 31) ≡ reverse (places 4 es) = back-log es b (ch .0) in
-      let ck : isCheck (logEndTag es % 2 ^ 31) ≡ true = last-check es b 4 allOnes twice (λ z. absurd (nonempty z)) (ch .0)
+      let ck : isCheck (logEndTag es % 2 ^ 31) ≡ true =
+      last-check es b 4 allOnes twice (λ z. absurd (nonempty z)) (ch .0)
       (ch .2) in
       let sh : Shapes placeAt (back b (logEnd es) (logEndTag es))
       = shapes-without-top placeAt b (logEnd es) (logEndTag es) ck
@@ -127,6 +129,7 @@ module _ (b : List ℕ) (regular : Regular Littlefs (log b) ≡ true) where
       let few : length placedDir ≤ mostSlots = placed-few in
       let small : tagOf T i s < 2 ^ 31 = of-valid T i s (q .0) (omega arith) hs in
       let key : minus32 (tagOf T i s) 0 ≡ tagOf T i s = omega arith in
-      let f = wlook-as placeAt placeOf place-alike mask T c s i q hs (omega arith) true (back b (logEnd es) (logEndTag es)) 0
+      let f =
+      wlook-as placeAt placeOf place-alike mask T c s i q hs (omega arith) true (back b (logEnd es) (logEndTag es)) 0
       i (omega arith) sh (rw ms rules) (rw ms (low .0)) (omega arith) (rw ms there) key in
       f .0 ∙ rw ms (find-dir true (reverse L) c i rules there ∙ ap (λ (D : List Slot). getD D i empty c) is)

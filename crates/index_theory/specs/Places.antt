@@ -97,7 +97,8 @@ dir-between id (s ∷ D) f h =
     (dir-between (suc id) D (f .1) (omega arith)))
 
 -- ---- parts
-pub slot-split : (m n c id : ℕ) (s : Slot) → slotPlaces (m + n) c id s ≡ slotPlaces m c id s ++ slotPlaces n (c + m) id s
+pub slot-split : (m n c id : ℕ) (s : Slot)
+    → slotPlaces (m + n) c id s ≡ slotPlaces m c id s ++ slotPlaces n (c + m) id s
 unfolding slotPlaces
 slot-split zero n c id s = rw (zero-add n, add-zero c)
 slot-split (suc m) n c id s =
@@ -136,7 +137,8 @@ dir-empty id zero = refl
 dir-empty id (suc n) = ap₂ (λ (x y : List ℕ). x ++ y) (slot-empty classes 0 id) (dir-empty (suc id) n)
 
 -- ---- ids one up, and one down
-pub shifted-app : (by low high : ℕ) (A B : List ℕ) → Between low high A → shifted by (A ++ B) ≡ shifted by A ++ shifted by B
+pub shifted-app : (by low high : ℕ) (A B : List ℕ) → Between low high A
+    → shifted by (A ++ B) ≡ shifted by A ++ shifted by B
 unfolding shifted
 shifted-app by low high [] B a = refl
 shifted-app by low high (x ∷ []) B a = absurd (omega arith)
@@ -150,7 +152,8 @@ module _ (by id id′ : ℕ) (hi : id < 2 ^ 10) (hi′ : id′ < 2 ^ 10)
   class-shift : (c : ℕ) (v : Option Load) → FitsIn c v → shifted by (classPlaces id v) ≡ classPlaces id′ v
   unfolding shifted
   class-shift c none f = refl
-  class-shift c (some v) f = ap (λ (t : ℕ). t ∷ getD (v .bytes) 1 0 ∷ []) (tags (v .type) (getD (v .bytes) 0 0) (f .type)
+  class-shift c (some v) f = ap (λ (t : ℕ). t ∷ getD (v .bytes) 1 0 ∷ [])
+      (tags (v .type) (getD (v .bytes) 0 0) (f .type)
       (f .size))
 
   pub slot-shift : (n c : ℕ) (s : Slot) → SlotFits s → shifted by (slotPlaces n c id s) ≡ slotPlaces n c id′ s

@@ -1,5 +1,5 @@
--- The table of a regular log: run from entry to entry it is what the directory machine says, and it is too small exactly
--- where after some entry more are live. Assumes nothing.
+-- The table of a regular log: run from entry to entry it is what the directory machine says, and it is too small
+-- exactly where after some entry more are live. Assumes nothing.
 use mathlib.Core.Path.{_≡_, refl, sym, ap, _∙_}
 use mathlib.Core.Logic.{_≢_}
 use mathlib.Core.Bool.{Bool, true, false, cond, _&&_}
@@ -13,7 +13,8 @@ use Rattle.format.specs.Tag.{tagType3, tagChunk, tagId, tagSize, tagDelete, tag
 use Rattle.format.specs.Kind.{isName}
 use Rattle.format.specs.Walk.{Event, ent, chk, inv}
 use Rattle.format.specs.Log.{log}
-use Rattle.format.specs.Regular.{Rule, ruleOf, between, ruleHolds, countAfter, growsAfter, countRaised, regularFrom, Regular}
+use Rattle.format.specs.Regular.{Rule, ruleOf, between, ruleHolds, countAfter, growsAfter, countRaised, regularFrom}
+use Rattle.format.specs.Regular.{Regular}
 use Rattle.format.specs.declared.Rules.the-variants.{Littlefs}
 use Rattle.format.specs.Directory.{classes, seatClass, Slot, Act, mk, rm, put, skip, isStruct, isAttr, act, loadOf}
 use Rattle.format.specs.Directory.{apply, applyAll}
@@ -72,7 +73,8 @@ module _ (off t : ℕ) (some-type : 0 < tagType3 t) where
       go false false false f h = none-put (eqb (tagType3 t) 0x401) (eqb (tagType3 t) 0x4ff)
 
 -- no type is 0 in a regular log
-some-rule : (R : Rule) (c t : ℕ) → R ≡ ruleOf true (tagType3 t) → ruleHolds R c (tagId t) (tagSize t) ≡ true → tagType3 t ≢ 0
+some-rule : (R : Rule) (c t : ℕ) → R ≡ ruleOf true (tagType3 t) → ruleHolds R c (tagId t) (tagSize t) ≡ true
+    → tagType3 t ≢ 0
 unfolding ruleOf ruleHolds
 some-rule R c t e h z =
     let w : R ≡ ruleOf true 0 = e ∙ ap (ruleOf true) z in
@@ -112,7 +114,8 @@ placing (chk t x ∷ es) off g c st low h =
 placing (inv ∷ es) off g c st low h = absurd st
 
 -- ---- the machine beside the table
-pub ran-on : (n : ℕ) (l : List Act) (g : Bool) (D : List Slot) → Placing g (length D) l → AllFit D → length D ≤ mostSlots
+pub ran-on : (n : ℕ) (l : List Act) (g : Bool) (D : List Slot) → Placing g (length D) l → AllFit D
+    → length D ≤ mostSlots
     → ranOn n (dirPlaces 0 D) l ≡ cond (fitFrom n D l) (some (dirPlaces 0 (applyAll D l))) none
 unfolding ranOn fitFrom applyAll
 ran-on n [] g D p f few = refl
@@ -133,7 +136,9 @@ ran-on n (a ∷ l) g D p f few =
     go false ih = refl
 
 -- a build from nothing
-pub built-is : (n : ℕ) (b : List ℕ) → Regular Littlefs (log b) ≡ true → built n (log b) ≡ ranOn n [] (placedFrom 4 (log b))
+pub built-is : (n : ℕ) (b : List ℕ) → Regular Littlefs (log b) ≡ true
+    → built n (log b) ≡ ranOn n [] (placedFrom 4 (log b))
 unfolding built dirPlaces Regular
-built-is n b h = sym (ran-on n (placedFrom 4 (log b)) true [] (placing (log b) 4 true 0 (log-stands b) (omega arith) h) tt
+built-is n b h = sym (ran-on n (placedFrom 4 (log b)) true []
+    (placing (log b) 4 true 0 (log-stands b) (omega arith) h) tt
     (omega arith))

@@ -19,7 +19,8 @@ use Rattle.format.specs.Index.{oneDown, slotMade, slotRemoved, placesAfter}
 use Rattle.format.proofs.Slots.{length-reaching, getD-reaching}
 use Rattle.theory.specs.Directory.Machine.{mostSlots, Allowed}
 use Rattle.index_theory.specs.Ordered.{Between, between-app, between-wider, between-even, NoneBefore, none-app}
-use Rattle.index_theory.specs.Ordered.{none-before, seek-from, seek-is, take-seam, drop-seam, not-at-seam, at-seam}
+use Rattle.index_theory.specs.Ordered.{none-before, seek-from, seek-is, take-seam, drop-seam, not-at-seam}
+use Rattle.index_theory.specs.Ordered.{at-seam}
 use Rattle.index_theory.specs.Places.{FitsIn, SlotFits, AllFit, rank-of, class-between, slot-between}
 use Rattle.index_theory.specs.Places.{dir-between, slot-split}
 use Rattle.index_theory.specs.Places.{slot-same, dir-app, dir-empty, slot-empty, dir-up, dir-down}
@@ -180,7 +181,8 @@ module _ (D : List Slot) (f : AllFit D) (few : length D ≤ mostSlots) (j : ℕ)
     low-front : Between (rankAt 0 0) (rankAt (suc j) 0) (A ++ M)
     low-front = between-app (rankAt 0 0) (rankAt (suc j) 0) A M
         (between-wider (rankAt 0 0) (rankAt j 0) (rankAt 0 0) (rankAt (suc j) 0) A (omega arith) (omega arith) front)
-        (between-wider (rankAt j 0) (rankAt (suc j) 0) (rankAt 0 0) (rankAt (suc j) 0) M (omega arith) (omega arith) own)
+        (between-wider (rankAt j 0) (rankAt (suc j) 0) (rankAt 0 0) (rankAt (suc j) 0) M (omega arith)
+        (omega arith) own)
 
     last : NoneBefore (rankAt (suc j) 0) B
     last = none-before (rankAt (suc j) 0) (rankAt (suc j) 0) high B (omega arith) (omega arith) others
@@ -201,7 +203,8 @@ module _ (D : List Slot) (f : AllFit D) (few : length D ≤ mostSlots) (j : ℕ)
     unfolding B E
     removed =
         let evenA : 2 * (length A / 2) ≡ length A = sym (between-even (rankAt 0 0) (rankAt j 0) A front) in
-        let evenM : 2 * (length (A ++ M) / 2) ≡ length (A ++ M) = sym (between-even (rankAt 0 0) (rankAt (suc j) 0) (A ++ M)
+        let evenM : 2 * (length (A ++ M) / 2) ≡ length (A ++ M) =
+        sym (between-even (rankAt 0 0) (rankAt (suc j) 0) (A ++ M)
         low-front) in
         rw (begins, ends)
         (ap₂ (λ (x y : List ℕ). x ++ shifted oneDown y)
@@ -253,7 +256,8 @@ module _ (D : List Slot) (f : AllFit D) (few : length D ≤ mostSlots) (j : ℕ)
       above =
           let Z : List ℕ = slotPlaces (classes - suc c) (suc c) j s in
           between-app (suc (rankAt j c)) high Z B
-          (between-wider (rankAt j (suc c)) (rankAt j (suc c + (classes - suc c))) (suc (rankAt j c)) high Z (omega arith)
+          (between-wider (rankAt j (suc c)) (rankAt j (suc c + (classes - suc c))) (suc (rankAt j c)) high Z
+          (omega arith)
           (omega arith) (slot-between (classes - suc c) (suc c) j s (fit-at D j f) (omega arith)))
           (between-wider (rankAt (suc j) 0) high (suc (rankAt j c)) high B (omega arith) (omega arith) others)
 
@@ -277,7 +281,8 @@ module _ (D : List Slot) (f : AllFit D) (few : length D ≤ mostSlots) (j : ℕ)
           let x = side-before (rankAt 0 0) j c before rest m (fit-at D j f c) (omega arith) below up in
           let y = side-behind (rankAt 0 0) j c before rest m (fit-at D j f c) (omega arith) below up in
           ap (λ (P : List ℕ). placesAfter P (put j c v)) now-there ∙ go v x y
-          ∙ sym (whole (upd s c v) (λ k n. rw (ne-eqb k c n)) ∙ ap (λ (z : Option Load). before ++ (classPlaces j z ++ rest))
+          ∙ sym (whole (upd s c v) (λ k n. rw (ne-eqb k c n))
+          ∙ ap (λ (z : Option Load). before ++ (classPlaces j z ++ rest))
           own)
         where
           P : List ℕ
@@ -288,7 +293,8 @@ module _ (D : List Slot) (f : AllFit D) (few : length D ≤ mostSlots) (j : ℕ)
               (2 * seek (rankAt j c) P)) P ≡ rest
               → placesAfter P (put j c v) ≡ before ++ (classPlaces j v ++ rest)
           go none x y = ap₂ (λ (a b : List ℕ). a ++ b) x y
-          go (some v) x y = ap₂ (λ (a b : List ℕ). a ++ tagOf (v .type) j (getD (v .bytes) 0 0) ∷ getD (v .bytes) 1 0 ∷ b)
+          go (some v) x y = ap₂
+              (λ (a b : List ℕ). a ++ tagOf (v .type) j (getD (v .bytes) 0 0) ∷ getD (v .bytes) 1 0 ∷ b)
               x y
 
 -- ---- an entry
@@ -307,7 +313,8 @@ module _ (j : ℕ) (D : List Slot) (f : AllFit D) where
   reaching-same : dirPlaces 0 (reaching j D) ≡ dirPlaces 0 D
   unfolding reaching
   reaching-same = dir-app 0 D (replicate (suc j - length D) empty)
-      ∙ ap (λ (y : List ℕ). dirPlaces 0 D ++ y) (dir-empty (0 + length D) (suc j - length D)) ∙ append-nil (dirPlaces 0 D)
+      ∙ ap (λ (y : List ℕ). dirPlaces 0 D ++ y) (dir-empty (0 + length D) (suc j - length D))
+      ∙ append-nil (dirPlaces 0 D)
 
   there : j < length (reaching j D)
   there = omega (arith, length-reaching j D)

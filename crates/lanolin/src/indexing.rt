@@ -1,5 +1,5 @@
-// An index in memory for C callers: built, extended, and asked. Each export hands its numbers, slices and records to the
-// call of the same name.
+// An index in memory for C callers: built, extended, and asked. Each export hands its numbers, slices and records to
+// the call of the same name.
 ghost use mathlib.Core.Path.{_≡_};
 ghost use Rattle.format.specs.Index.{indexOf, indexTable, extendOf, extendTable, indexGetOf, indexGetBuffer};
 ghost use Rattle.lanolin_answers.specs.Values.{gotOut, indexedOut};

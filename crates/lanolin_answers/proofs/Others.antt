@@ -29,7 +29,8 @@ unread seed Coincidence h = (refl, refl)
 unread seed TableFull h = (refl, refl)
 
 -- all but BadEntry and NotErased: no index
-pub unindexed : (r : Refusal) → OneOf (0 ∷ 1 ∷ 2 ∷ 3 ∷ 5 ∷ 6 ∷ 7 ∷ 8 ∷ 10 ∷ 11 ∷ []) (tagOf the-type r) → 0 ≡ refusalIndex r
+pub unindexed : (r : Refusal) → OneOf (0 ∷ 1 ∷ 2 ∷ 3 ∷ 5 ∷ 6 ∷ 7 ∷ 8 ∷ 10 ∷ 11 ∷ []) (tagOf the-type r)
+    → 0 ≡ refusalIndex r
 unindexed Invalid h = refl
 unindexed Corrupt h = refl
 unindexed NoEntry h = refl

@@ -104,7 +104,8 @@ module _ (b : List ℕ) (end : ℕ) (ends : endsAt b end ≡ true) (inside : end
       let q = both-true (ltb type (2 ^ 11)) (leb id noSlot) (p .0) in
       let f : List ℕ = take end b in
       table-answers n (placedDir f regular) (placed-fit f regular) (placed-few f regular) id
-      (omega (arith, placed-count f regular)) (seatClass (type * 2 ^ 20)) (ltb-true (seatClass (type * 2 ^ 20)) classes (p .1))
+      (omega (arith, placed-count f regular)) (seatClass (type * 2 ^ 20))
+      (ltb-true (seatClass (type * 2 ^ 20)) classes (p .1))
       type (ltb-true type (2 ^ 11) (q .0)) refl
 
   -- what a type asks for, by its class
@@ -122,7 +123,8 @@ module _ (b : List ℕ) (end : ℕ) (ends : endsAt b end ≡ true) (inside : end
     where
       go : (n s a : Bool) → tagChunk (type * 2 ^ 20) ≡ type % 2 ^ 8
           → cond n 0 (cond s 1 (cond a (2 + tagChunk (type * 2 ^ 20)) classes)) < classes
-          → wlook (hasIds (askMask (cond n (machine.name id) (cond s (machine.struct id) (machine.attribute id (type % 2 ^ 8))))))
+          → wlook (hasIds (askMask
+          (cond n (machine.name id) (cond s (machine.struct id) (machine.attribute id (type % 2 ^ 8))))))
           (askMask (cond n (machine.name id) (cond s (machine.struct id) (machine.attribute id (type % 2 ^ 8)))))
           (askKey (cond n (machine.name id) (cond s (machine.struct id) (machine.attribute id (type % 2 ^ 8)))) size) 0
           (back b end (logEndTag (logTo b end)))
@@ -141,7 +143,8 @@ cond-else false a b c h n = absurd (n h)
 pub record Built (g : Geometry) (b0 b1 : List ℕ) (n0 n1 : ℕ) (dir : LfsMdir) (rules n : ℕ) : Type 0 where
   pub fits : indexFits g b0 b1 n0 n1 dir rules ≡ true
   pub regular : indexable (rulesOf rules) (blockOf b0 b1 n0 dir) (dir .off) ≡ true
-  pub all : built n (logTo (blockOf b0 b1 n0 dir) (dir .off)) ≡ some (placesOf (logTo (blockOf b0 b1 n0 dir) (dir .off)))
+  pub all : built n (logTo (blockOf b0 b1 n0 dir) (dir .off))
+      ≡ some (placesOf (logTo (blockOf b0 b1 n0 dir) (dir .off)))
 
 module _ (g : Geometry) (b0 b1 : List ℕ) (n0 n1 : ℕ) (dir : LfsMdir) (rules : ℕ) (table : List ℕ) where
   pub places-built : (k : ℕ) → indexOf g b0 b1 n0 n1 dir rules table ≡ indexed.Places k
@@ -191,7 +194,8 @@ index-answers g b0 b1 n0 n1 dir rules table k gdisk type id size buffer accepted
     let y = asked-is b end (e .0) inside wide type id size asked small low in
     let z = sym (ap (λ (t : ℕ). wlook (hasIds (askMask (asksFor type id))) (askMask (asksFor type id))
     (askKey (asksFor type id) size) 0 (back b end t)) tag ∙ y) in
-    rw (table-built g b0 b1 n0 n1 dir rules table u, x, z, still, and-false (hasIds (askMask (asksFor type id)))) (refl, refl)
+    rw (table-built g b0 b1 n0 n1 dir rules table u, x, z, still, and-false (hasIds (askMask (asksFor type id))))
+    (refl, refl)
 
 -- No build has more places than 1,023 slots of 258 classes.
 pub index-few : (g : Geometry) (b0 b1 : List ℕ) (n0 n1 : ℕ) (dir : LfsMdir) (rules : ℕ) (table : List ℕ) (k : ℕ)
@@ -261,7 +265,8 @@ index-fetched g b0 b1 n0 n1 count seed rules dir read f regular =
     let ends : dir .off ≡ logEnd (log b) = rw same (a .ends) in
     let some′ : log b ≢ [] = rw same (a .some) in
     let wide = widest (rulesOf rules) (log b) regular in
-    let inside : logEnd (log b) ≤ length b = log-inside b (log b) refl (regular-log b (log b) refl wide .base .reg) four in
+    let inside : logEnd (log b) ≤ length b =
+    log-inside b (log b) refl (regular-log b (log b) refl wide .base .reg) four in
     let whole : logTo b (dir .off) ≡ log b = ap (logTo b) ends ∙ ends-there (rulesOf rules) b (log b) [] four
     (sym (append-nil (log b))) (log-whole b) some′ regular inside in
     let high : 4 < dir .off = omega (arith, ends, some-long (log b) (log-whole b) some′) in (
@@ -305,10 +310,20 @@ index-extends g b0 b1 n0 n1 old dir rules table k accepted one later fits regula
     let all : built n (logTo b (old .off)) ≡ some P = rw same at (u .all) in
     let t : indexTable g b0 b1 n0 n1 old rules table ≡ padded n P =
     table-built g b0 b1 n0 n1 old rules table u ∙ ap (λ (x : List ℕ). padded n (placesOf (logTo x (old .off)))) same in
-    let len : length (padded n P) ≡ n = padded-length n P (built-fits n (rulesOf rules) b (old .off) (dir .off) ends regular
+    let len : length (padded n P) ≡ n =
+    padded-length n P (built-fits n (rulesOf rules) b (old .off) (dir .off) ends regular
     later inside P all) in
     let fresh = extend-afresh n (rulesOf rules) b (old .off) (dir .off) ends regular later inside P all in
-    rw (t, fits, f .0, eq-eqb (old .pair .n0) (dir .pair .n0) one, le-leb (old .off) (dir .off) later, ends, regular, fresh) (
+    rw (
+      t,
+      fits,
+      f .0,
+      eq-eqb (old .pair .n0) (dir .pair .n0) one,
+      le-leb (old .off) (dir .off) later,
+      ends,
+      regular,
+      fresh,
+    ) (
       refl,
       ap (λ (m : ℕ). tableAs m (built n (logTo b (dir .off)))) len
           ∙ sym (table-at g b0 b1 n0 n1 dir rules table fits regular),
@@ -323,11 +338,13 @@ boundary-begins b end h inside = log-begins b end h inside
 -- And each regular beginning of the block's log that ends in a commit is the log up to its end.
 pub boundary-there : (r : Rules) (b : List ℕ) (es more : List Event) → 4 ≤ length b → log b ≡ es ++ more
     → committed es ≡ es → es ≢ [] → Regular r es ≡ true → logEnd es ≤ length b → logTo b (logEnd es) ≡ es
-boundary-there r b es more four is whole filled regular inside = ends-there r b es more four is whole filled regular inside
+boundary-there r b es more four is whole filled regular inside =
+    ends-there r b es more four is whole filled regular inside
 
 -- ---- "-221 exactly when after SOME entry of the log more are live than the table has places": all fit exactly if they
 -- do behind each entry
-pub fit-each : (n : ℕ) (l : List Act) (D : List Slot) → fitFrom n D l ≡ true → (front : List Act) (a : Act) (rest : List Act)
+pub fit-each : (n : ℕ) (l : List Act) (D : List Slot) → fitFrom n D l ≡ true
+    → (front : List Act) (a : Act) (rest : List Act)
     → l ≡ front ++ a ∷ rest → length (dirPlaces 0 (applyAll D (front ++ a ∷ []))) ≤ n
 unfolding fitFrom applyAll
 fit-each n [] D h [] a rest e = absurd (let z : _≡_ {A = ℕ} 0 1 = cc in omega arith)

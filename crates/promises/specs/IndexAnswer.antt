@@ -1,6 +1,6 @@
 -- Demands 1 and 2, of the index's calls: what a refusal leaves in the table or the buffer, that each contract decides,
--- which refusals each call gives, and that what C gets determines the answer. Demand 1 is amended here: "-221 .. and the
--- table is then all zero", and a compaction with a table has used it where it is refused by -28 or -204. Assumes
+-- which refusals each call gives, and that what C gets determines the answer. Demand 1 is amended here: "-221 .. and
+-- the table is then all zero", and a compaction with a table has used it where it is refused by -28 or -204. Assumes
 -- nothing.
 use mathlib.Core.Path.{_≡_, refl, ap}
 use mathlib.Core.Logic.{_⊎_, inl, inr}
@@ -52,7 +52,8 @@ abbrev pub Left : List ℕ → Refusal → List ℕ → Type 0
 Left table r new = ((r ≡ TableFull) × (new ≡ replicate (length table) 0)) ⊎ (new ≡ table)
 
 left-by : (x y : Bool) (v : Option (List ℕ)) (table : List ℕ) (r : Refusal)
-    → cond (not x) (indexed.Refused Invalid) (cond (not y) (indexed.Refused Irregular) (indexedAs v)) ≡ indexed.Refused r
+    → cond (not x) (indexed.Refused Invalid) (cond (not y) (indexed.Refused Irregular) (indexedAs v))
+    ≡ indexed.Refused r
     → Left table r (cond (not x) table (cond (not y) table (tableAs (length table) v)))
 left-by false y v table r h = inr refl
 left-by true false v table r h = inr refl

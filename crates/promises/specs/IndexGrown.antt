@@ -61,7 +61,8 @@ module _ (g : Geometry) (b0 b1 : List ℕ) (n0 n1 count seed rules e : ℕ) (ent
   front =
       let k : ℕ = knownTo old in
       sym (take-take (old .off) k (blockOf (i .b0) (i .b1) n0 old) (omega arith))
-      ∙ ap (take (old .off)) (commit-front g b0 b1 n0 n1 count seed rules e entries dat n old s before second is size accepts)
+      ∙ ap (take (old .off)) (commit-front g b0 b1 n0 n1 count seed rules e entries dat n old s before second is size
+      accepts)
       ∙ take-take (old .off) k (blockOf b0 b1 n0 old) (omega arith)
 
   module _ (behind : fetchOf g (i .b0) (i .b1) n0 n1 count seed ≡ fetched.Found dir t) where
@@ -134,11 +135,12 @@ module _ (g : Geometry) (b0 b1 : List ℕ) (n0 n1 count seed rules e : ℕ) (ent
           rw (← same .1) (index-extends g (i .b0) (i .b1) n0 n1 old dir rules table k (same .0 ∙ made)
           (ap (λ (p : LfsPair). p .n0) (goes-on .0)) (goes-on .1) (rw (fit .0, ruled) refl) (fit .1))
 
--- BEHIND A COMMIT, an accepted one, after any number n of its stores, all of them or none: a build by the same rule left
--- a table for the record from before; extended to the record that fetch gives now, answer and table are those of a build
--- for it. So is -221.
+-- BEHIND A COMMIT, an accepted one, after any number n of its stores, all of them or none. A build by the same rule
+-- left a table for the record from before. Extended to the record that fetch gives now, it is the table of a build for
+-- that record, with the same answer, -221 too.
 pub index-behind-commit : (g : Geometry) (b0 b1 : List ℕ) (n0 n1 count seed rules e : ℕ) (entries : List Entry)
-    (dat : List ℕ) (n : ℕ) (second : Bool) (is : List Item) (size : ℕ) (old dir : LfsMdir) (s t : ℕ) (table : List ℕ) (k : ℕ)
+    (dat : List ℕ) (n : ℕ) (second : Bool) (is : List Item) (size : ℕ) (old dir : LfsMdir) (s t : ℕ)
+    (table : List ℕ) (k : ℕ)
     → verdictOf g b0 b1 n0 n1 count seed rules e entries dat ≡ accepted second is size
     → fetchOf g b0 b1 n0 n1 count seed ≡ fetched.Found old s
     → indexOf g b0 b1 n0 n1 old rules table ≡ indexed.Places k

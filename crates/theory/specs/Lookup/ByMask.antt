@@ -182,7 +182,8 @@ module _ (at : Met → List ℕ) (of : Found → List ℕ) (alike : Alike at of)
 
   pub wlook-as : (g : Bool) (ms : List Met) (d i : ℕ) → d < 2 ^ 32 → Shapes at ms → AllAllowed g (map (seenAs at) ms)
       → FewBack (map (seenAs at) ms) → i < mostSlots → Inside g i (map (seenAs at) ms) → minus32 key d ≡ tagOf T i s
-      → (holdsAs of (wlook true mask key d ms) ≡ find c i (map (seenAs at) ms)) × Answers asked (wlook true mask key d ms)
+      → (holdsAs of (wlook true mask key d ms) ≡ find c i (map (seenAs at) ms))
+      × Answers asked (wlook true mask key d ms)
   unfolding splicedAt wlook holdsAs find dir apply hitAct
   wlook-as g [] d i hd sh r lo i-low hi e = (refl, tt)
   wlook-as g (m ∷ ms) d i hd sh r lo i-low hi e =

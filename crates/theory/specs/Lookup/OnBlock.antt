@@ -93,9 +93,8 @@ abbrev pub FewFrom : ℕ → List Act → Type 0
 FewFrom n [] = Unit {0}
 FewFrom n (a ∷ l) = (slotsAfter n a ≤ mostSlots) × FewFrom (slotsAfter n a) l
 
-pub few-rev : (g : Bool) (l r : List Act) → AllowedFrom (stillGrows g r) (length (dir r)) l → FewFrom (length (dir r)) l →
-    length (dir r) ≤ mostSlots
-    → FewBack r → FewBack (reverseAux l r) × (length (dir (reverseAux l r)) ≤ mostSlots)
+pub few-rev : (g : Bool) (l r : List Act) → AllowedFrom (stillGrows g r) (length (dir r)) l → FewFrom (length (dir r)) l
+    → length (dir r) ≤ mostSlots → FewBack r → FewBack (reverseAux l r) × (length (dir (reverseAux l r)) ≤ mostSlots)
 unfolding dir
 few-rev g [] r f h n k = (k, n)
 few-rev g (a ∷ l) r f h n k =
@@ -150,7 +149,8 @@ block-lookup b es mask T c s i h nonempty r q hs hi =
     = shapes-without-top (bytesAt b) b (logEnd es) (logEndTag es) ck
     (rw bl (shapes-rev (bytesAt b) (places 4 es) [] (shapes-places es b 4 (ch .2) (r .eight) (r .shapes)) tt)) in
     let ms : map (seen b) (back b (logEnd es) (logEndTag es)) ≡ reverse (acts es)
-    = back-without-top (bytesAt b) (bytes-topless b) b (logEnd es) (logEndTag es) ∙ ap (map (seen b)) bl ∙ map-reverseAux (seen b) (places 4 es) []
+    = back-without-top (bytesAt b) (bytes-topless b) b (logEnd es) (logEndTag es) ∙ ap (map (seen b)) bl
+    ∙ map-reverseAux (seen b) (places 4 es) []
     ∙ ap reverse (seen-places es b 4 (ch .2) (r .eight)) in
     let few : length (dirOf es) ≤ mostSlots = r .few in
     let there : Inside true i (reverse (acts es)) = inl hi in

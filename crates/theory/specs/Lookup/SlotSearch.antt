@@ -31,7 +31,8 @@ back-acts b es h reg eight =
     let sp = committed-split (walkFrom (crc allOnes (take 4 b)) allOnes (drop 4 b)) in
     let ch = chains es (sp .0) (crc allOnes (take 4 b)) allOnes b 4 (rw h at (sp .1)) reg in
     let bl : back b (logEnd es) (logEndTag es % 2 ^ 31) ≡ reverse (places 4 es) = back-log es b (ch .0) in
-    back-without-top (bytesAt b) (bytes-topless b) b (logEnd es) (logEndTag es) ∙ ap (map (seen b)) bl ∙ map-reverseAux (seen b) (places 4 es) []
+    back-without-top (bytesAt b) (bytes-topless b) b (logEnd es) (logEndTag es) ∙ ap (map (seen b)) bl
+    ∙ map-reverseAux (seen b) (places 4 es) []
     ∙ ap reverse (seen-places es b 4 (ch .2) eight)
 
 -- the log ends inside the block
