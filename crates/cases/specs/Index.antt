@@ -15,7 +15,7 @@ use Rattle.format.specs.Walk.{Event, ent, chk, readBehind, classOf, bodyLength,
 use Rattle.format.specs.Log.{committed, log, eventLength, span}
 use Rattle.format.specs.Record.{noTail, noForward}
 use Rattle.format.specs.Fetch.{geometryFits, pairFits}
-use Rattle.format.specs.Lookup.{recordFits}
+use Rattle.format.specs.Lookup.{recordFits, getsliceFits}
 use Rattle.format.specs.Regular.{ruleOf, ruleHolds, countAfter, growsAfter, countRaised, regularFrom, Regular}
 use Rattle.format.specs.Directory.{empty, upd, reaching, apply, applyAll, act, seatClass}
 use Rattle.format.specs.Index.{placedAct, placedFrom, slotPlaces, dirPlaces, placesOf, fitFrom, indexedAs, tableAs}
@@ -330,7 +330,7 @@ found tag length off = got.Found (record { tag = tag; length = length; off = off
 pub got-by-type : (map (λ type. get told type 0) (0x000 ∷ 0x001 ∷ 0x0ff ∷ []) ≡ replicate 3 (found 0x0010_0004 8 0x0c))
     × (map (λ type. get told type 0) (0x200 ∷ 0x201 ∷ 0x2ff ∷ []) ≡ replicate 3 (found 0x2010_0003 7 0x14))
     × (get told 0x374 0 ≡ found 0x3740_0004 8 0x1b)
-unfolding indexGetOf indexHit halving rankOf seatClass recordFits pairFits geometryFits tagLength
+unfolding indexGetOf getsliceFits indexHit halving rankOf seatClass recordFits pairFits geometryFits tagLength
 got-by-type = (refl, refl, refl)
 
 -- "any other type, and an id that the table has not (above 1,023 too), finds nothing: -2". Of 2^11 on a type is another
@@ -339,7 +339,7 @@ pub got-nothing : (map (λ type. get told type 0) (0x100 ∷ 0x300 ∷ 0x373 ∷
     ≡ replicate 8 (got.Refused NoEntry))
     × (map (λ id. get told 0x001 id) (1 ∷ 1_023 ∷ 1_024 ∷ 2_048 ∷ []) ≡ replicate 4 (got.Refused NoEntry))
     × (get [] 0x001 0 ≡ got.Refused NoEntry) × (get (0 ∷ 0 ∷ 0 ∷ []) 0x000 0 ≡ got.Refused NoEntry)
-unfolding indexGetOf indexHit halving rankOf seatClass recordFits pairFits geometryFits tagLength
+unfolding indexGetOf getsliceFits indexHit halving rankOf seatClass recordFits pairFits geometryFits tagLength
 got-nothing = (refl, refl, refl, refl)
 
 -- the deadline's four bytes, and the rest zeroed; a buffer of three; where nothing is found it stays
@@ -348,7 +348,7 @@ buffer n type = indexGetBuffer geometry listing (blank 128) 0 1 listed told type
 
 pub buffers : (buffer 6 0x374 ≡ 0x90 ∷ 0x5f ∷ 0x01 ∷ 0x00 ∷ 0 ∷ 0 ∷ []) × (buffer 3 0x2ff ≡ 0x61 ∷ 0x62 ∷ 0x63 ∷ [])
     × (buffer 6 0x375 ≡ nines 6)
-unfolding indexGetBuffer indexHit halving rankOf seatClass recordFits pairFits geometryFits tagLength
+unfolding indexGetBuffer getsliceFits indexHit halving rankOf seatClass recordFits pairFits geometryFits tagLength
 buffers = (refl, refl, refl)
 
 -- -22: an end past the block, other numbers, "a buffer above 65,536 bytes"
@@ -357,7 +357,7 @@ got-into dir n = indexGetOf geometry listing (blank 128) 0 1 dir told 0x001 0 (n
 
 pub got-refused : (got-into (upTo 129) 4 ≡ got.Refused Invalid) × (got-into elsewhere 4 ≡ got.Refused Invalid)
     × (got-into listed 65_537 ≡ got.Refused Invalid)
-unfolding indexGetOf indexHit halving rankOf seatClass recordFits pairFits geometryFits tagLength
+unfolding indexGetOf getsliceFits indexHit halving rankOf seatClass recordFits pairFits geometryFits tagLength
 got-refused = (refl, refl, refl)
 
 -- "A table that no build made": four bytes at 125 pass a block of 128, three do not; at 129 none are read, and yet that
@@ -371,7 +371,7 @@ pub foreign-got : (map (first-of 0x0010_0004 125 0x001 0) (4 ∷ 3 ∷ []) ≡ g
     × (first-of 0x3740_03ff 128 0x374 0 6 ≡ found 0x3740_03ff 4 128)
     × (first-of 0x001f_fc01 1 0x001 1_023 6 ≡ found 0x001f_fc01 5 1)
     × (first-of 0x001f_fc01 1 0x001 2_047 6 ≡ got.Refused NoEntry)
-unfolding indexGetOf indexHit halving rankOf seatClass recordFits pairFits geometryFits tagLength
+unfolding indexGetOf getsliceFits indexHit halving rankOf seatClass recordFits pairFits geometryFits tagLength
 foreign-got = (refl, refl, refl, refl, refl)
 
 -- An attribute, the name, the struct, which is no order of places. The halving looks at the name first: the struct
@@ -381,5 +381,5 @@ unsorted = 0x3740_0004 ∷ 27 ∷ 0x0010_0004 ∷ 12 ∷ 0x2010_0003 ∷ 20 ∷ 
 
 pub unsorted-got : map (λ type. get unsorted type 0) (0x001 ∷ 0x201 ∷ 0x374 ∷ [])
     ≡ got.Refused NoEntry ∷ found 0x2010_0003 7 20 ∷ got.Refused NoEntry ∷ []
-unfolding indexGetOf indexHit halving rankOf seatClass recordFits pairFits geometryFits tagLength
+unfolding indexGetOf getsliceFits indexHit halving rankOf seatClass recordFits pairFits geometryFits tagLength
 unsorted-got = refl

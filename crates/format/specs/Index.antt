@@ -14,7 +14,7 @@ use Rattle.format.specs.Kind.{noSlot}
 use Rattle.format.specs.Walk.{Event, ent, chk, inv}
 use Rattle.format.specs.Log.{log, logEnd}
 use Rattle.format.specs.Fetch.{fetchOf}
-use Rattle.format.specs.Lookup.{recordFits, blockOf, sliceAnswer, sliceBuffer, longestBuffer}
+use Rattle.format.specs.Lookup.{recordFits, blockOf, sliceAnswer, sliceBuffer, getsliceFits}
 use Rattle.format.specs.Regular.{Regular, rulesFit, rulesOf}
 use Rattle.format.specs.Directory.{classes, seatClass, Load, Slot, Act, mk, rm, put, skip, act, apply, applyAll}
 use Rattle.format.specs.Writer.{blockAt, isSecond, writesFit}
@@ -169,21 +169,17 @@ indexHit table type id =
     let r : ℕ = rankAt id (seatClass (type * 2 ^ 20)) in
     cond (askable type id && isAt r table (seek r table)) (placeHit table (seek r table)) hit.Nothing
 
--- "A buffer above 65,536 bytes is -22"
-abbrev pub indexGetFits : Geometry → List ℕ → List ℕ → ℕ → ℕ → LfsMdir → List ℕ → Bool
-indexGetFits g b0 b1 n0 n1 dir buffer = recordFits g (length b0) (length b1) n0 n1 dir
-    && leb (length buffer) longestBuffer
-
--- "what it says is checked against the block (an offset past it is -84), and nothing else is asked of it"
+-- -22 as a lookup. "what it says is checked against the block (an offset past it is -84), and nothing else is asked of
+-- it"
 unfoldable pub indexGetOf : Geometry → List ℕ → List ℕ → ℕ → ℕ → LfsMdir → List ℕ → ℕ → ℕ → List ℕ → Got
 indexGetOf g b0 b1 n0 n1 dir table type id buffer =
-    cond (indexGetFits g b0 b1 n0 n1 dir buffer)
+    cond (getsliceFits g b0 b1 n0 n1 dir buffer)
     (sliceAnswer (blockOf b0 b1 n0 dir) 0 (length buffer) (indexHit table type id))
     (got.Refused Invalid)
 
 unfoldable pub indexGetBuffer : Geometry → List ℕ → List ℕ → ℕ → ℕ → LfsMdir → List ℕ → ℕ → ℕ → List ℕ → List ℕ
 indexGetBuffer g b0 b1 n0 n1 dir table type id buffer =
-    cond (indexGetFits g b0 b1 n0 n1 dir buffer)
+    cond (getsliceFits g b0 b1 n0 n1 dir buffer)
     (sliceBuffer (blockOf b0 b1 n0 dir) 0 buffer (indexHit table type id))
     buffer
 

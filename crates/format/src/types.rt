@@ -60,6 +60,11 @@ pub const REMOVAL: u32 = 0x3ff;
 // the most bytes that an entry holds
 pub const LFS_ATTR_MAX: u32 = 1_022;
 
+// ---- bounds
+
+// "Lookup buffer .. at most 65,536 bytes"
+pub const LONGEST_BUFFER: usize = 65_536;
+
 // ---- words
 
 // the number of no block

@@ -8,7 +8,7 @@ use native.Mathlib.Omega.{arith}
 use lib.ListN.{length}
 use lib.Dec.{eqb, leb}
 use borrow.Author.Tests.{leb-true, not-true, not-false}
-use Rattle.format.specs.Lookup.{recordFits, blockOf, sliceAnswer, sliceBuffer}
+use Rattle.format.specs.Lookup.{recordFits, blockOf, sliceAnswer, sliceBuffer, getsliceFits}
 use Rattle.format.specs.Index.{indexHit, indexOf, indexTable, extendOf, extendTable, indexGetOf, indexGetBuffer}
 use Rattle.format.specs.declared.Geometry.{Geometry}
 use Rattle.format.specs.declared.LfsMdir.{LfsMdir}
@@ -101,13 +101,13 @@ module _ (g : Geometry) (b0 b1 : List ℕ) (n0 n1 : ℕ) (dir : LfsMdir) (T : Li
   GetDone r l = (r ≡ indexGetOf g b0 b1 n0 n1 dir T kind id d) × (l ≡ indexGetBuffer g b0 b1 n0 n1 dir T kind id d)
 
   pub get-refused : not get-test ≡ true → GetDone (got.Refused Invalid) d
-  unfolding indexGetOf indexGetBuffer
+  unfolding indexGetOf indexGetBuffer getsliceFits
   get-refused h = let f = not-true get-test h in (sym (rw (← e, f)), sym (rw (← e, f)))
 
   -- b is the block that is read
   pub get-read : not get-test ≡ false → (b : List ℕ) → b ≡ blockOf b0 b1 n0 dir → (r : Got) (l : List ℕ)
       → r ≡ sliceAnswer b 0 (length d) (indexHit T kind id) → l ≡ sliceBuffer b 0 d (indexHit T kind id) → GetDone r l
-  unfolding indexGetOf indexGetBuffer
+  unfolding indexGetOf indexGetBuffer getsliceFits
   get-read h b eb r l er el = let f = not-false get-test h in
       (er ∙ sym (rw (← e, f, ← eb)), el ∙ sym (rw (← e, f, ← eb)))
 

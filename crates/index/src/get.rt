@@ -7,11 +7,9 @@ use format::Got;
 use format::Hit;
 use format::LfsMdir;
 use format::Refusal;
+use format::types::LONGEST_BUFFER;
 use format::types::NO_SLOT;
 use format::types::TYPE3_MASK;
-
-// Document 01's bound of a lookup buffer.
-const LONGEST_BUFFER: usize = 65536;
 
 // What a table says: "any 0x0xx asks the name, any 0x2xx the struct, 0x300 to 0x3ff that attribute; any other type, and
 // an id that the table has not (above 1,023 too), finds nothing".

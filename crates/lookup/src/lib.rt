@@ -11,13 +11,11 @@ use format::Informed;
 use format::LfsGstate;
 use format::LfsMdir;
 use format::Refusal;
+use format::types::LONGEST_BUFFER;
 use format::types::NO_SLOT;
 
 mod info;
 mod moved;
-
-// Document 01's bound of a lookup buffer.
-const LONGEST_BUFFER: usize = 65536;
 
 // Per lfs.c lfs_dir_getslice: the entry's bytes from an offset on, and zeros in the rest of the buffer.
 pub fn lfs_dir_getslice(

@@ -22,7 +22,7 @@ use Rattle.format.specs.Pair.{pairSync}
 use Rattle.format.specs.Fetch.{pairFits, fetchOf}
 use Rattle.format.specs.Back.{back}
 use Rattle.format.specs.Look.{maskType1, maskType3, HitIn, wlook}
-use Rattle.format.specs.Lookup.{recordFits, blockOf, hasIds, searched, getsliceFits, getsliceOf, getsliceBuffer}
+use Rattle.format.specs.Lookup.{recordFits, blockOf, hasIds, searched, getsliceOf, getsliceBuffer}
 use Rattle.format.specs.Machine.{Ask, askMask, askKey}
 use Rattle.format.specs.Machine as machine
 use Rattle.format.specs.Writer.{blockAt}
@@ -181,7 +181,7 @@ pub index-answers : (g : Geometry) (b0 b1 : List ℕ) (n0 n1 : ℕ) (dir : LfsMd
     ≡ getsliceOf g b0 b1 n0 n1 dir gdisk (askMask (asksFor type id)) (askKey (asksFor type id) size) 0 buffer)
     × (indexGetBuffer g b0 b1 n0 n1 dir (indexTable g b0 b1 n0 n1 dir rules table) type id buffer
     ≡ getsliceBuffer g b0 b1 n0 n1 dir gdisk (askMask (asksFor type id)) (askKey (asksFor type id) size) 0 buffer)
-unfolding indexGetOf indexGetBuffer getsliceOf getsliceBuffer getsliceFits searched
+unfolding indexGetOf indexGetBuffer getsliceOf getsliceBuffer searched
 index-answers g b0 b1 n0 n1 dir rules table k gdisk type id size buffer accepted tag still asked low small =
     let b : List ℕ = blockOf b0 b1 n0 dir in
     let end : ℕ = dir .off in
