@@ -78,7 +78,7 @@ const GETINFO: u32 = 3;
 
 const GETGSTATE: u32 = 4;
 
-#[derive(Drop)]
+#[derive(Clone, Copy)]
 struct Tally {
     fetches: u32,
     slices: u32,

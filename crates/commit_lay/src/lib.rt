@@ -9,14 +9,14 @@ ghost use Rattle.commit_lay.specs.Laid.{laid, put_of, puts_of, Part, body_of, in
 use format::types::REMOVAL;
 
 // Where the next store goes, and how many may still be made.
-#[derive(Drop)]
+#[derive(Clone, Copy)]
 pub struct Run {
     pub at: usize,
     pub left: u32,
 }
 
 // Where the data of an entry begin and end in the buffer.
-#[derive(Drop)]
+#[derive(Clone, Copy)]
 pub struct Span {
     pub from: usize,
     pub to: usize,

@@ -8,7 +8,7 @@ use format::Rules;
 use format::types::*;
 
 // Which rule a type falls under.
-#[derive(Drop)]
+#[derive(Clone, Copy)]
 pub enum Rule {
     Create,
     Delete,
@@ -23,7 +23,7 @@ pub enum Rule {
 }
 
 // The count behind an entry that passes its rule, or that it doesn't pass.
-#[derive(Drop)]
+#[derive(Clone, Copy)]
 pub enum Ruled {
     Bad,
     To(u32),

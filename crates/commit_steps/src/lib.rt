@@ -25,7 +25,7 @@ const MOST_ENTRIES: usize = 8_192;
 
 // What fetch found: the old record, and the seed behind it. The commit is laid at its end, and the answer goes on
 // there.
-#[derive(Drop)]
+#[derive(Clone, Copy)]
 pub struct Old {
     pub dir: LfsMdir,
     pub seed: u32,
@@ -33,7 +33,7 @@ pub struct Old {
 
 // The first pass: the index of the next entry, the count there, the bytes so far, and the tag and the checksum behind
 // them.
-#[derive(Drop)]
+#[derive(Clone, Copy)]
 pub struct Judging {
     pub old: Old,
     pub index: u32,
@@ -45,7 +45,7 @@ pub struct Judging {
 
 // The second pass: the next store, the tag before it, the forward check that is carried behind the entries, or none,
 // and the check that comes last: its tag as it is stored, and the checksum.
-#[derive(Drop)]
+#[derive(Clone, Copy)]
 pub struct Laying {
     pub old: Old,
     pub run: Run,
@@ -55,7 +55,7 @@ pub struct Laying {
     pub sum: u32,
 }
 
-#[derive(Drop)]
+#[derive(Clone, Copy)]
 pub enum Phase {
     Refused(Refusal),
     Judge(Judging),
@@ -63,7 +63,7 @@ pub enum Phase {
 }
 
 // Whether the second block answers, and is written to.
-#[derive(Drop)]
+#[derive(Clone, Copy)]
 pub struct State {
     pub second: bool,
     pub phase: Phase,

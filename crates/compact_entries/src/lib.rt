@@ -24,7 +24,7 @@ use format::types::*;
 use format::{Found, Hit, LfsFcrc, LfsMdir, LfsPair};
 
 // Where the writing stands: the stores, the end of what is written, the previous tag and the checksum.
-#[derive(Drop)]
+#[derive(Clone, Copy)]
 pub struct Emit {
     pub run: Run,
     pub end: usize,
@@ -33,7 +33,7 @@ pub struct Emit {
 }
 
 // A slot that was written from places: where the writing stands, and the first word behind them.
-#[derive(Drop)]
+#[derive(Clone, Copy)]
 struct Part {
     emit: Emit,
     at: usize,

@@ -10,7 +10,7 @@ ghost use Rattle.fetch_walk.specs.Next.{start_of, next_of, tag_seen, check_seen,
 use format::types::*;
 
 // Where the walk stands: the next tag's place, the tag before it, and the checksum so far.
-#[derive(Drop)]
+#[derive(Clone, Copy)]
 pub struct Cursor {
     pub at: usize,
     pub prev: u32,
@@ -18,7 +18,7 @@ pub struct Cursor {
 }
 
 // What stands at a cursor, with the cursor behind it.
-#[derive(Drop)]
+#[derive(Clone, Copy)]
 pub enum Seen {
     // an entry: its tag
     Entry(u32, Cursor),

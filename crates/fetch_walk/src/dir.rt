@@ -9,7 +9,7 @@ ghost use Rattle.fetch_walk.specs.Dir.{empty_dir, named, spliced, tailed, forwar
 use format::types::*;
 use format::{LfsFcrc, LfsPair};
 
-#[derive(Drop)]
+#[derive(Clone, Copy)]
 pub struct DirState {
     pub count: u16,
     pub split: bool,

@@ -16,7 +16,7 @@ use dir::DirState;
 use format::types::{CRC_START, FIRST_PREV};
 
 // What the last commit took: "count, tail, split, end and end tag", and the seed. An end of 4: there is no commit.
-#[derive(Drop)]
+#[derive(Clone, Copy)]
 pub struct Taken {
     pub dir: DirState,
     pub off: usize,
@@ -25,7 +25,7 @@ pub struct Taken {
 }
 
 // The state of the walk: what the entries say so far, and what the last commit took.
-#[derive(Drop)]
+#[derive(Clone, Copy)]
 pub struct WalkState {
     pub dir: DirState,
     pub taken: Taken,
@@ -82,7 +82,7 @@ fn crc_word(seed: u32, sum: u32) -> u32
 }
 
 // What a walk leaves; straight: it stopped on an invalid tag straight after a commit.
-#[derive(Drop)]
+#[derive(Clone, Copy)]
 pub struct Walked {
     pub taken: Taken,
     pub straight: bool,

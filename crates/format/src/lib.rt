@@ -6,7 +6,7 @@ pub mod types;
 
 // "Block size 128 to 32,768; program size 4 to 512; block size a multiple of it." Any two numbers may be asked about.
 #[repr(C)]
-#[derive(Drop)]
+#[derive(Clone, Copy)]
 pub struct Geometry {
     pub block_size: u32,
     pub prog_size: u32,
@@ -14,7 +14,7 @@ pub struct Geometry {
 
 // Two block numbers: the Rust's `[lfs_block_t; 2]`. A struct, since an answer that is an enum can hold no array.
 #[repr(C)]
-#[derive(Drop)]
+#[derive(Clone, Copy)]
 pub struct LfsPair {
     pub n0: u32,
     pub n1: u32,
@@ -23,7 +23,7 @@ pub struct LfsPair {
 // A forward check (the Rust's `LfsFcrc`): whether there is one, of how many bytes behind the log's end, and their
 // checksum. All 0 where there is none. In C the record has them as its last three fields.
 #[repr(C)]
-#[derive(Drop)]
+#[derive(Clone, Copy)]
 pub struct LfsFcrc {
     pub seen: bool,
     pub size: u32,
@@ -34,7 +34,7 @@ pub struct LfsFcrc {
 // committed log ends and the tag there, the number of slots, whether the room behind passed its forward check (which
 // does not say that it is empty), the tail (hard where `split`), and the last forward check that is committed.
 #[repr(C)]
-#[derive(Drop)]
+#[derive(Clone, Copy)]
 pub struct LfsMdir {
     pub pair: LfsPair,
     pub rev: u32,
@@ -49,7 +49,7 @@ pub struct LfsMdir {
 
 // The global state: a tag and a pair.
 #[repr(C)]
-#[derive(Drop)]
+#[derive(Clone, Copy)]
 pub struct LfsGstate {
     pub tag: u32,
     pub pair: LfsPair,
@@ -57,7 +57,7 @@ pub struct LfsGstate {
 
 // What is shown of an entry: its type, its size, and its name, zeros behind it. A stored name of more than 255 bytes,
 // read with 255 as the longest, fills all 256: it has no zero behind it.
-#[derive(Drop)]
+#[derive(Clone, Copy)]
 pub struct LfsInfo {
     pub kind: u8,
     pub size: u32,
@@ -66,7 +66,7 @@ pub struct LfsInfo {
 
 // One entry of a commit: "type, id, data offset, length".
 #[repr(C)]
-#[derive(Drop)]
+#[derive(Clone, Copy)]
 pub struct Entry {
     pub kind: u16,
     pub id: u16,
@@ -76,7 +76,7 @@ pub struct Entry {
 
 // Which logs are regular: by document 01's rule alone, or by littlefs's too. littlefs's own compaction writes no
 // creates: there the names alone make the slots.
-#[derive(Drop)]
+#[derive(Clone, Copy)]
 pub enum Rules {
     Document,
     Littlefs,
@@ -84,7 +84,7 @@ pub enum Rules {
 
 // Document 01's table of refusals: one case for each line of it, with what comes back; in the place of its -203 stand
 // the three reasons of document 02, L1; and L8's and L9's.
-#[derive(Drop)]
+#[derive(Clone, Copy)]
 pub enum Refusal {
     // -22: a size or number is broken
     Invalid,
@@ -117,7 +117,7 @@ pub enum Refusal {
 }
 
 // The room behind a log's end: a commit can be appended there, or why none can.
-#[derive(Drop)]
+#[derive(Clone, Copy)]
 pub enum Room {
     Clean,
     Refused(Refusal),
@@ -126,7 +126,7 @@ pub enum Room {
 // An entry that was found: its tag with the difference added, so with the id that it has now; its stored length, "4
 // plus size" (a removal is never found); and the offset in the block of its first data byte.
 #[repr(C)]
-#[derive(Drop)]
+#[derive(Clone, Copy)]
 pub struct Found {
     pub tag: u32,
     pub length: u32,
@@ -134,63 +134,63 @@ pub struct Found {
 }
 
 // What a search comes to.
-#[derive(Drop)]
+#[derive(Clone, Copy)]
 pub enum Hit {
     Found(Found),
     Nothing,
 }
 
 // A word: read from four bytes, or brought to a multiple.
-#[derive(Drop)]
+#[derive(Clone, Copy)]
 pub enum Word {
     Is(u32),
     Refused(Refusal),
 }
 
 // What was lent is altered.
-#[derive(Drop)]
+#[derive(Clone, Copy)]
 pub enum Altered {
     Done,
     Refused(Refusal),
 }
 
 // Fetch: the record and the seed.
-#[derive(Drop)]
+#[derive(Clone, Copy)]
 pub enum Fetched {
     Found(LfsMdir, u32),
     Refused(Refusal),
 }
 
 // Lookup: the entry.
-#[derive(Drop)]
+#[derive(Clone, Copy)]
 pub enum Got {
     Found(Found),
     Refused(Refusal),
 }
 
 // An entry's info, all zero on a refusal. A struct with the answer beside the info, since an enum can hold no array.
-#[derive(Drop)]
+#[derive(Clone, Copy)]
 pub struct Informed {
     pub answer: Altered,
     pub info: LfsInfo,
 }
 
 // Commit and compaction: the record and the seed that fetch gives on the finished pair.
-#[derive(Drop)]
+#[derive(Clone, Copy)]
 pub enum Committed {
     Done(LfsMdir, u32),
     Refused(Refusal),
 }
 
 // The same with a limit of n stores: the number of stores made.
-#[derive(Drop)]
+#[derive(Clone, Copy)]
 pub enum Stored {
     Made(u32),
     Refused(Refusal),
 }
 
 // Find: the lowest id whose slot has the name that was asked for, or that there is none.
-#[derive(Drop)]
+#[derive(Clone, Copy)]
 pub enum Named {
     At(u32),
     Nothing,
@@ -198,7 +198,7 @@ pub enum Named {
 }
 
 // An index: how many places of the table are in use.
-#[derive(Drop)]
+#[derive(Clone, Copy)]
 pub enum Indexed {
     Places(usize),
     Refused(Refusal),
@@ -206,7 +206,7 @@ pub enum Indexed {
 
 // A text in a lent buffer: whether it came to its end, and the length of all that came about, for which the buffer may
 // have had no room.
-#[derive(Drop)]
+#[derive(Clone, Copy)]
 pub struct Written {
     pub answer: Altered,
     pub length: u32,

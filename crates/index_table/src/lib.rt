@@ -8,7 +8,7 @@ ghost use Rattle.format.specs.Index.{place_cleared, is_at};
 ghost use Rattle.index_table.specs.Held.{InUse, Holds, Keeps, Goes};
 
 // A table with an entry more: so many places are in use, or there is no room for it.
-#[derive(Drop)]
+#[derive(Clone, Copy)]
 pub enum Placed {
     To(usize),
     Full,

@@ -13,7 +13,7 @@ use format::{
 
 // A result and the value that comes with it, 0 on a refusal.
 #[repr(C)]
-#[derive(Drop)]
+#[derive(Clone, Copy)]
 pub struct Value {
     pub result: i32,
     pub value: u32,
@@ -22,7 +22,7 @@ pub struct Value {
 // What lanolin_getslice and lanolin_get answer: C has the entry's three words right behind the result. All 0 on a
 // refusal.
 #[repr(C)]
-#[derive(Drop)]
+#[derive(Clone, Copy)]
 pub struct GotOut {
     pub result: i32,
     pub found: Found,
@@ -30,7 +30,7 @@ pub struct GotOut {
 
 // What lanolin_fetch answers.
 #[repr(C)]
-#[derive(Drop)]
+#[derive(Clone, Copy)]
 pub struct FetchedOut {
     pub result: i32,
     pub dir: LfsMdir,
@@ -39,7 +39,7 @@ pub struct FetchedOut {
 
 // What lanolin_getinfo answers.
 #[repr(C)]
-#[derive(Drop)]
+#[derive(Clone, Copy)]
 pub struct InfoOut {
     pub result: i32,
     pub kind: u8,
@@ -50,7 +50,7 @@ pub struct InfoOut {
 // What lanolin_commit and lanolin_compact answer. `index` is that of -201's entry, the block offset of -213's byte,
 // else 0.
 #[repr(C)]
-#[derive(Drop)]
+#[derive(Clone, Copy)]
 pub struct CommittedOut {
     pub result: i32,
     pub index: u32,
@@ -60,7 +60,7 @@ pub struct CommittedOut {
 
 // What the same calls with a limit answer.
 #[repr(C)]
-#[derive(Drop)]
+#[derive(Clone, Copy)]
 pub struct StoredOut {
     pub result: i32,
     pub index: u32,
@@ -69,7 +69,7 @@ pub struct StoredOut {
 
 // What lanolin_find answers: whether a slot has the name, and the lowest id that has. None: 0, false, 0.
 #[repr(C)]
-#[derive(Drop)]
+#[derive(Clone, Copy)]
 pub struct NamedOut {
     pub result: i32,
     pub found: bool,
@@ -78,7 +78,7 @@ pub struct NamedOut {
 
 // What lanolin_index and lanolin_index_extend answer: the places in use, 0 on a refusal.
 #[repr(C)]
-#[derive(Drop)]
+#[derive(Clone, Copy)]
 pub struct IndexedOut {
     pub result: i32,
     pub places: u32,
@@ -86,7 +86,7 @@ pub struct IndexedOut {
 
 // What lanolin_tree answers: the length of the whole text, beside a refusal too.
 #[repr(C)]
-#[derive(Drop)]
+#[derive(Clone, Copy)]
 pub struct TextOut {
     pub result: i32,
     pub length: u32,

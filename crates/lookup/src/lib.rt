@@ -114,7 +114,7 @@ pub fn lfs_dir_getinfo(
 }
 
 // A global state and an answer: what lfs_dir_getgstate leaves, by value.
-#[derive(Drop)]
+#[derive(Clone, Copy)]
 pub struct GotGstate {
     pub answer: Altered,
     pub gstate: LfsGstate,

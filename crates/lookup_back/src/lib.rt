@@ -5,7 +5,7 @@ ghost use Rattle.std.specs.Prelude.{◌≡◌, ◌+◌, ◌≤◌, length};
 ghost use Rattle.lookup_back.specs.Step.{Placed, tag_before};
 
 // Where a tag stands; over: the walk has met all tags.
-#[derive(Drop)]
+#[derive(Clone, Copy)]
 pub enum Back {
     At(usize),
     Over,

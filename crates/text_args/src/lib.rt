@@ -7,7 +7,7 @@ use format::LfsPair;
 use text_input::{INPUT_PAIR, INPUT_PROG_SIZE, INPUT_RULES};
 
 // A word in decimal, or a text that is none.
-#[derive(Drop)]
+#[derive(Clone, Copy)]
 pub enum Decimal {
     Is(u32),
     Not,
@@ -15,7 +15,7 @@ pub enum Decimal {
 
 // The program size and the block numbers of the pair to be shown, and the rule by which its log must be regular; or
 // arguments that are not understood.
-#[derive(Drop)]
+#[derive(Clone, Copy)]
 pub enum Request {
     As(u32, LfsPair, u32),
     Unclear,

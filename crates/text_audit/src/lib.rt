@@ -24,7 +24,7 @@ const DEADLINE: usize = 2 + 0x74;
 
 // How far the audit is: the length of the text so far, and how many instructions lack a deadline and how many a
 // payload.
-#[derive(Drop)]
+#[derive(Clone, Copy)]
 pub struct Audit {
     pub at: u32,
     pub no_deadline: u32,

@@ -17,7 +17,7 @@ use format::types::*;
 use format::{Fetched, Found, Geometry, Hit, LfsMdir, LfsPair, Refusal};
 
 // A pair that was opened: its block that answers, where the log ends, how many slots it has, and its tail.
-#[derive(Drop)]
+#[derive(Clone, Copy)]
 pub struct Dir {
     pub block: u32,
     pub end: u32,
@@ -27,7 +27,7 @@ pub struct Dir {
     pub tail: LfsPair,
 }
 
-#[derive(Drop)]
+#[derive(Clone, Copy)]
 pub enum Opening {
     At(Dir),
     Refused(Refusal),
@@ -35,7 +35,7 @@ pub enum Opening {
 
 // The entry of a slot: its name, and a file's size or the pair that a directory begins at. Nothing where
 // `lfs_dir_getinfo` answers -2.
-#[derive(Drop)]
+#[derive(Clone, Copy)]
 pub enum Entry {
     File(Found, u32),
     Dir(Found, LfsPair),

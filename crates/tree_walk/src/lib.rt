@@ -18,7 +18,7 @@ const DEEPEST: u32 = 32;
 const MOST_PAIRS: u32 = 4_096;
 
 // What a walk comes to: whether it went to its end, what is left of the allowance, and the length of the text so far.
-#[derive(Drop)]
+#[derive(Clone, Copy)]
 pub struct Walked {
     pub answer: Altered,
     pub left: u32,
