@@ -1,0 +1,13 @@
+-- `commit_lay::body` meets its contract: none for a removal, and else what there is of it. Assumes nothing.
+use Rattle.commit_lay.proofs.Parts.{removal_part, data_part}
+use borrow.Author.Rules.{rules}
+use Rattle.commit_lay.proofs.body.Goals as goal
+
+pub returns-then-len-eq-REMOVAL : goal.returns-then-len-eq-REMOVAL
+returns-then-len-eq-REMOVAL c = removal_part c.args.dat.now c.args.off
+    c.args.len c.if-len-eq-REMOVAL.true
+
+pub returns : goal.returns
+returns c = data_part c.args.dat.now
+    c.args.off c.args.len _ _
+    c.least-from.ensures c.least-size.ensures c.if-len-eq-REMOVAL.false

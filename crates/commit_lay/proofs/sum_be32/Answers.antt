@@ -1,0 +1,6 @@
+-- `commit_lay::sum_be32` meets its contract: the array is the word's bytes. Assumes nothing.
+use borrow.Author.Rules.{rules}
+use Rattle.commit_lay.proofs.sum_be32.Goals as goal
+
+pub returns : goal.returns
+returns c = cc

@@ -1,0 +1,55 @@
+-- `commit_steps::begin` meets its contract: the sizes, fetch's own refusals, and the block that answers. Assumes
+-- nothing.
+use Rattle.std.proofs.Common.{sym, ◌∙◌, rules}
+use Rattle.commit_regular.proofs.Found.{ends_first, ends_second}
+use Rattle.commit_steps.proofs.Begins.{begins_broken, begins_refused, begins_first, begins_second}
+use Rattle.commit_steps.proofs.begin.Goals as goal
+
+pub returns-then-not-fits : goal.returns-then-not-fits
+returns-then-not-fits c =
+    let fits = c.before.before in
+    let a = fits.args in
+    begins_broken a.g a.b0.now a.b1.now a.n0 a.n1 a.block-count a.seed a.rules a.erased
+    a.entries a.dat.now _ _ fits.pair_fits.ensures fits.writes_fit.ensures _
+    c.if-not-fits.true
+    c.refused.ensures
+
+pub start-requires : goal.start-requires
+start-requires c = ends_first _ _ _ _ _ _ _ _ _ (sym c.m-1.given.1
+    ∙ c.lfs_dir_fetch.ensures) c.if-m-n0.true
+
+pub start-requires-else-m-n0 : goal.start-requires-else-m-n0
+start-requires-else-m-n0 c = ends_second _ _ _ _ _ _ _ _ _ (sym c.m-1.given.1
+    ∙ c.lfs_dir_fetch.ensures) c.if-m-n0.false
+
+pub returns-in-Refused : goal.returns-in-Refused
+returns-in-Refused c =
+    let fits = c.before.before.before.before.before.before in
+    let a = fits.args in
+    begins_refused a.g a.b0.now a.b1.now a.n0 a.n1 a.block-count a.seed a.rules a.erased
+    a.entries a.dat.now _ _ fits.pair_fits.ensures fits.writes_fit.ensures
+    c.if-not-fits.false _ _
+    (sym c.lfs_dir_fetch.ensures ∙ c.r-1.given.1)
+    c.refused-in-Refused.ensures
+
+pub returns-then-m-n0 : goal.returns-then-m-n0
+returns-then-m-n0 c =
+    let fits = c.before.before.before.before.before.before.before.before in
+    let a = fits.args in
+    begins_first a.g a.b0.now a.b1.now a.n0 a.n1 a.block-count a.seed a.rules a.erased
+    a.entries a.dat.now _ _ fits.pair_fits.ensures fits.writes_fit.ensures
+    c.if-not-fits.false _ _
+    (sym c.lfs_dir_fetch.ensures
+    ∙ c.m-1.given.1) _ c.if-m-n0.true
+    c.start.ensures
+
+pub returns-else-m-n0 : goal.returns-else-m-n0
+returns-else-m-n0 c =
+    let fits = c.before.before.before.before.before.before.before.before in
+    let a = fits.args in
+    begins_second a.g a.b0.now a.b1.now a.n0 a.n1 a.block-count a.seed a.rules a.erased
+    a.entries a.dat.now _ _ fits.pair_fits.ensures fits.writes_fit.ensures
+    c.if-not-fits.false _ _
+    (sym c.lfs_dir_fetch.ensures
+    ∙ c.m-1.given.1) _ c.if-m-n0.false
+    c.start-else-m-n0.ensures

@@ -1,0 +1,9 @@
+-- `commit_steps::sum_up` meets its contract: what the calls answer, field by field. Assumes nothing.
+use Rattle.commit_steps.proofs.Entered.{summed}
+use Rattle.std.proofs.Common.{rules}
+use Rattle.commit_steps.proofs.sum_up.Goals as goal
+
+pub returns : goal.returns
+returns c = summed _ _ _ _ _ _ _ _ c.wrapping_add_u32.ensures
+    c.lfs_tag_dsize.ensures c.wrapping_add_u32-2.ensures
+    c.sum_entry.ensures

@@ -1,0 +1,45 @@
+-- `compact::lfs_dir_compact_with` meets its contract: the same with all stores, and then what fetch gives. Assumes
+-- nothing.
+use mathlib.Core.Path.{sym, ◌∙◌}
+use native.Mathlib.Omega.{arith}
+use Rattle.format.specs.declared.Fetched.TheVariants.{Found, Refused}
+use Rattle.compact.proofs.Called.{answered_refused, answered_made}
+use borrow.Author.Rules.{rules}
+use Rattle.compact.proofs.lfs_dir_compact_with.Goals as goal
+
+pub returns-in-Refused : goal.returns-in-Refused
+returns-in-Refused c =
+    let stored = c.run.ensures in let all = answered_refused _ _ _ _ _ _ _ _ _ _ _ _ _ (λ i. omega (
+      arith,
+      c.slice_known-1.given i,
+    ))
+    (λ i. omega (
+      arith,
+      c.slice_known-2-1.given i,
+    )) stored.1 _ (sym c.r-1.given.1 ∙ stored.0) in record { value = all.0; compact_leaves = all.1.0; table_after = all.1.1 }
+
+pub returns-in-Found : goal.returns-in-Found
+returns-in-Found c =
+    let stored = c.run.ensures in let all = answered_made _ _ _ _ _ _ _ _ _ _ _ _ _ (λ i. omega (
+      arith,
+      c.slice_known-1.given i,
+    ))
+    (λ i. omega (
+      arith,
+      c.slice_known-2-1.given i,
+    )) stored.1
+    _ (sym c.enum_told-1.given.1 ∙ stored.0)
+    (Found _ _) (sym c.dir-1.given.1 ∙ c.lfs_dir_fetch.ensures) in record { value = all.0; compact_leaves = all.1.0; table_after = all.1.1 }
+
+pub returns-in-Refused-lfs_dir_fetch : goal.returns-in-Refused-lfs_dir_fetch
+returns-in-Refused-lfs_dir_fetch c =
+    let stored = c.run.ensures in let all = answered_made _ _ _ _ _ _ _ _ _ _ _ _ _ (λ i. omega (
+      arith,
+      c.slice_known-1.given i,
+    ))
+    (λ i. omega (
+      arith,
+      c.slice_known-2-1.given i,
+    )) stored.1
+    _ (sym c.enum_told-1.given.1 ∙ stored.0)
+    (Refused _) (sym c.r-in-Refused-lfs_dir_fetch-1.given.1 ∙ c.lfs_dir_fetch.ensures) in record { value = all.0; compact_leaves = all.1.0; table_after = all.1.1 }

@@ -1,0 +1,10 @@
+-- `compact_block::erase` meets its contract. The loop keeps that the first i bytes are erased. Assumes nothing.
+use Rattle.std.proofs.Common.{◌≡◌, ◌-◌, ◌≤◌, length, refl, arith}
+use Rattle.compact_block.proofs.Erasing.{erased_to, erase_one, erase_length, erase_all}
+use Rattle.compact_block.proofs.erase.Given as goal
+
+abbrev pub invariant-loop-i : goal.invariant-loop-i
+invariant-loop-i l = (l.i ≤ length l.byte) × (l.b ≡ erased_to l.initial.b l.i l.byte)
+
+abbrev pub decreases-loop-i : goal.decreases-loop-i
+decreases-loop-i l = length l.byte - l.i

@@ -1,0 +1,17 @@
+-- `compact_entries::found_entry` meets its contract: nothing, or one entry. Assumes nothing.
+use Rattle.format.proofs.Searched.{hit_in}
+use borrow.Author.Rules.{rules}
+use Rattle.compact_entries.proofs.Written.{hit_missing, hit_made}
+use Rattle.compact_entries.proofs.found_entry.Goals as goal
+
+pub overflow_sub-f : goal.overflow_sub-f
+overflow_sub-f c = (hit_in _ _ c.requires.1
+    c.h-1.given.1).counted
+
+pub returns-in-Nothing : goal.returns-in-Nothing
+returns-in-Nothing c = hit_missing _ _ _ c.enum_told-1.given.1
+
+pub returns-in-Found : goal.returns-in-Found
+returns-in-Found c = hit_made _ _ _ _ c.h-1.given.1
+    c.requires.1 _
+    c.entry.ensures

@@ -1,0 +1,18 @@
+-- `compact_entries::placed_slot` meets its contract. The loop keeps where the slot's places end, from here
+-- (`Placing`); the words that are left fall. Assumes nothing.
+use mathlib.Core.Path.{◌≡◌, refl}
+use Prim.Native.Nat.{◌-◌}
+use native.Mathlib.Omega.{arith}
+use lib.ListN.{length}
+use Rattle.compact_entries.specs.Emitted.{standing}
+use Rattle.compact_entries.proofs.Placed.{Placing, starts, place_small, places_end, places_other, place_inside}
+use Rattle.compact_entries.proofs.Placed.{place_next}
+use borrow.Author.Rules.{rules}
+use Rattle.compact_entries.proofs.placed_slot.Given as goal
+
+abbrev pub invariant-loop-at : goal.invariant-loop-at
+invariant-loop-at l =
+    (length l.new ≡ length l.id) × Placing l.old l.places l.from l.initial.new (standing l.initial.w l.id) (standing l.w l.new) l.at
+
+abbrev pub decreases-loop-at : goal.decreases-loop-at
+decreases-loop-at l = length l.from - l.at

@@ -1,0 +1,19 @@
+-- `compact_entries::placed_slots` meets its contract. The loop keeps where all slots end, from here, and that the
+-- places
+-- of the slots to come stand from `at` on (`Passing`); the slots that are left fall. Assumes nothing.
+use mathlib.Core.Path.{◌≡◌, refl}
+use Prim.Native.Nat.{◌+◌, ◌-◌, ◌*◌, ◌≤◌}
+use native.Mathlib.Omega.{arith}
+use lib.ListN.{length}
+use Rattle.compact_entries.specs.Emitted.{standing}
+use Rattle.compact_entries.proofs.Placed.{Passing, passes, all_passed, slot_placed, slot_end, slot_passed}
+use borrow.Author.Rules.{rules}
+use Rattle.compact_entries.proofs.placed_slots.Given as goal
+
+abbrev pub invariant-loop-id : goal.invariant-loop-id
+invariant-loop-id l =
+    (l.id ≤ l.places) × (l.w.end ≤ 16 + l.id * 265_734) × (length l.new ≡ length l.count)
+    × Passing l.old l.initial.new (standing l.initial.w l.count) (standing l.w l.new) l.id l.at
+
+abbrev pub decreases-loop-id : goal.decreases-loop-id
+decreases-loop-id l = l.places - l.id

@@ -1,0 +1,23 @@
+-- `compact_entries::slot` meets its contract. The loop keeps where all classes end, from here; the classes that are
+-- left fall. Assumes nothing.
+use mathlib.Core.Path.{◌≡◌, refl, sym, ◌∙◌}
+use Prim.Native.Nat.{◌+◌, ◌-◌, ◌*◌, ◌^◌, ◌≤◌}
+use native.Mathlib.Omega.{arith}
+use lib.ListN.{length}
+use Rattle.format.specs.Directory.{classes}
+use Rattle.format.specs.Compaction.{slot_items}
+use Rattle.compact_slot.specs.Slots.{slot_in}
+use Rattle.compact_entries.specs.Emitted.{standing, emits}
+use Rattle.compact_entries.proofs.Joined.{entry_within, class_within}
+use Rattle.compact_entries.proofs.Written.{seat_laid, slot_created, slot_class, slot_done}
+use borrow.Author.Rules.{rules}
+use Rattle.compact_entries.proofs.slot.Given as goal
+
+abbrev pub invariant-loop-class : goal.invariant-loop-class
+invariant-loop-class l =
+    (l.class ≤ classes) × (l.w.end ≤ 2 ^ 31 + 1_026 * (l.class + 1)) × (length l.new ≡ length l.id)
+    × (emits (standing l.initial.w l.id) (slot_items classes 0 l.seats (slot_in l.old l.initial.new)) ≡ emits (standing l.w l.new)
+    (slot_items (classes - l.class) l.class l.seats (slot_in l.old l.initial.new)))
+
+abbrev pub decreases-loop-class : goal.decreases-loop-class
+decreases-loop-class l = classes - l.class

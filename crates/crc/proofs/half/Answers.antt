@@ -1,0 +1,15 @@
+-- `crc::half` meets its contract: the word of the low four bits, by the table's rule, and `Linear.steps` for the
+-- others. Assumes nothing.
+use mathlib.Core.Path.{sym, ap, ◌∙◌}
+use Prim.Native.Nat.{◌/◌, ◌%◌, ◌^◌}
+use native.Mathlib.Omega.{arith}
+use lib.Bits.{bit_xor}
+use borrow.Author.Rules.{rules}
+use Rattle.format.proofs.Linear.{steps}
+use Rattle.crc.proofs.half.Goals as goal
+
+pub returns : goal.returns
+returns c =
+    let start = c.before in
+    let sum = start.args.sum in
+    ap (bit_xor (sum / 2 ^ 4)) (start.requires.word (sum % 16) (omega arith)) ∙ sym (steps 4 sum)

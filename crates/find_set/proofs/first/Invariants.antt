@@ -1,0 +1,17 @@
+-- `find_set::first` meets its contract. The words before the loop's are zero; the measure is what is left of them.
+-- Assumes nothing.
+use mathlib.Core.Path.{◌≡◌}
+use Prim.Native.Nat.{ℕ, ◌-◌, ◌<◌, ◌≤◌}
+use native.Mathlib.Omega.{arith}
+use borrow.Author.Count.{below_none, below_more}
+use lib.Count.{trailing_le}
+use lib.ListN.{get_or}
+use Rattle.find_set.proofs.Least.{lowest_none, lowest_found}
+use borrow.Author.Rules.{rules}
+use Rattle.find_set.proofs.first.Given as goal
+
+abbrev pub invariant-loop-i : goal.invariant-loop-i
+invariant-loop-i l = (l.i ≤ 32) × ((j : ℕ) → j < l.i → get_or l.words j 0 ≡ 0)
+
+abbrev pub decreases-loop-i : goal.decreases-loop-i
+decreases-loop-i l = 32 - l.i

@@ -1,0 +1,19 @@
+-- `index_pass::run_on` meets its contract. The loop keeps the entries that are still to come, run on the places that
+-- stand in the table (`Going`); what is left of the block falls. Assumes nothing.
+use mathlib.Core.Path.{◌≡◌, refl, sym}
+use Prim.Native.Nat.{◌-◌, ◌*◌}
+use native.Mathlib.Omega.{arith}
+use lib.ListN.{length, take}
+use Rattle.index_pass.specs.Run.{Onwards}
+use Rattle.index_pass.proofs.Turn.{Going, starts_going, ends_there, word_inside, used_inside, tag_small, tag_inside}
+use Rattle.index_pass.proofs.Turn.{check_goes, entry_goes, entry_full}
+use borrow.Author.Rules.{rules}
+use Rattle.index_pass.proofs.run_on.Given as goal
+
+abbrev pub invariant-loop-at : goal.invariant-loop-at
+invariant-loop-at l =
+    (length l.table ≡ length l.used)
+    × ((k : Onwards l.b l.from l.prev l.end) → Going l.b l.from l.prev l.end k l.used (take (2 * l.initial.table) l.used) l.table l.n l.at l.last)
+
+abbrev pub decreases-loop-at : goal.decreases-loop-at
+decreases-loop-at l = l.end - l.at

@@ -1,0 +1,10 @@
+-- `index_table::clear` meets its contract. The loop keeps what is still to be zero. Assumes nothing.
+use Rattle.std.proofs.Common.{◌-◌, length, arith}
+use Rattle.index_table.proofs.Moves.{Doing, to_clear, starts, clear_turn, clear_end}
+use Rattle.index_table.proofs.clear.Given as goal
+
+abbrev pub invariant-loop-i : goal.invariant-loop-i
+invariant-loop-i l = Doing to_clear 0 (to_clear 0 l.initial.part) l.initial.part l.part l.i
+
+abbrev pub decreases-loop-i : goal.decreases-loop-i
+decreases-loop-i l = length l.initial.part - l.i

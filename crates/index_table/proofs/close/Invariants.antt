@@ -1,0 +1,10 @@
+-- `index_table::close` meets its contract. The loop keeps what is still to come nearer. Assumes nothing.
+use Rattle.std.proofs.Common.{◌-◌, drop, ◌∙◌, arith, rules}
+use Rattle.index_table.proofs.Moves.{Doing, to_close, close_start, close_turn, close_end}
+use Rattle.index_table.proofs.close.Given as goal
+
+abbrev pub invariant-loop-i : goal.invariant-loop-i
+invariant-loop-i l = Doing (to_close l.left) l.left (drop l.left l.n) l.n l.part l.i
+
+abbrev pub decreases-loop-i : goal.decreases-loop-i
+decreases-loop-i l = l.initial.part - l.i

@@ -1,0 +1,12 @@
+-- `index_table::is_at` meets its contract. Assumes nothing.
+use Rattle.index_table.proofs.Ranks.{at_none, at_one}
+use Rattle.std.proofs.Common.{rules}
+use Rattle.index_table.proofs.is_at.Goals as goal
+
+pub returns-then-used-at : goal.returns-then-used-at
+returns-then-used-at c = at_none _ _ _ c.requires _ c.if-used-at.true
+
+pub returns : goal.returns
+returns c =
+    let k = c.before.before in
+    rw c.rank_of.ensures (at_one _ _ _ k.requires _ k.if-used-at.false)

@@ -1,0 +1,10 @@
+-- `index_table::open` meets its contract. The loop keeps what is still to come further. Assumes nothing.
+use Rattle.std.proofs.Common.{◌-◌, length, take, ◌∙◌, arith}
+use Rattle.index_table.proofs.Moves.{Doing, to_open, open_start, open_turn, open_end}
+use Rattle.index_table.proofs.open.Given as goal
+
+abbrev pub invariant-loop-i : goal.invariant-loop-i
+invariant-loop-i l = Doing to_open 2 (take (length l.tag - 2) l.tag) l.tag l.part l.i
+
+abbrev pub decreases-loop-i : goal.decreases-loop-i
+decreases-loop-i l = l.i

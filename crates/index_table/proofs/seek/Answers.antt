@@ -1,0 +1,50 @@
+-- `index_table::seek` meets its contract. The loop keeps what is found in the places that are left. Assumes nothing.
+use Rattle.std.proofs.Common.{arith, rules}
+use Rattle.index_table.proofs.Halving.{Seeking, seek_start, seek_up, seek_down, seek_end}
+use Rattle.index_table.proofs.seek.Goals as goal
+
+pub loop-left-init : goal.loop-left-init
+loop-left-init c = seek_start _ _ _ c.requires
+
+pub loop-left-preserved-then-rank_of-rank : goal.loop-left-preserved-then-rank_of-rank
+loop-left-preserved-then-rank_of-rank c =
+    let k = c.before.before.before in
+    seek_up k.loop-left.invariant k.loop-left-test.true (omega (arith, c.rank_of.ensures))
+
+pub loop-left-preserved : goal.loop-left-preserved
+loop-left-preserved c =
+    let k = c.before.before.before in
+    seek_down k.loop-left.invariant k.loop-left-test.true (omega (arith, c.rank_of.ensures))
+
+pub returns : goal.returns
+returns c = (seek_end c.loop-left.invariant c.loop-left-test.false, omega arith, omega arith)
+
+pub overflow_sub-left : goal.overflow_sub-left
+overflow_sub-left c = omega arith
+
+pub overflow_add-mid : goal.overflow_add-mid
+overflow_add-mid c = omega arith
+
+pub overflow_mul-mid : goal.overflow_mul-mid
+overflow_mul-mid c = omega arith
+
+pub offset_bounds-places-mid : goal.offset_bounds-places-mid
+offset_bounds-places-mid c = omega arith
+
+pub bounds-places-mid : goal.bounds-places-mid
+bounds-places-mid c = omega arith
+
+pub overflow_add-at : goal.overflow_add-at
+overflow_add-at c = omega arith
+
+pub overflow_sub-left-then-rank_of-rank : goal.overflow_sub-left-then-rank_of-rank
+overflow_sub-left-then-rank_of-rank c = omega arith
+
+pub overflow_sub-left-then-rank_of-rank-2 : goal.overflow_sub-left-then-rank_of-rank-2
+overflow_sub-left-then-rank_of-rank-2 c = omega arith
+
+pub loop-left-smaller-then-rank_of-rank : goal.loop-left-smaller-then-rank_of-rank
+loop-left-smaller-then-rank_of-rank c = omega arith
+
+pub loop-left-smaller : goal.loop-left-smaller
+loop-left-smaller c = omega arith

@@ -1,0 +1,9 @@
+-- `lanolin::reading::lanolin_getslice` meets its contract: what the call below ensures, handed out. Assumes nothing.
+use mathlib.Core.Path.{ap, ◌∙◌}
+use borrow.Author.Rules.{rules}
+use Rattle.lanolin_answers.specs.Values.{got_out}
+use Rattle.lanolin.proofs.reading.lanolin_getslice.Goals as goal
+
+pub returns : goal.returns
+returns c =
+    let got = c.lfs_dir_getslice in record { value = c.got_out.ensures ∙ ap got_out got.ensures.0; buffer_after = got.ensures.1 }

@@ -1,0 +1,13 @@
+-- `lanolin::writing::lanolin_compact_with` meets its contract: what the call below ensures, handed out. Assumes
+-- nothing.
+use mathlib.Core.Path.{ap, ◌∙◌}
+use borrow.Author.Rules.{rules}
+use Rattle.lanolin_answers.specs.Values.{committed_out}
+use Rattle.lanolin.proofs.writing.lanolin_compact_with.Goals as goal
+
+pub returns : goal.returns
+returns c =
+    let made = c.lfs_dir_compact_with.ensures in let all = (
+      c.committed_out.ensures ∙ ap (committed_out c.args.seed) made.0,
+      made.1,
+    ) in record { value = all.0; compact_leaves = all.1.0; table_after = all.1.1 }

@@ -1,0 +1,13 @@
+-- `lanolin_answers::altered_out` meets its contract: 0, or the refusal's number. Assumes nothing.
+use mathlib.Core.Path.{sym, ap, ◌∙◌}
+use mir.Facts.{to_z-of_z}
+use borrow.Author.Rules.{rules, sfits_of}
+use Rattle.format.specs.Answer.{altered_result}
+use Rattle.lanolin_answers.proofs.altered_out.Goals as goal
+
+pub returns-in-Done : goal.returns-in-Done
+returns-in-Done c = sym (ap altered_result c.enum_told-1.given.1)
+
+pub returns-in-Refused : goal.returns-in-Refused
+returns-in-Refused c = to_z-of_z (sfits_of c.number.type_inv) ∙ c.number.ensures
+    ∙ sym (ap altered_result c.a-1.given.1)

@@ -1,0 +1,31 @@
+-- `lanolin_answers::committed_out` meets its contract: the record and seed with 0, or what comes back with a refusal.
+-- Assumes nothing.
+use mathlib.Core.Path.{◌≡◌, sym, ap, ◌∙◌}
+use Prim.Native.Nat.{ℕ}
+use lib.IntN.{ℤ}
+use mir.Facts.{to_z-of_z}
+use borrow.Author.Rules.{rules, sfits_of}
+use Rattle.format.specs.declared.LfsMdir.{LfsMdir}
+use Rattle.lanolin_answers.specs.Values.{committed_out}
+use Rattle.lanolin_answers.specs.declared.CommittedOut.{CommittedOut}
+use Rattle.lanolin_answers.proofs.committed_out.Goals as goal
+
+out : ℤ → ℕ → LfsMdir → ℕ → CommittedOut
+out n i m s = record { result = n; index = i; dir = m; seed = s }
+
+same : {n n' : ℤ} {i i' : ℕ} {m m' : LfsMdir} {s s' : ℕ} → n ≡ n' → i ≡ i' → m ≡ m' → s ≡ s'
+    → out n i m s ≡ out n' i' m' s'
+same a b c d = λ k. out (a k) (b k) (c k) (d k)
+
+pub returns-in-Done : goal.returns-in-Done
+returns-in-Done c = sym (ap (committed_out c.args.seed) c.c-1.given.1)
+
+pub returns-in-Refused : goal.returns-in-Refused
+unfolding out
+returns-in-Refused c =
+    let n = c.number in
+    let at-match = c.before.before.before.before.before in
+    same (to_z-of_z (sfits_of n.type-inv) ∙ n.ensures) c.refused_index.ensures
+    c.refused_mdir.ensures
+    c.refused_seed.ensures
+    ∙ sym (ap (committed_out at-match.args.seed) at-match.c-in-Refused-1.given.1)

@@ -1,0 +1,20 @@
+-- `lanolin_answers::got_out` meets its contract: the entry with 0, or the refusal's number. Assumes nothing.
+use mathlib.Core.Path.{sym, ap, ◌∙◌}
+use lib.IntN.{ℤ}
+use mir.Facts.{to_z-of_z}
+use borrow.Author.Rules.{rules, sfits_of}
+use Rattle.format.specs.Answer.{none_found}
+use Rattle.lanolin_answers.specs.Values.{got_out}
+use Rattle.lanolin_answers.specs.declared.GotOut.{GotOut}
+use Rattle.lanolin_answers.proofs.got_out.Goals as goal
+
+refused : ℤ → GotOut
+refused n = record { result = n; found = none_found }
+
+pub returns-in-Found : goal.returns-in-Found
+returns-in-Found c = sym (ap got_out c.g-1.given.1)
+
+pub returns-in-Refused : goal.returns-in-Refused
+unfolding refused
+returns-in-Refused c = ap refused (to_z-of_z (sfits_of c.number.type_inv) ∙ c.number.ensures)
+    ∙ sym (ap got_out c.g-in-Refused-1.given.1)

@@ -1,0 +1,25 @@
+-- `lanolin_answers::indexed_out` meets its contract: the places with 0, or a refusal's number. Assumes nothing.
+use mathlib.Core.Path.{sym, ap, ◌∙◌}
+use lib.IntN.{ℤ, pos}
+use Prim.Native.Nat.{ℕ}
+use mir.Facts.{to_z-of_z}
+use borrow.Author.Rules.{rules, sfits_of}
+use Rattle.lanolin_answers.specs.Values.{indexed_out}
+use Rattle.lanolin_answers.specs.declared.IndexedOut.{IndexedOut}
+use Rattle.lanolin_answers.proofs.indexed_out.Goals as goal
+
+out : ℤ → IndexedOut
+out n = record { result = n; places = 0 }
+
+held : ℕ → IndexedOut
+held n = record { result = pos 0; places = n }
+
+pub returns-in-Places : goal.returns-in-Places
+unfolding held
+returns-in-Places c = ap held c.in_word.ensures ∙ sym (ap indexed_out c.i-1.given.1)
+
+pub returns-in-Refused : goal.returns-in-Refused
+unfolding out
+returns-in-Refused c =
+    let n = c.number in
+    ap out (to_z-of_z (sfits_of n.type-inv) ∙ n.ensures) ∙ sym (ap indexed_out c.i-in-Refused-1.given.1)

@@ -1,0 +1,16 @@
+-- `lanolin_answers::info_out` meets its contract: the info as it is, behind its number. Assumes nothing.
+use mathlib.Core.Path.{ap, ◌∙◌}
+use lib.IntN.{ℤ}
+use mir.Facts.{to_z-of_z}
+use borrow.Author.Rules.{rules, sfits_of}
+use Rattle.format.specs.declared.LfsInfo.{LfsInfo}
+use Rattle.lanolin_answers.specs.declared.InfoOut.{InfoOut}
+use Rattle.lanolin_answers.proofs.info_out.Goals as goal
+
+out : LfsInfo → ℤ → InfoOut
+out i n = record { result = n; kind = i.kind; size = i.size; name = i.name }
+
+pub returns : goal.returns
+unfolding out
+returns c = ap (out c.args.i.info) (to_z-of_z (sfits_of c.altered_out.type_inv)
+    ∙ c.altered_out.ensures)

@@ -1,0 +1,13 @@
+-- `lanolin_answers::refused_seed` meets its contract: what the one case holds, and the same with every other. Assumes
+-- nothing.
+use mathlib.Core.Path.{sym, ap}
+use borrow.Author.Rules.{rules}
+use Rattle.format.specs.Answer.{refusal_seed}
+use Rattle.lanolin_answers.proofs.Others.{unread}
+use Rattle.lanolin_answers.proofs.refused_seed.Goals as goal
+
+pub returns-in-TooMany : goal.returns-in-TooMany
+returns-in-TooMany c = sym (ap (refusal_seed c.args.seed) c.r-1.given.1)
+
+pub returns-in_default : goal.returns-in_default
+returns-in_default c = (unread c.args.seed c.args.r c.in_default.keys2).1

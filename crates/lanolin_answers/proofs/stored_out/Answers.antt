@@ -1,0 +1,26 @@
+-- `lanolin_answers::stored_out` meets its contract: the number of stores with 0, or what comes back with a refusal.
+-- Assumes nothing.
+use mathlib.Core.Path.{◌≡◌, sym, ap, ◌∙◌}
+use Prim.Native.Nat.{ℕ}
+use lib.IntN.{ℤ}
+use mir.Facts.{to_z-of_z}
+use borrow.Author.Rules.{rules, sfits_of}
+use Rattle.lanolin_answers.specs.Values.{stored_out}
+use Rattle.lanolin_answers.specs.declared.StoredOut.{StoredOut}
+use Rattle.lanolin_answers.proofs.stored_out.Goals as goal
+
+out : ℤ → ℕ → StoredOut
+out n i = record { result = n; index = i; stores = 0 }
+
+same : {n n' : ℤ} {i i' : ℕ} → n ≡ n' → i ≡ i' → out n i ≡ out n' i'
+same a b = λ k. out (a k) (b k)
+
+pub returns-in-Made : goal.returns-in-Made
+returns-in-Made c = sym (ap stored_out c.s-1.given.1)
+
+pub returns-in-Refused : goal.returns-in-Refused
+unfolding out
+returns-in-Refused c =
+    let n = c.number in
+    same (to_z-of_z (sfits_of n.type-inv) ∙ n.ensures) c.refused_index.ensures
+    ∙ sym (ap stored_out c.s-in-Refused-1.given.1)

@@ -1,0 +1,19 @@
+-- `lanolin_answers::word_out` meets its contract: the word with 0, or the refusal's number. Assumes nothing.
+use mathlib.Core.Path.{sym, ap, ◌∙◌}
+use lib.IntN.{ℤ}
+use mir.Facts.{to_z-of_z}
+use borrow.Author.Rules.{rules, sfits_of}
+use Rattle.lanolin_answers.specs.Values.{word_out}
+use Rattle.lanolin_answers.specs.declared.Value.{Value}
+use Rattle.lanolin_answers.proofs.word_out.Goals as goal
+
+refused : ℤ → Value
+refused n = record { result = n; value = 0 }
+
+pub returns-in-Is : goal.returns-in-Is
+returns-in-Is c = sym (ap word_out c.w-1.given.1)
+
+pub returns-in-Refused : goal.returns-in-Refused
+unfolding refused
+returns-in-Refused c = ap refused (to_z-of_z (sfits_of c.number.type_inv) ∙ c.number.ensures)
+    ∙ sym (ap word_out c.w-in-Refused-1.given.1)

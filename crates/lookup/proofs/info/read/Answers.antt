@@ -1,0 +1,30 @@
+-- `lookup::info::read` meets its contract: the name's lookup, into the front of a blank buffer (`Infos.antt`). Assumes
+-- nothing.
+use mathlib.Core.Path.{sym}
+use Prim.Native.Nat.{◌+◌}
+use native.Mathlib.Omega.{arith}
+use lib.Seq.{length-take-le}
+use Rattle.format.specs.Lookup.{blank_buffer}
+use Rattle.lookup.proofs.Infos.{info_refused_lem, info_found}
+use borrow.Author.Rules.{rules}
+use Rattle.lookup.proofs.info.read.Goals as goal
+
+pub slice_bounds-read-end : goal.slice_bounds-read-end
+slice_bounds-read-end c = sym (length-take-le (c.args.name-max + 1) (blank_buffer 256)
+    (omega arith))
+
+pub returns-in-Refused : goal.returns-in-Refused
+returns-in-Refused c = let a = c.args in
+    info_refused_lem a.b.now a.dir a.gdisk a.name-max a.id (omega arith) (omega arith) _ _
+    c.lfs_mktag-gmask.ensures
+    c.lfs_mktag-gtag.ensures _
+    c.read.ensures.value _ c.r-1.given.1 _
+    c.refused.ensures
+
+pub returns-in-Found : goal.returns-in-Found
+returns-in-Found c = let a = c.args in
+    info_found a.b.now a.dir a.gdisk a.name-max a.id (omega arith) (omega arith) _ _
+    c.lfs_mktag-gmask.ensures
+    c.lfs_mktag-gtag.ensures _
+    c.read.ensures.value _ c.e-1.given.1 _
+    c.read.ensures.buffer_after _ c.named.ensures

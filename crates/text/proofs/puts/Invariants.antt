@@ -1,0 +1,12 @@
+-- `text::puts` meets its contract. The loop keeps where all bytes end, from here. Assumes nothing.
+use Rattle.std.proofs.Common.{◌≡◌, ◌-◌, ◌≤◌, [], ◌∷◌, length, drop, refl, arith, rules}
+use Rattle.text.specs.Put.{text, puts_of}
+use Rattle.text.proofs.Joined.{puts_one, each_more, each_done}
+use Rattle.text.proofs.puts.Given as goal
+
+abbrev pub invariant-loop-i : goal.invariant-loop-i
+invariant-loop-i l =
+    (l.i ≤ length l.initial.out) × (length l.out ≡ length l.at) × (puts_of (text l.bytes l.at) l.initial.out ≡ puts_of (text l.n l.out) (drop l.i l.initial.out))
+
+abbrev pub decreases-loop-i : goal.decreases-loop-i
+decreases-loop-i l = length l.initial.out - l.i

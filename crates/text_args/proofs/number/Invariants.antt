@@ -1,0 +1,16 @@
+-- `text_args::number` meets its contract. The loop keeps the number so far, and the digits that are left. Assumes
+-- nothing.
+use borrow.Author.Rules.{rules}
+use mathlib.Core.Path.{◌≡◌, sym, ◌∙◌}
+use Prim.Native.Nat.{◌-◌, ◌^◌, ◌<◌}
+use native.Mathlib.Omega.{arith}
+use lib.ListN.{length, drop}
+use Rattle.text_args.specs.Number.{number_from, number_of}
+use Rattle.text_args.proofs.Digits.{number_none, number_some, number_on, number_done, more_fits}
+use Rattle.text_args.proofs.number.Given as goal
+
+abbrev pub invariant-loop-i : goal.invariant-loop-i
+invariant-loop-i l = (number_of l.text ≡ number_from l.value (drop l.i l.text)) × (l.value < 2 ^ 32)
+
+abbrev pub decreases-loop-i : goal.decreases-loop-i
+decreases-loop-i l = length l.text - l.i

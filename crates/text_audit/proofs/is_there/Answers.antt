@@ -1,0 +1,10 @@
+-- `text_audit::is_there` meets its contract. Assumes nothing.
+use borrow.Author.Rules.{rules}
+use Rattle.text_audit.proofs.Told.{not_there, is_there_lem}
+use Rattle.text_audit.proofs.is_there.Goals as goal
+
+pub returns-in-Nothing : goal.returns-in-Nothing
+returns-in-Nothing c = not_there _ c.enum_told-1.given.1
+
+pub returns-in-Found : goal.returns-in-Found
+returns-in-Found c = is_there_lem _ c.enum_told-in-Found-1.given.1

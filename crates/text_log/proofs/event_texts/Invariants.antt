@@ -1,0 +1,19 @@
+-- `text_log::event_texts` meets its contract. The loop keeps where the text of the whole walk ends, from here; the block's
+-- rest shrinks. Assumes nothing.
+use mathlib.Core.Path.{◌≡◌, refl, sym, ◌∙◌}
+use Prim.Native.Nat.{◌-◌, ◌≤◌}
+use native.Mathlib.Omega.{arith}
+use lib.ListN.{length}
+use borrow.Author.Rules.{rules}
+use Rattle.text.specs.Put.{text, puts_of}
+use Rattle.fetch_walk.proofs.Turns.{entry_moved, check_moved}
+use Rattle.text_log.specs.Events.{texts_from}
+use Rattle.text_log.proofs.WalkShown.{turn_entry, turn_check, turn_invalid, turn_past, entry_placed, check_placed}
+use Rattle.text_log.proofs.event_texts.Given as goal
+
+abbrev pub invariant-loop-tag : goal.invariant-loop-tag
+invariant-loop-tag l = (l.c.at ≤ length l.initial.out) × (length l.out ≡ length l.at) × (puts_of (text l.full l.at)
+    (texts_from l.b l.initial.out l.initial.c) ≡ puts_of (text l.n l.out) (texts_from l.b l.initial.out l.c))
+
+abbrev pub decreases-loop-tag : goal.decreases-loop-tag
+decreases-loop-tag l = length l.initial.out - l.c.at

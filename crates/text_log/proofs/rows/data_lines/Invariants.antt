@@ -1,0 +1,18 @@
+-- `text_log::rows::data_lines` meets its contract. The loop keeps where all lines end, from here. Assumes nothing.
+use mathlib.Core.Path.{◌≡◌, refl}
+use Prim.Native.Nat.{◌+◌, ◌*◌, ◌-◌, ◌≤◌}
+use native.Mathlib.Omega.{arith}
+use lib.ListN.{length, drop}
+use borrow.Author.Rules.{rules}
+use Rattle.format.specs.RawLog.{data_lines}
+use Rattle.text.specs.Put.{text, puts_of}
+use Rattle.text_log.proofs.DataShown.{lines_start, lines_more, lines_done}
+use Rattle.text_log.proofs.rows.data_lines.Given as goal
+
+abbrev pub invariant-loop-line : goal.invariant-loop-line
+invariant-loop-line l = (l.line ≤ 64) × (length l.out ≡ length l.at) × (puts_of (text l.place l.at)
+    (data_lines 64 l.bytes l.initial.out) ≡ puts_of (text l.n l.out) (data_lines (64 - l.line) (l.bytes + l.line * 16) (drop (l.line * 16)
+    l.initial.out)))
+
+abbrev pub decreases-loop-line : goal.decreases-loop-line
+decreases-loop-line l = 64 - l.line

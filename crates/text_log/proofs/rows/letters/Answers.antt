@@ -1,0 +1,38 @@
+-- `text_log::rows::letters` meets its contract. The loop keeps where all bytes end, from here. Assumes nothing.
+use mathlib.Core.Path.{◌≡◌, refl, ap, ◌∙◌}
+use mathlib.Core.List.{[], ◌∷◌}
+use Prim.Native.Nat.{◌-◌, ◌≤◌}
+use native.Mathlib.Omega.{arith}
+use lib.ListN.{length, drop}
+use borrow.Author.Rules.{rules}
+use Rattle.format.specs.RawLog.{letter, letters}
+use Rattle.text.specs.Put.{text, put_of, puts_of}
+use Rattle.text.proofs.Joined.{puts_one, each_more, each_done}
+use Rattle.text_log.proofs.DataShown.{letters_each, letters_no}
+use Rattle.text_log.proofs.rows.letters.Goals as goal
+
+pub loop-i-init : goal.loop-i-init
+loop-i-init c = (omega arith, refl, refl)
+
+pub bounds-bytes-i : goal.bounds-bytes-i
+bounds-bytes-i c = c.loop-i-test.true
+
+pub loop-i-preserved : goal.loop-i-preserved
+loop-i-preserved c = (
+  omega arith,
+  search rules,
+  each_more letters (λ b. letter b ∷ []) _ letters_each _ _ _ _ c.loop-i-test.true c.loop-i.invariant.2 (puts_one _ _ _ (c.put-n.ensures ∙ ap (put_of _) c.letter.ensures)),
+)
+
+pub shape_of-out : goal.shape_of-out
+shape_of-out c = c.loop-i.invariant.1
+
+pub returns : goal.returns
+returns c = each_done letters (λ b. letter b ∷ []) _ letters_no _ _ _ c.loop-i-test.false c.loop-i.invariant.2
+
+pub overflow_add-i : goal.overflow_add-i
+overflow_add-i c =
+    omega arith
+
+pub loop-i-smaller : goal.loop-i-smaller
+loop-i-smaller c = omega arith

@@ -1,0 +1,19 @@
+-- `text_log::rows::letters` meets its contract. The loop keeps where all bytes end, from here. Assumes nothing.
+use mathlib.Core.Path.{◌≡◌, refl, ap, ◌∙◌}
+use mathlib.Core.List.{[], ◌∷◌}
+use Prim.Native.Nat.{◌-◌, ◌≤◌}
+use native.Mathlib.Omega.{arith}
+use lib.ListN.{length, drop}
+use borrow.Author.Rules.{rules}
+use Rattle.format.specs.RawLog.{letter, letters}
+use Rattle.text.specs.Put.{text, put_of, puts_of}
+use Rattle.text.proofs.Joined.{puts_one, each_more, each_done}
+use Rattle.text_log.proofs.DataShown.{letters_each, letters_no}
+use Rattle.text_log.proofs.rows.letters.Given as goal
+
+abbrev pub invariant-loop-i : goal.invariant-loop-i
+invariant-loop-i l = (l.i ≤ length l.initial.out) × (length l.out ≡ length l.at) × (puts_of (text l.bytes l.at)
+    (letters l.initial.out) ≡ puts_of (text l.n l.out) (letters (drop l.i l.initial.out)))
+
+abbrev pub decreases-loop-i : goal.decreases-loop-i
+decreases-loop-i l = length l.initial.out - l.i
