@@ -53,6 +53,7 @@ room (suc k) x y p hx hy =
     let f : 2 ^ suc k * 2 ≤ 2 ^ suc k * 2 ^ suc k =
     mul-le-mul_left (2 ^ suc k) (pow_mono {i = 1} {j = suc k} (omega arith)) in
     omega (arith, e, f)
+room zero x y p hx hy = elim p [ ]
 
 -- twice m, so that a count of 2 m fields unfolds two at a time
 unfoldable twice : ℕ → ℕ

@@ -22,7 +22,7 @@ use Rattle.format.specs.declared.Refusal.{Refusal}
 use Rattle.format.specs.declared.Refusal.TheVariants.{Invalid, Corrupt, NoEntry, TooMany}
 use Rattle.format.specs.declared.Refusal.TheVariants.{BadEntry, Irregular, NoSpace, Misaligned, WrongValidity}
 use Rattle.format.specs.declared.Refusal.TheVariants.{NotErased}
-use Rattle.format.specs.declared.Refusal.TheVariants.{Coincidence}
+use Rattle.format.specs.declared.Refusal.TheVariants.{Coincidence, TableFull, Spent, TooDeep}
 use Rattle.format.specs.declared.Fetched.{Fetched}
 use Rattle.format.specs.declared.Fetched.TheVariants as fetched
 use Rattle.format.specs.declared.Found.{Found}
@@ -129,15 +129,66 @@ Within R S = (r : Refusal) → R r → S r
 get_plain : Within GetRefuses SliceRefuses
 get_plain Invalid get22 = slice22
 get_plain NoEntry get2 = slice2
+get_plain Corrupt x' = elim x' [ ]
+get_plain (TooMany _ _) x4 = elim x4 [ ]
+get_plain (BadEntry _) x4 = elim x4 [ ]
+get_plain Irregular x4 = elim x4 [ ]
+get_plain NoSpace x5 = elim x5 [ ]
+get_plain Misaligned x6 = elim x6 [ ]
+get_plain WrongValidity x7 = elim x7 [ ]
+get_plain (NotErased _) x9 = elim x9 [ ]
+get_plain Coincidence x9 = elim x9 [ ]
+get_plain TableFull x10 = elim x10 [ ]
+get_plain Spent x11 = elim x11 [ ]
+get_plain TooDeep x12 = elim x12 [ ]
 
 gstate_plain : Within GstateRefuses SliceRefuses
 gstate_plain Invalid gstate22 = slice22
+gstate_plain Corrupt x' = elim x' [ ]
+gstate_plain NoEntry x'' = elim x'' [ ]
+gstate_plain (TooMany _ _) x5 = elim x5 [ ]
+gstate_plain (BadEntry _) x5 = elim x5 [ ]
+gstate_plain Irregular x5 = elim x5 [ ]
+gstate_plain NoSpace x6 = elim x6 [ ]
+gstate_plain Misaligned x7 = elim x7 [ ]
+gstate_plain WrongValidity x8 = elim x8 [ ]
+gstate_plain (NotErased _) x10 = elim x10 [ ]
+gstate_plain Coincidence x10 = elim x10 [ ]
+gstate_plain TableFull x11 = elim x11 [ ]
+gstate_plain Spent x12 = elim x12 [ ]
+gstate_plain TooDeep x13 = elim x13 [ ]
 
 word_plain : Within WordRefuses SliceRefuses
 word_plain Corrupt word84 = slice84
+word_plain Invalid x' = elim x' [ ]
+word_plain NoEntry x'' = elim x'' [ ]
+word_plain (TooMany _ _) x5 = elim x5 [ ]
+word_plain (BadEntry _) x5 = elim x5 [ ]
+word_plain Irregular x5 = elim x5 [ ]
+word_plain NoSpace x6 = elim x6 [ ]
+word_plain Misaligned x7 = elim x7 [ ]
+word_plain WrongValidity x8 = elim x8 [ ]
+word_plain (NotErased _) x10 = elim x10 [ ]
+word_plain Coincidence x10 = elim x10 [ ]
+word_plain TableFull x11 = elim x11 [ ]
+word_plain Spent x12 = elim x12 [ ]
+word_plain TooDeep x13 = elim x13 [ ]
 
 align_plain : Within AlignRefuses SliceRefuses
 align_plain Invalid align22 = slice22
+align_plain Corrupt x' = elim x' [ ]
+align_plain NoEntry x'' = elim x'' [ ]
+align_plain (TooMany _ _) x5 = elim x5 [ ]
+align_plain (BadEntry _) x5 = elim x5 [ ]
+align_plain Irregular x5 = elim x5 [ ]
+align_plain NoSpace x6 = elim x6 [ ]
+align_plain Misaligned x7 = elim x7 [ ]
+align_plain WrongValidity x8 = elim x8 [ ]
+align_plain (NotErased _) x10 = elim x10 [ ]
+align_plain Coincidence x10 = elim x10 [ ]
+align_plain TableFull x11 = elim x11 [ ]
+align_plain Spent x12 = elim x12 [ ]
+align_plain TooDeep x13 = elim x13 [ ]
 
 compact_written : Within CompactRefuses CommitRefuses
 compact_written r (compact_fetch h) = commit_fetch h

@@ -26,4 +26,4 @@ overflow_cast-result-2 c =
 
 pub returns : goal.returns
 returns c = popc_is c.args.a c.wrapping_add_u32-bytes.result c.ranges.a.fits
-    c.wrapping_add_u32-bytes.ensures
+    c.wrapping_add_u32-bytes.ensures.value

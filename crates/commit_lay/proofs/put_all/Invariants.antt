@@ -9,7 +9,7 @@ use Rattle.commit_lay.proofs.Puts.{puts_none, puts_length, puts_more, puts_all}
 use Rattle.commit_lay.proofs.put_all.Given as goal
 
 abbrev pub invariant-loop-i : goal.invariant-loop-i
-invariant-loop-i l = (l.i ≤ length l.initial.b) × (laid l.w l.b ≡ puts_of (laid l.initial.w l.bytes) (take l.i l.initial.b))
+invariant-loop-i l = (l.i ≤ length l.bytes) × (laid l.w l.b ≡ puts_of (laid l.initial.w l.initial.b) (take l.i l.bytes))
 
 abbrev pub decreases-loop-i : goal.decreases-loop-i
-decreases-loop-i l = length l.initial.b - l.i
+decreases-loop-i l = length l.bytes - l.i

@@ -64,7 +64,7 @@ returns-in_default c = sym (turn_bad _ _ _ _ _ _ _
     c.is_check.ensures
     c.if-is_check.false _
     c.lfs_tag_type3.ensures _ c.rule_of-rule.ensures _
-    c.entered.ensures (sym c.enum_told-1.given.1) _
+    c.entered.ensures (sym c.in_default.is) _
     c.grows-grows.ensures)
 
 pub loop-at-smaller : goal.loop-at-smaller
@@ -86,7 +86,7 @@ loop-at-preserved c = ((turn_entry _ _ _ _ _ _ _
     c.if-is_check.false _
     c.lfs_tag_type3.ensures _
     c.rule_of-rule.ensures _
-    c.entered.ensures _ (sym c.behind-1.given.1)).onward _
+    c.entered.ensures _ (sym c.in-To.is)).onward _
     c.grows_after-grows.ensures).ahead
 
 pub returns : goal.returns

@@ -7,19 +7,19 @@ use Rattle.commit_rules.proofs.count_after.Goals as goal
 
 pub overflow_add-result : goal.overflow_add-result
 unfolding count_after
-overflow_add-result c = let p = rw c.enum_told-1.given.1 at c.requires in omega arith
+overflow_add-result c = let p = rw c.in-Create.is at c.requires in omega arith
 
 pub returns-in-Create : goal.returns-in-Create
 unfolding count_after
-returns-in-Create c = rw c.enum_told-1.given.1 (omega arith)
+returns-in-Create c = rw c.in-Create.is (omega arith)
 
 pub returns-then-count-eq0 : goal.returns-then-count-eq0
 unfolding count_after
-returns-then-count-eq0 c = rw c.enum_told-in-Delete-1.given.1 (omega arith)
+returns-then-count-eq0 c = rw c.in-Delete.is (omega arith)
 
 pub returns-else-count-eq0 : goal.returns-else-count-eq0
 unfolding count_after
-returns-else-count-eq0 c = rw c.enum_told-in-Delete-1.given.1 (omega arith)
+returns-else-count-eq0 c = rw c.in-Delete.is (omega arith)
 
 pub returns-in_default : goal.returns-in_default
-returns-in_default c = count_stays c.args.rule c.args.count c.in_default.keys3
+returns-in_default c = count_stays c.args.rule c.args.count c.in_default.in_default-own.keys3

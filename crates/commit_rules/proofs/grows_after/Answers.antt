@@ -6,11 +6,11 @@ use Rattle.commit_rules.proofs.grows_after.Goals as goal
 
 pub returns-in-Create : goal.returns-in-Create
 unfolding grows_after
-returns-in-Create c = rw c.enum_told-1.given.1
+returns-in-Create c = rw c.in-Create.is
 
 pub returns-in-Delete : goal.returns-in-Delete
 unfolding grows_after
-returns-in-Delete c = rw c.enum_told-in-Delete-1.given.1
+returns-in-Delete c = rw c.in-Delete.is
 
 pub returns-in_default : goal.returns-in_default
-returns-in_default c = grows_on c.args.rule c.args.grows c.in_default.keys3
+returns-in_default c = grows_on c.args.rule c.args.grows c.in_default.in_default-own.keys3

@@ -13,12 +13,12 @@ overflow_add-result c =
 pub returns-then-grows-count : goal.returns-then-grows-count
 returns-then-grows-count c =
     let a = c.args in
-    rw c.enum_told-1.given.1 (names_raise a.grows a.count a.id c.if-grows-count.true).1
+    rw c.in-Name.is (names_raise a.grows a.count a.id c.if-grows-count.true).1
 
 pub returns-else-grows-count : goal.returns-else-grows-count
 returns-else-grows-count c =
     let a = c.args in
-    rw c.enum_told-1.given.1 (names_stay a.grows a.count a.id c.if-grows-count.false)
+    rw c.in-Name.is (names_stay a.grows a.count a.id c.if-grows-count.false)
 
 pub returns-in_default : goal.returns-in_default
-returns-in_default c = raises_none c.args.rule _ c.args.count c.args.id c.in_default.keys2
+returns-in_default c = raises_none c.args.rule _ c.args.count c.args.id c.in_default.in_default-own.keys2

@@ -4,21 +4,21 @@ use Rattle.std.proofs.Common.{rules}
 use Rattle.commit_steps.proofs.answer.Goals as goal
 
 pub returns-in-Refused : goal.returns-in-Refused
-returns-in-Refused c = answer_refused _ _ _ c.phase-1.given.1
+returns-in-Refused c = answer_refused _ _ _ c.in-Refused.is
 
 pub returns-in-Judge : goal.returns-in-Judge
-returns-in-Judge c = answer_judge _ _ _ c.enum_told-1.given.1
+returns-in-Judge c = answer_judge _ _ _ c.in-Judge.is
 
 pub returns-in-Found : goal.returns-in-Found
 returns-in-Found c = answer_found c.args.st
     _ _
-    c.phase-in-Lay-1.given.1 _
+    c.in-Lay.is _
     c.lfs_dir_refetch.ensures _ _
-    c.m-1.given.1
+    c.in-Found.is
 
 pub returns-in-Refused-lfs_dir_refetch : goal.returns-in-Refused-lfs_dir_refetch
 returns-in-Refused-lfs_dir_refetch c = answer_lost c.args.st
     _ _
-    c.phase-in-Lay-1.given.1 _
+    c.in-Lay.is _
     c.lfs_dir_refetch.ensures _
-    c.r-1.given.1
+    c.in-Refused-lfs_dir_refetch.is

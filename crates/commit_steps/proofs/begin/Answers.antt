@@ -15,11 +15,11 @@ returns-then-not-fits c =
     c.refused.ensures
 
 pub start-requires : goal.start-requires
-start-requires c = ends_first _ _ _ _ _ _ _ _ _ (sym c.m-1.given.1
+start-requires c = ends_first _ _ _ _ _ _ _ _ _ (sym c.in-Found.is
     ∙ c.lfs_dir_fetch.ensures) c.if-m-n0.true
 
 pub start-requires-else-m-n0 : goal.start-requires-else-m-n0
-start-requires-else-m-n0 c = ends_second _ _ _ _ _ _ _ _ _ (sym c.m-1.given.1
+start-requires-else-m-n0 c = ends_second _ _ _ _ _ _ _ _ _ (sym c.in-Found.is
     ∙ c.lfs_dir_fetch.ensures) c.if-m-n0.false
 
 pub returns-in-Refused : goal.returns-in-Refused
@@ -29,7 +29,7 @@ returns-in-Refused c =
     begins_refused a.g a.b0.now a.b1.now a.n0 a.n1 a.block-count a.seed a.rules a.erased
     a.entries a.dat.now _ _ fits.pair_fits.ensures fits.writes_fit.ensures
     c.if-not-fits.false _ _
-    (sym c.lfs_dir_fetch.ensures ∙ c.r-1.given.1)
+    (sym c.lfs_dir_fetch.ensures ∙ c.in-Refused.is)
     c.refused-in-Refused.ensures
 
 pub returns-then-m-n0 : goal.returns-then-m-n0
@@ -40,7 +40,7 @@ returns-then-m-n0 c =
     a.entries a.dat.now _ _ fits.pair_fits.ensures fits.writes_fit.ensures
     c.if-not-fits.false _ _
     (sym c.lfs_dir_fetch.ensures
-    ∙ c.m-1.given.1) _ c.if-m-n0.true
+    ∙ c.in-Found.is) _ c.if-m-n0.true
     c.start.ensures
 
 pub returns-else-m-n0 : goal.returns-else-m-n0
@@ -51,5 +51,5 @@ returns-else-m-n0 c =
     a.entries a.dat.now _ _ fits.pair_fits.ensures fits.writes_fit.ensures
     c.if-not-fits.false _ _
     (sym c.lfs_dir_fetch.ensures
-    ∙ c.m-1.given.1) _ c.if-m-n0.false
+    ∙ c.in-Found.is) _ c.if-m-n0.false
     c.start-else-m-n0.ensures

@@ -5,15 +5,15 @@ use Rattle.std.proofs.Common.{rules}
 use Rattle.commit_steps.proofs.step.Goals as goal
 
 pub returns-then-second : goal.returns-then-second
-returns-then-second c = step_second _ _ _ _ _ _ _ _ _ _ _ c.phase-in-Lay-1.given.1
+returns-then-second c = step_second _ _ _ _ _ _ _ _ _ _ _ c.in-Lay.is
     c.if-second.true c.lay_entry.ensures
 
 pub returns-in-Refused : goal.returns-in-Refused
-returns-in-Refused c = step_refused _ _ _ _ _ _ _ _ _ c.enum_told-1.given.1
+returns-in-Refused c = step_refused _ _ _ _ _ _ _ _ _ c.in-Refused.is
 
 pub returns-in-Judge : goal.returns-in-Judge
-returns-in-Judge c = step_judge _ _ _ _ _ _ _ _ _ _ c.phase-1.given.1 c.judge_entry.ensures
+returns-in-Judge c = step_judge _ _ _ _ _ _ _ _ _ _ c.in-Judge.is c.judge_entry.ensures
 
 pub returns-else-second : goal.returns-else-second
-returns-else-second c = step_first _ _ _ _ _ _ _ _ _ _ _ c.phase-in-Lay-1.given.1
+returns-else-second c = step_first _ _ _ _ _ _ _ _ _ _ _ c.in-Lay.is
     c.if-second.false c.lay_entry-in-Lay.ensures

@@ -4,6 +4,6 @@ use Rattle.std.proofs.Common.{rules}
 use Rattle.commit_steps.proofs.sum_up.Goals as goal
 
 pub returns : goal.returns
-returns c = summed _ _ _ _ _ _ _ _ c.wrapping_add_u32.ensures
-    c.lfs_tag_dsize.ensures c.wrapping_add_u32-2.ensures
+returns c = summed _ _ _ _ _ _ _ _ c.wrapping_add_u32.ensures.value
+    c.lfs_tag_dsize.ensures c.wrapping_add_u32-2.ensures.value
     c.sum_entry.ensures

@@ -24,19 +24,19 @@ returns-then-coincides c =
     let tested = c.before.before.before.before.before.before.before in
     tested_coincides _ _ _ _ _ _ _ tested.rounded_end.ensures tested.if-b-rounded_end.false _
     c.room.ensures
-    c.enum_told-1.given.1 _ c.check_tag.ensures _
+    c.in-Clean.is _ c.check_tag.ensures _
     c.coincides.ensures c.if-coincides.true
 
 pub returns-in-Refused : goal.returns-in-Refused
 returns-in-Refused c = tested_no_room _ _ _ _ _ _ _ c.rounded_end.ensures
     c.if-b-rounded_end.false _ c.room.ensures _
-    c.r-1.given.1
+    c.in-Refused.is
 
 pub returns-else-coincides : goal.returns-else-coincides
 returns-else-coincides c =
     let tested = c.before.before.before.before.before.before.before.before in
     tested_lays _ _ _ _ _ _ _ tested.rounded_end.ensures tested.if-b-rounded_end.false _
     c.room.ensures
-    c.enum_told-1.given.1 _
+    c.in-Clean.is _
     c.check_tag.ensures _ c.coincides.ensures _
     c.if-coincides.false c.sum_be32.ensures

@@ -16,7 +16,7 @@ returns-in-Refused c =
     (λ i. omega (
       arith,
       c.slice_known-2-1.given i,
-    )) stored.1 _ (sym c.r-1.given.1 ∙ stored.0) in record { value = all.0; compact_leaves = all.1.0; table_after = all.1.1 }
+    )) stored.1 _ (sym c.in-Refused.is ∙ stored.0) in record { value = all.0; compact_leaves = all.1.0; table_after = all.1.1 }
 
 pub returns-in-Found : goal.returns-in-Found
 returns-in-Found c =
@@ -28,8 +28,8 @@ returns-in-Found c =
       arith,
       c.slice_known-2-1.given i,
     )) stored.1
-    _ (sym c.enum_told-1.given.1 ∙ stored.0)
-    (Found _ _) (sym c.dir-1.given.1 ∙ c.lfs_dir_fetch.ensures) in record { value = all.0; compact_leaves = all.1.0; table_after = all.1.1 }
+    _ (sym c.in-Made.is ∙ stored.0)
+    (Found _ _) (sym c.in-Found.is ∙ c.lfs_dir_fetch.ensures) in record { value = all.0; compact_leaves = all.1.0; table_after = all.1.1 }
 
 pub returns-in-Refused-lfs_dir_fetch : goal.returns-in-Refused-lfs_dir_fetch
 returns-in-Refused-lfs_dir_fetch c =
@@ -41,5 +41,5 @@ returns-in-Refused-lfs_dir_fetch c =
       arith,
       c.slice_known-2-1.given i,
     )) stored.1
-    _ (sym c.enum_told-1.given.1 ∙ stored.0)
-    (Refused _) (sym c.r-in-Refused-lfs_dir_fetch-1.given.1 ∙ c.lfs_dir_fetch.ensures) in record { value = all.0; compact_leaves = all.1.0; table_after = all.1.1 }
+    _ (sym c.in-Made.is ∙ stored.0)
+    (Refused _) (sym c.in-Refused-lfs_dir_fetch.is ∙ c.lfs_dir_fetch.ensures) in record { value = all.0; compact_leaves = all.1.0; table_after = all.1.1 }

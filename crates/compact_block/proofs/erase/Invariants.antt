@@ -4,7 +4,7 @@ use Rattle.compact_block.proofs.Erasing.{erased_to, erase_one, erase_length, era
 use Rattle.compact_block.proofs.erase.Given as goal
 
 abbrev pub invariant-loop-i : goal.invariant-loop-i
-invariant-loop-i l = (l.i ≤ length l.byte) × (l.b ≡ erased_to l.initial.b l.i l.byte)
+invariant-loop-i l = (l.i ≤ length l.initial.b) × (l.b ≡ erased_to l.byte l.i l.initial.b)
 
 abbrev pub decreases-loop-i : goal.decreases-loop-i
-decreases-loop-i l = length l.byte - l.i
+decreases-loop-i l = length l.initial.b - l.i

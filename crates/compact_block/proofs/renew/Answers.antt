@@ -24,7 +24,7 @@ build-built-requires c = renew_builds _ c.args.rules _ c.rules_of.ensures _ c.lo
 pub overflow_mul-used : goal.overflow_mul-used
 overflow_mul-used c =
     let few = places_few _ c.args.rules _ c.rules_of.ensures _ c.log_regular.ensures c.if-not-log_regular.false _ _
-    c.build-built.ensures.value _ c.build-built.ensures.table_after c.table-1.given _ c.built-1.given.1 in
+    c.build-built.ensures.value _ c.build-built.ensures.table_after c.table-1.given _ c.in-Places.is in
     omega (
       arith,
       few,

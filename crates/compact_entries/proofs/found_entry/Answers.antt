@@ -6,12 +6,12 @@ use Rattle.compact_entries.proofs.found_entry.Goals as goal
 
 pub overflow_sub-f : goal.overflow_sub-f
 overflow_sub-f c = (hit_in _ _ c.requires.1
-    c.h-1.given.1).counted
+    c.in-Found.is).counted
 
 pub returns-in-Nothing : goal.returns-in-Nothing
-returns-in-Nothing c = hit_missing _ _ _ c.enum_told-1.given.1
+returns-in-Nothing c = hit_missing _ _ _ c.in-Nothing.is
 
 pub returns-in-Found : goal.returns-in-Found
-returns-in-Found c = hit_made _ _ _ _ c.h-1.given.1
+returns-in-Found c = hit_made _ _ _ _ c.in-Found.is
     c.requires.1 _
     c.entry.ensures

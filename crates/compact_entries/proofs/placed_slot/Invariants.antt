@@ -12,7 +12,7 @@ use Rattle.compact_entries.proofs.placed_slot.Given as goal
 
 abbrev pub invariant-loop-at : goal.invariant-loop-at
 invariant-loop-at l =
-    (length l.new ≡ length l.id) × Placing l.old l.places l.from l.initial.new (standing l.initial.w l.id) (standing l.w l.new) l.at
+    (length l.new ≡ length l.initial.new) × Placing l.old l.id l.places l.from (standing l.initial.w l.initial.new) (standing l.w l.new) l.at
 
 abbrev pub decreases-loop-at : goal.decreases-loop-at
-decreases-loop-at l = length l.from - l.at
+decreases-loop-at l = length l.places - l.at

@@ -12,8 +12,8 @@ use Rattle.compact_entries.proofs.placed_slots.Given as goal
 
 abbrev pub invariant-loop-id : goal.invariant-loop-id
 invariant-loop-id l =
-    (l.id ≤ l.places) × (l.w.end ≤ 16 + l.id * 265_734) × (length l.new ≡ length l.count)
-    × Passing l.old l.initial.new (standing l.initial.w l.count) (standing l.w l.new) l.id l.at
+    (l.id ≤ l.count) × (l.w.end ≤ 16 + l.id * 265_734) × (length l.new ≡ length l.initial.new)
+    × Passing l.old l.places (standing l.initial.w l.initial.new) (standing l.w l.new) l.id l.at
 
 abbrev pub decreases-loop-id : goal.decreases-loop-id
-decreases-loop-id l = l.places - l.id
+decreases-loop-id l = l.count - l.id

@@ -15,9 +15,9 @@ use Rattle.compact_entries.proofs.slot.Given as goal
 
 abbrev pub invariant-loop-class : goal.invariant-loop-class
 invariant-loop-class l =
-    (l.class ≤ classes) × (l.w.end ≤ 2 ^ 31 + 1_026 * (l.class + 1)) × (length l.new ≡ length l.id)
-    × (emits (standing l.initial.w l.id) (slot_items classes 0 l.seats (slot_in l.old l.initial.new)) ≡ emits (standing l.w l.new)
-    (slot_items (classes - l.class) l.class l.seats (slot_in l.old l.initial.new)))
+    (l.class ≤ classes) × (l.w.end ≤ 2 ^ 31 + 1_026 * (l.class + 1)) × (length l.new ≡ length l.initial.new)
+    × (emits (standing l.initial.w l.initial.new) (slot_items classes 0 l.id (slot_in l.old l.seats)) ≡ emits (standing l.w l.new)
+    (slot_items (classes - l.class) l.class l.id (slot_in l.old l.seats)))
 
 abbrev pub decreases-loop-class : goal.decreases-loop-class
 decreases-loop-class l = classes - l.class

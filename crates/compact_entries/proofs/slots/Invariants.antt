@@ -16,9 +16,9 @@ use Rattle.compact_entries.proofs.slots.Given as goal
 
 abbrev pub invariant-loop-id : goal.invariant-loop-id
 invariant-loop-id l =
-    (l.id ≤ l.initial.new) × (l.w.end ≤ 16 + l.id * 265_734) × (length l.new ≡ length l.end)
-    × (emits (standing l.initial.w l.end) (dir_items 0 (dir_of (log l.old))) ≡ emits (standing l.w l.new)
+    (l.id ≤ l.count) × (l.w.end ≤ 16 + l.id * 265_734) × (length l.new ≡ length l.initial.new)
+    × (emits (standing l.initial.w l.initial.new) (dir_items 0 (dir_of (log l.old))) ≡ emits (standing l.w l.new)
     (dir_items l.id (drop l.id (dir_of (log l.old)))))
 
 abbrev pub decreases-loop-id : goal.decreases-loop-id
-decreases-loop-id l = l.initial.new - l.id
+decreases-loop-id l = l.count - l.id

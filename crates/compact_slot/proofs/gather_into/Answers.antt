@@ -15,19 +15,19 @@ loop-at-init c = (omega arith, omega arith, starts _ _ _)
 
 pub returns-in_default : goal.returns-in_default
 returns-in_default c = walk_over _ _ _ _ _ _ _ c.loop-at.invariant.2
-    (placed_over _ _ _ c.place.ensures c.enum_told-1.given.1)
+    (placed_over _ _ _ c.place.ensures c.in_default.is)
 
 pub returns-then-created : goal.returns-then-created
 returns-then-created c = walk_created _ _ _ _ _ _ _ c.loop-at.invariant.2 _
     (placed_at_lem _ _ _ _ c.place.ensures
-    c.at-1.given.1) _ c.created.ensures c.if-created.true
+    c.in-At.is) _ c.created.ensures c.if-created.true
 
 pub note-requires : goal.note-requires
 note-requires c = (
   omega (
     arith,
     back_word _ _ _ (placed_at_lem _ _ _ _ c.place.ensures
-        c.at-1.given.1),
+        c.in-At.is),
   ),
   omega arith,
 )
@@ -37,7 +37,7 @@ tag_before-tag-requires c = omega (
   arith,
   back_word _ _ _
       (placed_at_lem _ _ _ _ c.place.ensures
-      c.at-1.given.1),
+      c.in-At.is),
 )
 
 pub loop-at-smaller : goal.loop-at-smaller
@@ -45,7 +45,7 @@ loop-at-smaller c = omega (
   arith,
   back_word _ _ _
       (placed_at_lem _ _ _ _ c.place.ensures
-      c.at-1.given.1),
+      c.in-At.is),
 )
 
 pub loop-at-preserved : goal.loop-at-preserved
@@ -54,13 +54,13 @@ loop-at-preserved c = (
         arith,
         back_word _ _ _
             (placed_at_lem _ _ _ _ c.place.ensures
-            c.at-1.given.1),
+            c.in-At.is),
       ),
       omega (
         arith,
         back_word _ _ _
             (placed_at_lem _ _ _ _ c.place.ensures
-            c.at-1.given.1),
+            c.in-At.is),
         c.id_before-slot.ensures,
         id_before_most c.loop-at.tag
             c.loop-at.slot,
@@ -68,7 +68,7 @@ loop-at-preserved c = (
       walk_on _ _ _ _
           _ _ _ c.loop-at.invariant.2 _
           (placed_at_lem _ _ _ _ c.place.ensures
-          c.at-1.given.1) _
+          c.in-At.is) _
           c.created.ensures c.if-created.false
           (omega arith) (omega arith) _ c.note.ensures _
           c.id_before-slot.ensures _

@@ -15,13 +15,13 @@ use Rattle.fetch_walk.proofs.walk_on.Goals as goal
 -- what was seen, at the places where an arm knows it
 saw_entry : (c : goal.In-Entry-2)
     → next_of c.args.b.now c.loop-tag.c
-    ≡ Entry c.tag-1.given.0.0 c.tag-1.given.0.1.0
-saw_entry c = sym c.next.ensures ∙ c.tag-1.given.1
+    ≡ Entry c.in-Entry.tag c.in-Entry.behind
+saw_entry c = sym c.next.ensures ∙ c.in-Entry.is
 
 saw_check : (c : goal.In-Check-2)
     → next_of c.args.b.now c.loop-tag.c
-    ≡ Check c.sum-1.given.0.0 c.sum-1.given.0.1.0
-saw_check c = sym c.next.ensures ∙ c.sum-1.given.1
+    ≡ Check c.in-Check.sum c.in-Check.behind
+saw_check c = sym c.next.ensures ∙ c.in-Check.is
 
 pub loop-tag-init : goal.loop-tag-init
 loop-tag-init c = refl
@@ -48,9 +48,9 @@ loop-tag-preserved c = turn_check _ _ _ _ c.loop-tag.invariant _
 
 pub returns-in-Invalid : goal.returns-in-Invalid
 returns-in-Invalid c = turn_invalid _ _ _ _ c.loop-tag.invariant _
-    (sym c.next.ensures ∙ c.enum_told-1.given.1)
+    (sym c.next.ensures ∙ c.in-Invalid.is)
     c.is_check-straight.ensures
 
 pub returns-in-Past : goal.returns-in-Past
 returns-in-Past c = turn_past _ _ _ _ c.loop-tag.invariant
-    (sym c.next.ensures ∙ c.enum_told-in-Past-1.given.1)
+    (sym c.next.ensures ∙ c.in-Past.is)

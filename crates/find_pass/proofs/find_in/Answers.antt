@@ -68,14 +68,14 @@ returns-in_default c = refused _ _ _ _ (turn_bad _ _ _ _ _ _ _
     c.is_check.ensures
     c.if-is_check.false _
     c.lfs_tag_type3.ensures _ c.rule_of-rule.ensures _
-    c.entered.ensures (sym c.enum_told-1.given.1) _
+    c.entered.ensures (sym c.in_default.is) _
     c.grows-grows.ensures)
 
 pub follow-any-requires : goal.follow-any-requires
 follow-any-requires c = entry_followable _ _ _ (none_named _ _) _ _ _ _ _ _ _
     c.loop-at.invariant _ _
     _ _ (turn_entry _ _ _ _ _ _ _ c.loop-at.invariant.ahead c.loop-at-test.true _ c.be32.ensures _ c.lfs_tag_dsize.ensures _ c.is_check.ensures
-    c.if-is_check.false _ c.lfs_tag_type3.ensures _ c.rule_of-rule.ensures _ c.entered.ensures _ (sym c.behind-1.given.1))
+    c.if-is_check.false _ c.lfs_tag_type3.ensures _ c.rule_of-rule.ensures _ c.entered.ensures _ (sym c.in-To.is))
 
 pub loop-at-smaller : goal.loop-at-smaller
 loop-at-smaller c =
@@ -84,7 +84,7 @@ loop-at-smaller c =
 
 pub loop-at-preserved : goal.loop-at-preserved
 loop-at-preserved c = entry_goes _ _ _ (none_named _ _) _ _ _ _ _ _ _
-    c.loop-at.invariant _ _ _ _ (turn_entry _ _ _ _ _ _ _ c.loop-at.invariant.ahead c.loop-at-test.true _ c.be32.ensures _ c.lfs_tag_dsize.ensures _ c.is_check.ensures c.if-is_check.false _ c.lfs_tag_type3.ensures _ c.rule_of-rule.ensures _ c.entered.ensures _ (sym c.behind-1.given.1)) _ _ _ c.follow-any.ensures c.grows_after-grows.ensures
+    c.loop-at.invariant _ _ _ _ (turn_entry _ _ _ _ _ _ _ c.loop-at.invariant.ahead c.loop-at-test.true _ c.be32.ensures _ c.lfs_tag_dsize.ensures _ c.is_check.ensures c.if-is_check.false _ c.lfs_tag_type3.ensures _ c.rule_of-rule.ensures _ c.entered.ensures _ (sym c.in-To.is)) _ _ _ c.follow-any.ensures c.grows_after-grows.ensures
 
 pub returns : goal.returns
 returns c = ends _ _ _ _ _ _ _ _ _ _ _ c.loop-at.invariant c.loop-at-test.false _

@@ -9,7 +9,7 @@ use borrow.Author.Rules.{rules}
 use Rattle.find_set.proofs.insert.Given as goal
 
 abbrev pub invariant-loop-i : goal.invariant-loop-i
-invariant-loop-i l = (l.initial.words ≤ l.i) × (l.i < 32) × Moved (made l.at (has l.id)) l.id l.words (l.i + 1)
+invariant-loop-i l = (l.at ≤ l.i) × (l.i < 32) × Moved (made l.id (has l.initial.words)) l.initial.words l.words (l.i + 1)
 
 abbrev pub decreases-loop-i : goal.decreases-loop-i
 decreases-loop-i l = l.i

@@ -12,8 +12,8 @@ use Rattle.find_set.proofs.remove.Given as goal
 
 abbrev pub invariant-loop-i : goal.invariant-loop-i
 invariant-loop-i l =
-    (l.initial.words ≤ l.i) × (l.i < 32) × (l.carry < 2) × (eqb l.carry 1 ≡ has l.id (l.i * 32 + 32))
-    × Moved (removed l.at (has l.id)) l.id l.words (l.i + 1)
+    (l.at ≤ l.i) × (l.i < 32) × (l.carry < 2) × (eqb l.carry 1 ≡ has l.initial.words (l.i * 32 + 32))
+    × Moved (removed l.id (has l.initial.words)) l.initial.words l.words (l.i + 1)
 
 abbrev pub decreases-loop-i : goal.decreases-loop-i
 decreases-loop-i l = l.i

@@ -32,13 +32,13 @@ pub follow-requires : goal.follow-requires
 follow-requires c = let v = c.loop-at.invariant.1 c.requires.onwards in (used_inside _ _ _ _ _ _ _ _ _ _ _ v c.loop-at-test.true, tag_small _ _ _ _ _ _ _ _ _ _ _ v c.loop-at-test.true _ c.be32.ensures, omega (arith, word_inside _ _ _ _ _ _ _ _ _ _ _ v c.loop-at-test.true, c.requires.small))
 
 pub returns-in_default : goal.returns-in_default
-returns-in_default c = λ k. entry_full _ _ _ _ _ _ _ _ _ _ _ (c.loop-at.invariant.1 k) c.loop-at-test.true _ c.be32.ensures _ c.lfs_tag_dsize.ensures _ c.is_check.ensures c.if-is_check.false _ _ c.follow.ensures (sym c.enum_told-1.given.1) _ c.clear.ensures
+returns-in_default c = λ k. entry_full _ _ _ _ _ _ _ _ _ _ _ (c.loop-at.invariant.1 k) c.loop-at-test.true _ c.be32.ensures _ c.lfs_tag_dsize.ensures _ c.is_check.ensures c.if-is_check.false _ _ c.follow.ensures (sym c.in_default.is) _ c.clear.ensures
 
 pub loop-at-smaller : goal.loop-at-smaller
 loop-at-smaller c = let t = tag_inside _ _ _ _ _ _ _ _ _ _ _ (c.loop-at.invariant.1 c.requires.onwards) c.loop-at-test.true _ c.be32.ensures _ c.lfs_tag_dsize.ensures in omega (arith, t.1)
 
 pub loop-at-preserved : goal.loop-at-preserved
-loop-at-preserved c = (search rules, λ k. entry_goes _ _ _ _ _ _ _ _ _ _ _ (c.loop-at.invariant.1 k) c.loop-at-test.true _ c.be32.ensures _ c.lfs_tag_dsize.ensures _ c.is_check.ensures c.if-is_check.false _ _ c.follow.ensures _ (sym c.now-1.given.1))
+loop-at-preserved c = (search rules, λ k. entry_goes _ _ _ _ _ _ _ _ _ _ _ (c.loop-at.invariant.1 k) c.loop-at-test.true _ c.be32.ensures _ c.lfs_tag_dsize.ensures _ c.is_check.ensures c.if-is_check.false _ _ c.follow.ensures _ (sym c.in-To.is))
 
 pub returns : goal.returns
 returns c = λ k. ends_there _ _ _ _ _ _ _ _ _ _ _ (c.loop-at.invariant.1 k) c.loop-at-test.false

@@ -12,8 +12,8 @@ use Rattle.index_pass.proofs.run_on.Given as goal
 
 abbrev pub invariant-loop-at : goal.invariant-loop-at
 invariant-loop-at l =
-    (length l.table ≡ length l.used)
-    × ((k : Onwards l.b l.from l.prev l.end) → Going l.b l.from l.prev l.end k l.used (take (2 * l.initial.table) l.used) l.table l.n l.at l.last)
+    (length l.table ≡ length l.initial.table)
+    × ((k : Onwards l.b l.from l.prev l.end) → Going l.b l.from l.prev l.end k l.initial.table (take (2 * l.used) l.initial.table) l.table l.n l.at l.last)
 
 abbrev pub decreases-loop-at : goal.decreases-loop-at
 decreases-loop-at l = l.end - l.at

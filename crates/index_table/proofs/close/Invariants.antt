@@ -4,7 +4,7 @@ use Rattle.index_table.proofs.Moves.{Doing, to_close, close_start, close_turn, c
 use Rattle.index_table.proofs.close.Given as goal
 
 abbrev pub invariant-loop-i : goal.invariant-loop-i
-invariant-loop-i l = Doing (to_close l.left) l.left (drop l.left l.n) l.n l.part l.i
+invariant-loop-i l = Doing (to_close l.n) l.n (drop l.n l.initial.part) l.initial.part l.part l.i
 
 abbrev pub decreases-loop-i : goal.decreases-loop-i
-decreases-loop-i l = l.initial.part - l.i
+decreases-loop-i l = l.left - l.i

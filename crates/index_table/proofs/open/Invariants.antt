@@ -4,7 +4,7 @@ use Rattle.index_table.proofs.Moves.{Doing, to_open, open_start, open_turn, open
 use Rattle.index_table.proofs.open.Given as goal
 
 abbrev pub invariant-loop-i : goal.invariant-loop-i
-invariant-loop-i l = Doing to_open 2 (take (length l.tag - 2) l.tag) l.tag l.part l.i
+invariant-loop-i l = Doing to_open 2 (take (length l.initial.part - 2) l.initial.part) l.initial.part l.part l.i
 
 abbrev pub decreases-loop-i : goal.decreases-loop-i
 decreases-loop-i l = l.i

@@ -9,7 +9,7 @@ loop-part-init c = starts _ _ _ _ (omega arith)
 pub loop-part-preserved : goal.loop-part-preserved
 loop-part-preserved c =
     shift_turn _ c.loop-part.invariant c.loop-part-test.true
-    c.wrapping_add_u32.ensures
+    c.wrapping_add_u32.ensures.value
 
 pub returns : goal.returns
 unfolding to_shift

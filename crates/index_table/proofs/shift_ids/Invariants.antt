@@ -4,7 +4,7 @@ use Rattle.index_table.proofs.Moves.{Doing, to_shift, starts, shift_turn, shift_
 use Rattle.index_table.proofs.shift_ids.Given as goal
 
 abbrev pub invariant-loop-part : goal.invariant-loop-part
-invariant-loop-part l = Doing (to_shift l.initial.part) 0 (to_shift l.initial.part 0 l.by) l.by l.part l.i
+invariant-loop-part l = Doing (to_shift l.by) 0 (to_shift l.by 0 l.initial.part) l.initial.part l.part l.i
 
 abbrev pub decreases-loop-part : goal.decreases-loop-part
-decreases-loop-part l = length l.by - l.i
+decreases-loop-part l = length l.initial.part - l.i

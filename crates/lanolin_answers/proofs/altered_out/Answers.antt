@@ -6,8 +6,8 @@ use Rattle.format.specs.Answer.{altered_result}
 use Rattle.lanolin_answers.proofs.altered_out.Goals as goal
 
 pub returns-in-Done : goal.returns-in-Done
-returns-in-Done c = sym (ap altered_result c.enum_told-1.given.1)
+returns-in-Done c = sym (ap altered_result c.in-Done.is)
 
 pub returns-in-Refused : goal.returns-in-Refused
 returns-in-Refused c = to_z-of_z (sfits_of c.number.type_inv) ∙ c.number.ensures
-    ∙ sym (ap altered_result c.a-1.given.1)
+    ∙ sym (ap altered_result c.in-Refused.is)

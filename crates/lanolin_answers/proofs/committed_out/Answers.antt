@@ -18,7 +18,7 @@ same : {n n' : ℤ} {i i' : ℕ} {m m' : LfsMdir} {s s' : ℕ} → n ≡ n' → 
 same a b c d = λ k. out (a k) (b k) (c k) (d k)
 
 pub returns-in-Done : goal.returns-in-Done
-returns-in-Done c = sym (ap (committed_out c.args.seed) c.c-1.given.1)
+returns-in-Done c = sym (ap (committed_out c.args.seed) c.in-Done.is)
 
 pub returns-in-Refused : goal.returns-in-Refused
 unfolding out
@@ -28,4 +28,4 @@ returns-in-Refused c =
     same (to_z-of_z (sfits_of n.type-inv) ∙ n.ensures) c.refused_index.ensures
     c.refused_mdir.ensures
     c.refused_seed.ensures
-    ∙ sym (ap (committed_out at-match.args.seed) at-match.c-in-Refused-1.given.1)
+    ∙ sym (ap (committed_out at-match.args.seed) at-match.in-Refused.is)

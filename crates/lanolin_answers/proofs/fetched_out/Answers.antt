@@ -17,7 +17,7 @@ same : {n n' : ℤ} {m m' : LfsMdir} {s s' : ℕ} → n ≡ n' → m ≡ m' → 
 same a b c = λ i. out (a i) (b i) (c i)
 
 pub returns-in-Found : goal.returns-in-Found
-returns-in-Found c = sym (ap (fetched_out c.args.seed) c.f-1.given.1)
+returns-in-Found c = sym (ap (fetched_out c.args.seed) c.in-Found.is)
 
 pub returns-in-Refused : goal.returns-in-Refused
 unfolding out
@@ -25,4 +25,4 @@ returns-in-Refused c =
     let n = c.number in
     let at-match = c.before.before.before.before in
     same (to_z-of_z (sfits_of n.type-inv) ∙ n.ensures) c.refused_mdir.ensures c.refused_seed.ensures
-    ∙ sym (ap (fetched_out at-match.args.seed) at-match.f-in-Refused-1.given.1)
+    ∙ sym (ap (fetched_out at-match.args.seed) at-match.in-Refused.is)

@@ -12,9 +12,9 @@ refused : ℤ → GotOut
 refused n = record { result = n; found = none_found }
 
 pub returns-in-Found : goal.returns-in-Found
-returns-in-Found c = sym (ap got_out c.g-1.given.1)
+returns-in-Found c = sym (ap got_out c.in-Found.is)
 
 pub returns-in-Refused : goal.returns-in-Refused
 unfolding refused
 returns-in-Refused c = ap refused (to_z-of_z (sfits_of c.number.type_inv) ∙ c.number.ensures)
-    ∙ sym (ap got_out c.g-in-Refused-1.given.1)
+    ∙ sym (ap got_out c.in-Refused.is)

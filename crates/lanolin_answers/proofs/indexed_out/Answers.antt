@@ -16,10 +16,10 @@ held n = record { result = pos 0; places = n }
 
 pub returns-in-Places : goal.returns-in-Places
 unfolding held
-returns-in-Places c = ap held c.in_word.ensures ∙ sym (ap indexed_out c.i-1.given.1)
+returns-in-Places c = ap held c.in_word.ensures ∙ sym (ap indexed_out c.in-Places.is)
 
 pub returns-in-Refused : goal.returns-in-Refused
 unfolding out
 returns-in-Refused c =
     let n = c.number in
-    ap out (to_z-of_z (sfits_of n.type-inv) ∙ n.ensures) ∙ sym (ap indexed_out c.i-in-Refused-1.given.1)
+    ap out (to_z-of_z (sfits_of n.type-inv) ∙ n.ensures) ∙ sym (ap indexed_out c.in-Refused.is)

@@ -12,13 +12,13 @@ out : ℤ → NamedOut
 out n = record { result = n; found = false; id = 0 }
 
 pub returns-in-At : goal.returns-in-At
-returns-in-At c = sym (ap named_out c.a-1.given.1)
+returns-in-At c = sym (ap named_out c.in-At.is)
 
 pub returns-in-Nothing : goal.returns-in-Nothing
-returns-in-Nothing c = sym (ap named_out c.enum_told-1.given.1)
+returns-in-Nothing c = sym (ap named_out c.in-Nothing.is)
 
 pub returns-in-Refused : goal.returns-in-Refused
 unfolding out
 returns-in-Refused c =
     let n = c.number in
-    ap out (to_z-of_z (sfits_of n.type-inv) ∙ n.ensures) ∙ sym (ap named_out c.a-in-Refused-1.given.1)
+    ap out (to_z-of_z (sfits_of n.type-inv) ∙ n.ensures) ∙ sym (ap named_out c.in-Refused.is)

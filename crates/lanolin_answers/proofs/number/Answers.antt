@@ -5,43 +5,43 @@ use Rattle.format.specs.Answer.{refusal_number}
 use Rattle.lanolin_answers.proofs.number.Goals as goal
 
 pub returns-in-Invalid : goal.returns-in-Invalid
-returns-in-Invalid c = sym (ap refusal_number c.enum_told-1.given.1)
+returns-in-Invalid c = sym (ap refusal_number c.in-Invalid.is)
 
 pub returns-in-Corrupt : goal.returns-in-Corrupt
-returns-in-Corrupt c = sym (ap refusal_number c.enum_told-in-Corrupt-1.given.1)
+returns-in-Corrupt c = sym (ap refusal_number c.in-Corrupt.is)
 
 pub returns-in-NoEntry : goal.returns-in-NoEntry
-returns-in-NoEntry c = sym (ap refusal_number c.enum_told-in-NoEntry-1.given.1)
+returns-in-NoEntry c = sym (ap refusal_number c.in-NoEntry.is)
 
 pub returns-in-TooMany : goal.returns-in-TooMany
-returns-in-TooMany c = sym (ap refusal_number c.enum_told-in-TooMany-1.given.1)
+returns-in-TooMany c = sym (ap refusal_number c.in-TooMany.is)
 
 pub returns-in-BadEntry : goal.returns-in-BadEntry
-returns-in-BadEntry c = sym (ap refusal_number c.enum_told-in-BadEntry-1.given.1)
+returns-in-BadEntry c = sym (ap refusal_number c.in-BadEntry.is)
 
 pub returns-in-Irregular : goal.returns-in-Irregular
-returns-in-Irregular c = sym (ap refusal_number c.enum_told-in-Irregular-1.given.1)
+returns-in-Irregular c = sym (ap refusal_number c.in-Irregular.is)
 
 pub returns-in-NoSpace : goal.returns-in-NoSpace
-returns-in-NoSpace c = sym (ap refusal_number c.enum_told-in-NoSpace-1.given.1)
+returns-in-NoSpace c = sym (ap refusal_number c.in-NoSpace.is)
 
 pub returns-in-Misaligned : goal.returns-in-Misaligned
-returns-in-Misaligned c = sym (ap refusal_number c.enum_told-in-Misaligned-1.given.1)
+returns-in-Misaligned c = sym (ap refusal_number c.in-Misaligned.is)
 
 pub returns-in-WrongValidity : goal.returns-in-WrongValidity
-returns-in-WrongValidity c = sym (ap refusal_number c.enum_told-in-WrongValidity-1.given.1)
+returns-in-WrongValidity c = sym (ap refusal_number c.in-WrongValidity.is)
 
 pub returns-in-NotErased : goal.returns-in-NotErased
-returns-in-NotErased c = sym (ap refusal_number c.enum_told-in-NotErased-1.given.1)
+returns-in-NotErased c = sym (ap refusal_number c.in-NotErased.is)
 
 pub returns-in-Coincidence : goal.returns-in-Coincidence
-returns-in-Coincidence c = sym (ap refusal_number c.enum_told-in-Coincidence-1.given.1)
+returns-in-Coincidence c = sym (ap refusal_number c.in-Coincidence.is)
 
 pub returns-in-TableFull : goal.returns-in-TableFull
-returns-in-TableFull c = sym (ap refusal_number c.enum_told-in-TableFull-1.given.1)
+returns-in-TableFull c = sym (ap refusal_number c.in-TableFull.is)
 
 pub returns-in-Spent : goal.returns-in-Spent
-returns-in-Spent c = sym (ap refusal_number c.enum_told-in-Spent-1.given.1)
+returns-in-Spent c = sym (ap refusal_number c.in-Spent.is)
 
 pub returns-in-TooDeep : goal.returns-in-TooDeep
-returns-in-TooDeep c = sym (ap refusal_number c.enum_told-in-TooDeep-1.given.1)
+returns-in-TooDeep c = sym (ap refusal_number c.in-TooDeep.is)

@@ -7,10 +7,10 @@ use Rattle.lanolin_answers.proofs.Others.{unindexed}
 use Rattle.lanolin_answers.proofs.refused_index.Goals as goal
 
 pub returns-in-BadEntry : goal.returns-in-BadEntry
-returns-in-BadEntry c = sym (ap refusal_index c.r-1.given.1)
+returns-in-BadEntry c = sym (ap refusal_index c.in-BadEntry.is)
 
 pub returns-in-NotErased : goal.returns-in-NotErased
-returns-in-NotErased c = sym (ap refusal_index c.r-in-NotErased-1.given.1)
+returns-in-NotErased c = sym (ap refusal_index c.in-NotErased.is)
 
 pub returns-in_default : goal.returns-in_default
-returns-in_default c = unindexed c.args.r c.in_default.keys3
+returns-in_default c = unindexed c.args.r c.in_default.in_default-own.keys3

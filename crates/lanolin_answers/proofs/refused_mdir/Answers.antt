@@ -7,7 +7,7 @@ use Rattle.lanolin_answers.proofs.Others.{unread}
 use Rattle.lanolin_answers.proofs.refused_mdir.Goals as goal
 
 pub returns-in-TooMany : goal.returns-in-TooMany
-returns-in-TooMany c = sym (ap refusal_mdir c.r-1.given.1)
+returns-in-TooMany c = sym (ap refusal_mdir c.in-TooMany.is)
 
 pub returns-in_default : goal.returns-in_default
-returns-in_default c = c.zero_mdir.ensures ∙ (unread 0 c.args.r c.in_default.keys2).0
+returns-in_default c = c.zero_mdir.ensures ∙ (unread 0 c.args.r c.in_default.in_default-own.keys2).0

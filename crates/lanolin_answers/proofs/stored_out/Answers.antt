@@ -16,11 +16,11 @@ same : {n n' : ℤ} {i i' : ℕ} → n ≡ n' → i ≡ i' → out n i ≡ out n
 same a b = λ k. out (a k) (b k)
 
 pub returns-in-Made : goal.returns-in-Made
-returns-in-Made c = sym (ap stored_out c.s-1.given.1)
+returns-in-Made c = sym (ap stored_out c.in-Made.is)
 
 pub returns-in-Refused : goal.returns-in-Refused
 unfolding out
 returns-in-Refused c =
     let n = c.number in
     same (to_z-of_z (sfits_of n.type-inv) ∙ n.ensures) c.refused_index.ensures
-    ∙ sym (ap stored_out c.s-in-Refused-1.given.1)
+    ∙ sym (ap stored_out c.in-Refused.is)

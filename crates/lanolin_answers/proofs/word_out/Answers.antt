@@ -11,9 +11,9 @@ refused : ℤ → Value
 refused n = record { result = n; value = 0 }
 
 pub returns-in-Is : goal.returns-in-Is
-returns-in-Is c = sym (ap word_out c.w-1.given.1)
+returns-in-Is c = sym (ap word_out c.in-Is.is)
 
 pub returns-in-Refused : goal.returns-in-Refused
 unfolding refused
 returns-in-Refused c = ap refused (to_z-of_z (sfits_of c.number.type_inv) ∙ c.number.ensures)
-    ∙ sym (ap word_out c.w-in-Refused-1.given.1)
+    ∙ sym (ap word_out c.in-Refused.is)

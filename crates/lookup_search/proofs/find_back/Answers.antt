@@ -15,7 +15,7 @@ loop-at-init c = (omega arith, rw c.lfs_tag_id-ids.ensures)
 pub returns-in_default : goal.returns-in_default
 returns-in_default c = (
   walk_over _ _ _ _ _ _ _ _ c.loop-at.invariant.1
-      (placed_over _ _ _ c.place.ensures c.enum_told-1.given.1),
+      (placed_over _ _ _ c.place.ensures c.in_default.is),
   tt,
 )
 
@@ -24,7 +24,7 @@ returns-then-spliced-tag c = (
       turn_created _ _ _ _ _ _ _ _
           c.loop-at.invariant.1 _
           (placed_at_lem _ _ _ _ c.place.ensures
-          c.at-1.given.1) _ c.key_at-key.ensures _
+          c.in-At.is) _ c.key_at-key.ensures _
           c.splices-spliced.ensures _ c.create_at.ensures c.if-spliced-tag.true,
       tt,
     )
@@ -34,7 +34,7 @@ returns-then-lfs_tag_isdelete c =
     let d = c.before.before.before.before.before.before in (
       turn_removed _ _ _ _ _ _ _ _ d.loop-at.invariant.1 _
           (placed_at_lem _ _ _ _ d.place.ensures
-          d.at-1.given.1) _ d.key_at-key.ensures _
+          d.in-At.is) _ d.key_at-key.ensures _
           d.splices-spliced.ensures _ d.create_at.ensures
           c.if-spliced-tag.false _
           c.diff_after-next.ensures _ c.key_at.ensures
@@ -49,7 +49,7 @@ found_at-requires c =
       arith,
       back_word _ _ _
           (placed_at_lem _ _ _ _ d.place.ensures
-          d.at-1.given.1),
+          d.in-At.is),
     )
 
 pub returns-then-tag-gmask : goal.returns-then-tag-gmask
@@ -57,7 +57,7 @@ returns-then-tag-gmask c =
     let f = c.before in
     let d = f.before.before.before.before.before.before in
     let ends = placed_at_lem _ _ _ _ d.place.ensures
-    d.at-1.given.1 in
+    d.in-At.is in
     let inv = d.loop-at.invariant in
     let kept = sym f.lfs_tag_isdelete.ensures ∙ f.if-lfs_tag_isdelete.false in (
       turn_found _ _ _ _ _ _ _ _ inv.1 _ ends _ d.key_at-key.ensures _
@@ -74,7 +74,7 @@ tag_before-tag-requires c = omega (
   back_word _ _ _
       (placed_at_lem _ _ _ _
       c.place.ensures
-      c.at-1.given.1),
+      c.in-At.is),
 )
 
 pub loop-at-smaller : goal.loop-at-smaller
@@ -83,7 +83,7 @@ loop-at-smaller c = omega (
   back_word _ _ _
       (placed_at_lem _ _ _ _
       c.place.ensures
-      c.at-1.given.1),
+      c.in-At.is),
 )
 
 pub loop-at-preserved : goal.loop-at-preserved
@@ -92,11 +92,11 @@ loop-at-preserved c =
       omega (
         arith,
         back_word _ _ _ (placed_at_lem _ _ _ _
-            d.place.ensures d.at-1.given.1),
+            d.place.ensures d.in-At.is),
       ),
       turn_on _ _ _ _ _ _ _ _ d.loop-at.invariant.1 _
           (placed_at_lem _ _ _ _ d.place.ensures
-          d.at-1.given.1) _ d.key_at-key.ensures _ d.splices-spliced.ensures _
+          d.in-At.is) _ d.key_at-key.ensures _ d.splices-spliced.ensures _
           c.create_at.ensures
           c.if-spliced-tag.false _ c.diff_after-next.ensures _
           c.key_at.ensures c.if-tag-gmask.false _ c.tag_before-tag.ensures,

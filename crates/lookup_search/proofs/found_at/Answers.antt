@@ -11,7 +11,7 @@ made : (t at diff x y : ℕ) → x ≡ plus32 t diff → y ≡ tag_length t
 made t at diff x y ex ey = λ i. record { tag = ex i; length = ey i; off = at + 4 }
 
 pub returns : goal.returns
-returns c = made _ _ _ _ _ c.wrapping_add_u32.ensures c.lfs_tag_dsize.ensures
+returns c = made _ _ _ _ _ c.wrapping_add_u32.ensures.value c.lfs_tag_dsize.ensures
 
 pub overflow_add-result : goal.overflow_add-result
 overflow_add-result c = omega arith

@@ -6,5 +6,5 @@ use Rattle.lookup_search.proofs.Splice.{ids_of}
 use Rattle.lookup_search.proofs.splice_as_ids.Goals as goal
 
 pub returns : goal.returns
-returns c = wraps _ _ _ (omega arith) (omega arith) (omega arith) c.wrapping_sub_u32.ensures ∙ ids_of
+returns c = wraps _ _ _ (omega arith) (omega arith) (omega arith) c.wrapping_sub_u32.ensures.value ∙ ids_of
     c.args.tag _ c.splice_from_lowest.ensures.0

@@ -8,8 +8,8 @@ use Rattle.text.proofs.hex_bytes.Given as goal
 
 abbrev pub invariant-loop-i : goal.invariant-loop-i
 invariant-loop-i l =
-    (l.i ≤ length l.initial.out) × (length l.out ≡ length l.at)
-    × (puts_of (text l.bytes l.at) (hex_bytes l.initial.out) ≡ puts_of (text l.n l.out) (hex_bytes (drop l.i l.initial.out)))
+    (l.i ≤ length l.bytes) × (length l.out ≡ length l.initial.out)
+    × (puts_of (text l.at l.initial.out) (hex_bytes l.bytes) ≡ puts_of (text l.n l.out) (hex_bytes (drop l.i l.bytes)))
 
 abbrev pub decreases-loop-i : goal.decreases-loop-i
-decreases-loop-i l = length l.initial.out - l.i
+decreases-loop-i l = length l.bytes - l.i

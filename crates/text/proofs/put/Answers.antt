@@ -4,7 +4,7 @@ use Rattle.text.proofs.Joined.{put_past, put_stored}
 use Rattle.text.proofs.put.Goals as goal
 
 pub returns-then-out-place : goal.returns-then-out-place
-returns-then-out-place c = put_past _ _ _ _ c.wrapping_add_u32-next.ensures c.if-out-place.true
+returns-then-out-place c = put_past _ _ _ _ c.wrapping_add_u32-next.ensures.value c.if-out-place.true
 
 pub returns : goal.returns
-returns c = put_stored _ _ _ _ c.wrapping_add_u32-next.ensures
+returns c = put_stored _ _ _ _ c.wrapping_add_u32-next.ensures.value

@@ -6,7 +6,7 @@ use Rattle.text.proofs.puts.Given as goal
 
 abbrev pub invariant-loop-i : goal.invariant-loop-i
 invariant-loop-i l =
-    (l.i ≤ length l.initial.out) × (length l.out ≡ length l.at) × (puts_of (text l.bytes l.at) l.initial.out ≡ puts_of (text l.n l.out) (drop l.i l.initial.out))
+    (l.i ≤ length l.bytes) × (length l.out ≡ length l.initial.out) × (puts_of (text l.at l.initial.out) l.bytes ≡ puts_of (text l.n l.out) (drop l.i l.bytes))
 
 abbrev pub decreases-loop-i : goal.decreases-loop-i
-decreases-loop-i l = length l.initial.out - l.i
+decreases-loop-i l = length l.bytes - l.i

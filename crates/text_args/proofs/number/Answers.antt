@@ -18,11 +18,11 @@ loop-i-init c = (number_some _ c.if-text-eq0.false, omega arith)
 pub returns-in_default : goal.returns-in_default
 returns-in_default c = sym (number_on _ _ _ c.loop-i.invariant.0 _
     c.loop-i-test.true
-    (sym c.enum_told-1.given.1 ∙ c.digit_behind.ensures))
+    (sym c.in_default.is ∙ c.digit_behind.ensures))
 
 pub loop-i-preserved : goal.loop-i-preserved
 loop-i-preserved c =
-    let more = sym c.longer-1.given.1 ∙ c.digit_behind.ensures in (
+    let more = sym c.in-Is.is ∙ c.digit_behind.ensures in (
       number_on _ _ _ c.loop-i.invariant.0 _
           c.loop-i-test.true more,
       more_fits _ _ _ more,

@@ -5,11 +5,11 @@ use Rattle.text_audit.proofs.Told.{deadline_none, deadline_unread}
 use Rattle.text_audit.proofs.deadline_line.Goals as goal
 
 pub returns-in_default : goal.returns-in_default
-returns-in_default c = deadline_none _ _ _ _ _ c.enum_told-1.given.1 _ c.lack_line.ensures
+returns-in_default c = deadline_none _ _ _ _ _ c.in_default.is _ c.lack_line.ensures
 
 pub overflow_sub-e : goal.overflow_sub-e
-overflow_sub-e c = (hit_in _ _ c.requires.hit_in_2 c.attribute-1.given.1).counted
+overflow_sub-e c = (hit_in _ _ c.requires.hit_in_2 c.in-Found.is).counted
 
 pub returns : goal.returns
-returns c = deadline_unread _ _ _ _ _ c.attribute-1.given.1 c.requires.hit_in_2 _ _ _ c.lack_line-n.ensures c.decimal-n.ensures
+returns c = deadline_unread _ _ _ _ _ c.in-Found.is c.requires.hit_in_2 _ _ _ c.lack_line-n.ensures c.decimal-n.ensures
     c.puts.ensures

@@ -4,7 +4,7 @@ use Rattle.text_audit.proofs.Told.{instruction_nameless, instruction_named}
 use Rattle.text_audit.proofs.is_instruction.Goals as goal
 
 pub returns-in_default : goal.returns-in_default
-returns-in_default c = instruction_nameless _ c.enum_told-1.given.1
+returns-in_default c = instruction_nameless _ c.in_default.is
 
 pub returns : goal.returns
-returns c = instruction_named _ c.name-1.given.1 _ c.lfs_tag_type3-kind.ensures
+returns c = instruction_named _ c.in-Found.is _ c.lfs_tag_type3-kind.ensures

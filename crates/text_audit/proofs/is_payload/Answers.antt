@@ -4,7 +4,7 @@ use Rattle.text_audit.proofs.Told.{payload_missing, payload_there}
 use Rattle.text_audit.proofs.is_payload.Goals as goal
 
 pub returns-in_default : goal.returns-in_default
-returns-in_default c = payload_missing _ c.enum_told-1.given.1
+returns-in_default c = payload_missing _ c.in_default.is
 
 pub returns : goal.returns
-returns c = payload_there _ c.content-1.given.1 _ c.lfs_tag_type3-kind.ensures
+returns c = payload_there _ c.in-Found.is _ c.lfs_tag_type3-kind.ensures

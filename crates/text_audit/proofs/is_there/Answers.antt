@@ -4,7 +4,7 @@ use Rattle.text_audit.proofs.Told.{not_there, is_there_lem}
 use Rattle.text_audit.proofs.is_there.Goals as goal
 
 pub returns-in-Nothing : goal.returns-in-Nothing
-returns-in-Nothing c = not_there _ c.enum_told-1.given.1
+returns-in-Nothing c = not_there _ c.in-Nothing.is
 
 pub returns-in-Found : goal.returns-in-Found
-returns-in-Found c = is_there_lem _ c.enum_told-in-Found-1.given.1
+returns-in-Found c = is_there_lem _ c.in-Found.is

@@ -5,14 +5,14 @@ use Rattle.text_audit.proofs.Told.{dash_shown, name_shown_lem}
 use Rattle.text_audit.proofs.name_or_dash.Goals as goal
 
 pub returns-in_default : goal.returns-in_default
-returns-in_default c = dash_shown _ c.enum_told-1.given.1 _ _ _
+returns-in_default c = dash_shown _ c.in_default.is _ _ _
     c.puts.ensures
 
 pub overflow_sub-to : goal.overflow_sub-to
-overflow_sub-to c = (hit_in _ _ c.requires c.name-1.given.1).counted
+overflow_sub-to c = (hit_in _ _ c.requires c.in-Found.is).counted
 
 part_name_bytes_end : goal.slice-bounds-name-bytes-end
 part_name_bytes_end c = (hit_in _ _ c.before.before.before.before.before.before.before.before.requires c.before.before.before.before.name.given.1).inside
 
 pub returns : goal.returns
-returns c = name_shown_lem _ c.name-1.given.1 _ _ _ c.name_bytes.ensures
+returns c = name_shown_lem _ c.in-Found.is _ _ _ c.name_bytes.ensures

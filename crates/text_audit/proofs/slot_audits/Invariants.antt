@@ -12,8 +12,8 @@ use Rattle.text_audit.proofs.Steps.{Running, run_starts, run_few, run_next, run_
 use Rattle.text_audit.proofs.slot_audits.Given as goal
 
 abbrev pub invariant-loop-id : goal.invariant-loop-id
-invariant-loop-id l = (l.id ≤ l.initial.out) × (length l.out ≡ length l.b)
-    × Running l.b (dir_of (log l.end)) l.id l.a l.out
+invariant-loop-id l = (l.id ≤ l.count) × (length l.out ≡ length l.initial.out)
+    × Running l.initial.out (dir_of (log l.b)) l.id l.a l.out
 
 abbrev pub decreases-loop-id : goal.decreases-loop-id
-decreases-loop-id l = l.initial.out - l.id
+decreases-loop-id l = l.count - l.id

@@ -5,13 +5,13 @@ use Rattle.text_listing.proofs.Fields.{attr_missing, attr_shown}
 use Rattle.text_listing.proofs.attr_line.Goals as goal
 
 pub returns-in_default : goal.returns-in_default
-returns-in_default c = attr_missing _ _ _ c.enum_told-1.given.1 _
+returns-in_default c = attr_missing _ _ _ c.in_default.is _
 
 pub overflow_sub-to : goal.overflow_sub-to
-overflow_sub-to c = (hit_in _ _ c.requires c.attribute-1.given.1).counted
+overflow_sub-to c = (hit_in _ _ c.requires c.in-Found.is).counted
 
 part_attr_data_end : goal.slice-bounds-attr-data-end
 part_attr_data_end c = (hit_in _ _ c.before.before.before.before.before.before.before.before.before.before.before.before.before.before.before.before.before.before.before.before.before.before.before.before.before.before.before.before.before.before.before.before.requires c.before.before.before.before.before.before.before.before.before.before.before.before.before.before.before.before.before.before.before.before.before.before.before.before.before.before.before.before.attribute.given.1).inside
 
 pub returns : goal.returns
-returns c = attr_shown _ _ _ c.attribute-1.given.1 _ c.lfs_tag_type3.ensures _ _ _ _ _ _ _ _ c.puts-n.ensures c.decimal-n.ensures c.puts-n-2.ensures c.hex_type-n.ensures c.puts-n-3.ensures c.attr_data-n.ensures c.puts.ensures
+returns c = attr_shown _ _ _ c.in-Found.is _ c.lfs_tag_type3.ensures _ _ _ _ _ _ _ _ c.puts-n.ensures c.decimal-n.ensures c.puts-n-2.ensures c.hex_type-n.ensures c.puts-n-3.ensures c.attr_data-n.ensures c.puts.ensures

@@ -5,13 +5,13 @@ use Rattle.text_listing.proofs.Fields.{name_missing, name_shown_lem}
 use Rattle.text_listing.proofs.name_fields.Goals as goal
 
 pub returns-in_default : goal.returns-in_default
-returns-in_default c = name_missing _ _ _ c.enum_told-1.given.1 _ c.puts.ensures
+returns-in_default c = name_missing _ _ _ c.in_default.is _ c.puts.ensures
 
 pub overflow_sub-to : goal.overflow_sub-to
-overflow_sub-to c = (hit_in _ _ c.requires c.name-1.given.1).counted
+overflow_sub-to c = (hit_in _ _ c.requires c.in-Found.is).counted
 
 part_name_bytes_end : goal.slice-bounds-name-bytes-end
 part_name_bytes_end c = (hit_in _ _ c.before.before.before.before.before.before.before.before.before.before.before.before.before.before.before.before.before.before.before.before.before.before.before.requires c.before.before.before.before.before.before.before.before.before.before.before.before.before.before.before.before.before.before.before.name.given.1).inside
 
 pub returns : goal.returns
-returns c = name_shown_lem _ _ _ c.name-1.given.1 _ c.lfs_tag_type3.ensures _ _ _ _ c.puts-n.ensures c.hex_type-n.ensures c.puts-n-2.ensures c.name_bytes.ensures
+returns c = name_shown_lem _ _ _ c.in-Found.is _ c.lfs_tag_type3.ensures _ _ _ _ c.puts-n.ensures c.hex_type-n.ensures c.puts-n-2.ensures c.name_bytes.ensures

@@ -16,9 +16,9 @@ use Rattle.text_listing.proofs.slot_lines.Given as goal
 
 abbrev pub invariant-loop-id : goal.invariant-loop-id
 invariant-loop-id l =
-    (l.id ≤ l.initial.out) × (length l.out ≡ length l.at)
-    × (puts_of (text l.b l.at) (slot_lines 0 (dir_of (log l.end))) ≡ puts_of (text l.n l.out)
-    (slot_lines l.id (drop l.id (dir_of (log l.end)))))
+    (l.id ≤ l.count) × (length l.out ≡ length l.initial.out)
+    × (puts_of (text l.at l.initial.out) (slot_lines 0 (dir_of (log l.b))) ≡ puts_of (text l.n l.out)
+    (slot_lines l.id (drop l.id (dir_of (log l.b)))))
 
 abbrev pub decreases-loop-id : goal.decreases-loop-id
-decreases-loop-id l = l.initial.out - l.id
+decreases-loop-id l = l.count - l.id

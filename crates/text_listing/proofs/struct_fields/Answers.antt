@@ -5,10 +5,10 @@ use Rattle.text_listing.proofs.Fields.{struct_missing, struct_shown}
 use Rattle.text_listing.proofs.struct_fields.Goals as goal
 
 pub returns-in_default : goal.returns-in_default
-returns-in_default c = struct_missing _ _ _ c.enum_told-1.given.1 _ c.puts.ensures
+returns-in_default c = struct_missing _ _ _ c.in_default.is _ c.puts.ensures
 
 pub overflow_sub-e : goal.overflow_sub-e
-overflow_sub-e c = (hit_in _ _ c.requires c.content-1.given.1).counted
+overflow_sub-e c = (hit_in _ _ c.requires c.in-Found.is).counted
 
 pub returns : goal.returns
-returns c = struct_shown _ _ _ c.content-1.given.1 _ c.lfs_tag_type3.ensures c.requires _ _ _ c.puts-n.ensures c.hex_type-n.ensures c.number_line.ensures
+returns c = struct_shown _ _ _ c.in-Found.is _ c.lfs_tag_type3.ensures c.requires _ _ _ c.puts-n.ensures c.hex_type-n.ensures c.number_line.ensures

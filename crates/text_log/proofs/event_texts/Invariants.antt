@@ -12,8 +12,8 @@ use Rattle.text_log.proofs.WalkShown.{turn_entry, turn_check, turn_invalid, turn
 use Rattle.text_log.proofs.event_texts.Given as goal
 
 abbrev pub invariant-loop-tag : goal.invariant-loop-tag
-invariant-loop-tag l = (l.c.at ≤ length l.initial.out) × (length l.out ≡ length l.at) × (puts_of (text l.full l.at)
-    (texts_from l.b l.initial.out l.initial.c) ≡ puts_of (text l.n l.out) (texts_from l.b l.initial.out l.c))
+invariant-loop-tag l = (l.c.at ≤ length l.b) × (length l.out ≡ length l.initial.out) × (puts_of (text l.at l.initial.out)
+    (texts_from l.full l.b l.initial.c) ≡ puts_of (text l.n l.out) (texts_from l.full l.b l.c))
 
 abbrev pub decreases-loop-tag : goal.decreases-loop-tag
-decreases-loop-tag l = length l.initial.out - l.c.at
+decreases-loop-tag l = length l.b - l.c.at

@@ -11,7 +11,7 @@ overflow_sub-result-else-d-lt2147483648 c =
 
 pub returns-then-d-lt2147483648 : goal.returns-then-d-lt2147483648
 returns-then-d-lt2147483648 c = ap (to_z w32) (wraps c.wrapping_sub_u32-d.result c.args.a
-    c.args.b (omega arith) (omega arith) (omega arith) c.wrapping_sub_u32-d.ensures)
+    c.args.b (omega arith) (omega arith) (omega arith) c.wrapping_sub_u32-d.ensures.value)
 
 pub returns-else-d-lt2147483648 : goal.returns-else-d-lt2147483648
 returns-else-d-lt2147483648 c =
@@ -19,4 +19,4 @@ returns-else-d-lt2147483648 c =
     to_z-of_z (negative_fits w32 r (0xffff_ffff - r) (omega arith) (omega arith))
     ∙ negative w32 r (0xffff_ffff - r) (omega arith) (omega arith)
     ∙ ap (to_z w32) (wraps r c.args.a c.args.b (omega arith) (omega arith)
-    (omega arith) c.wrapping_sub_u32-d.ensures)
+    (omega arith) c.wrapping_sub_u32-d.ensures.value)

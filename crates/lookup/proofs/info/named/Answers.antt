@@ -9,7 +9,7 @@ returns-in-Refused c = let a = c.args in
     c.requires.1 _ _
     c.lfs_mktag-gmask.ensures
     c.lfs_mktag-gtag.ensures _
-    c.read.ensures.value _ c.r-1.given.1 _
+    c.read.ensures.value _ c.in-Refused.is _
     c.refused.ensures
 
 pub returns-in-Found : goal.returns-in-Found
@@ -18,6 +18,6 @@ returns-in-Found c = let a = c.args in named_found_lem a.b.now a.dir a.gdisk a.i
     c.lfs_mktag-gmask.ensures
     c.lfs_mktag-gtag.ensures _
     c.read.ensures.value _
-    c.u-1.given.1 _
+    c.in-Found.is _
     c.read.ensures.buffer_after _ _ c.before.type_size.ensures
     c.lfs_tag_type3.ensures

@@ -18,7 +18,7 @@ returns-in-Refused c = let a = c.args in
     info_refused_lem a.b.now a.dir a.gdisk a.name-max a.id (omega arith) (omega arith) _ _
     c.lfs_mktag-gmask.ensures
     c.lfs_mktag-gtag.ensures _
-    c.read.ensures.value _ c.r-1.given.1 _
+    c.read.ensures.value _ c.in-Refused.is _
     c.refused.ensures
 
 pub returns-in-Found : goal.returns-in-Found
@@ -26,5 +26,5 @@ returns-in-Found c = let a = c.args in
     info_found a.b.now a.dir a.gdisk a.name-max a.id (omega arith) (omega arith) _ _
     c.lfs_mktag-gmask.ensures
     c.lfs_mktag-gtag.ensures _
-    c.read.ensures.value _ c.e-1.given.1 _
+    c.read.ensures.value _ c.in-Found.is _
     c.read.ensures.buffer_after _ c.named.ensures

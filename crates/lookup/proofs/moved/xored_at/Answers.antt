@@ -6,12 +6,12 @@ use Rattle.lookup.proofs.moved.xored_at.Goals as goal
 
 pub returns-in-Refused : goal.returns-in-Refused
 returns-in-Refused c = let a = c.args in move_refused a.b.now a.e
-    a.gstate _ c.read_at.ensures.value _ c.r-1.given.1
+    a.gstate _ c.read_at.ensures.value _ c.in-Refused.is
 
 pub returns-in-Found : goal.returns-in-Found
 returns-in-Found c = let a = c.args in move_found
     a.b.now a.e a.gstate _
     c.read_at.ensures.value _
-    c.enum_told-1.given.1 _
+    c.in-Found.is _
     c.read_at.ensures.buffer_after _ _ c.gstate_in-found.ensures
     c.xored.ensures

@@ -7,7 +7,7 @@ use Rattle.lookup_search.proofs.slice.read.Goals as goal
 
 pub read_at-requires : goal.read_at-requires
 read_at-requires c = (hit_in _ _ c.newest.ensures.1
-    c.e-1.given.1).counted
+    c.in-Found.is).counted
 
 pub returns-in-Nothing : goal.returns-in-Nothing
 returns-in-Nothing c = let a = c.args in let n = c.newest in let told =

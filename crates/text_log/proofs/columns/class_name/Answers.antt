@@ -5,32 +5,32 @@ use Rattle.text_log.proofs.columns.class_name.Goals as goal
 
 pub returns-in-0 : goal.returns-in-0
 unfolding class_name name_in
-returns-in-0 c = rw c.in-0.keys1
+returns-in-0 c = rw c.in-0.is
 
 pub returns-in-512 : goal.returns-in-512
 unfolding class_name name_in
-returns-in-512 c = rw c.in-512.keys2
+returns-in-512 c = rw c.in-512.is
 
 pub returns-in-768 : goal.returns-in-768
 unfolding class_name name_in
-returns-in-768 c = rw c.in-768.keys3
+returns-in-768 c = rw c.in-768.is
 
 pub returns-in-1024 : goal.returns-in-1024
 unfolding class_name name_in
-returns-in-1024 c = rw c.in-1024.keys4
+returns-in-1024 c = rw c.in-1024.is
 
 pub returns-in-1280 : goal.returns-in-1280
 unfolding class_name name_in
-returns-in-1280 c = rw c.in-1280.keys5
+returns-in-1280 c = rw c.in-1280.is
 
 pub returns-in-1536 : goal.returns-in-1536
 unfolding class_name name_in
-returns-in-1536 c = rw c.in-1536.keys6
+returns-in-1536 c = rw c.in-1536.is
 
 pub returns-in-1792 : goal.returns-in-1792
 unfolding class_name name_in
-returns-in-1792 c = rw c.in-1792.keys7
+returns-in-1792 c = rw c.in-1792.is
 
 pub returns-in_default : goal.returns-in_default
-returns-in_default c = let n = c.in_default.rest in class_unknown _ n.0.0.0.0.0.0.1 n.0.0.0.0.0.1
+returns-in_default c = let n = c.in_default.in_default-own.rest in class_unknown _ n.0.0.0.0.0.0.1 n.0.0.0.0.0.1
     n.0.0.0.0.1 n.0.0.0.1 n.0.0.1 n.0.1 n.1

@@ -10,9 +10,9 @@ use Rattle.text_log.proofs.DataShown.{lines_start, lines_more, lines_done}
 use Rattle.text_log.proofs.rows.data_lines.Given as goal
 
 abbrev pub invariant-loop-line : goal.invariant-loop-line
-invariant-loop-line l = (l.line ≤ 64) × (length l.out ≡ length l.at) × (puts_of (text l.place l.at)
-    (data_lines 64 l.bytes l.initial.out) ≡ puts_of (text l.n l.out) (data_lines (64 - l.line) (l.bytes + l.line * 16) (drop (l.line * 16)
-    l.initial.out)))
+invariant-loop-line l = (l.line ≤ 64) × (length l.out ≡ length l.initial.out) × (puts_of (text l.at l.initial.out)
+    (data_lines 64 l.place l.bytes) ≡ puts_of (text l.n l.out) (data_lines (64 - l.line) (l.place + l.line * 16) (drop (l.line * 16)
+    l.bytes)))
 
 abbrev pub decreases-loop-line : goal.decreases-loop-line
 decreases-loop-line l = 64 - l.line

@@ -10,8 +10,8 @@ use Rattle.text_log.proofs.DataShown.{cells_start, cells_more, cells_done}
 use Rattle.text_log.proofs.rows.hex_cells.Given as goal
 
 abbrev pub invariant-loop-i : goal.invariant-loop-i
-invariant-loop-i l = (l.i ≤ l.bytes) × (length l.out ≡ length l.at) × (puts_of (text l.places l.at)
-    (hex_cells l.bytes l.initial.out) ≡ puts_of (text l.n l.out) (hex_cells (l.bytes - l.i) (drop l.i l.initial.out)))
+invariant-loop-i l = (l.i ≤ l.places) × (length l.out ≡ length l.initial.out) × (puts_of (text l.at l.initial.out)
+    (hex_cells l.places l.bytes) ≡ puts_of (text l.n l.out) (hex_cells (l.places - l.i) (drop l.i l.bytes)))
 
 abbrev pub decreases-loop-i : goal.decreases-loop-i
-decreases-loop-i l = l.bytes - l.i
+decreases-loop-i l = l.places - l.i
