@@ -1,10 +1,7 @@
 -- `lookup_search::find_back` meets its contract. The loop's invariant: the end is not passed, and what is left of the
 -- walk answers what the whole does. Each way out of a turn is a law of `Turn.antt`. The measure is the offset. Assumes
 -- nothing.
-use Rattle.std.proofs.Common.{◌≡◌, ◌≤◌, sym, ◌∙◌, arith, rules}
-use Rattle.format.specs.Back.{back}
-use Rattle.format.specs.Look.{wlook}
-use Rattle.format.specs.Lookup.{has_ids}
+use Rattle.std.proofs.Common.{sym, ◌∙◌, arith}
 use Rattle.lookup_back.proofs.Step.{back_word, placed_at_lem, placed_over}
 use Rattle.lookup_search.proofs.Turn.{walk_over, turn_created, turn_removed, turn_found, turn_on, turn_inside}
 use Rattle.lookup_search.proofs.find_back.Goals as goal
@@ -21,13 +18,13 @@ returns-in_default c = (
 
 pub returns-then-spliced-tag : goal.returns-then-spliced-tag
 returns-then-spliced-tag c = (
-      turn_created _ _ _ _ _ _ _ _
-          c.loop-at.invariant.1 _
-          (placed_at_lem _ _ _ _ c.place.ensures
-          c.in-At.is) _ c.key_at-key.ensures _
-          c.splices-spliced.ensures _ c.create_at.ensures c.if-spliced-tag.true,
-      tt,
-    )
+  turn_created _ _ _ _ _ _ _ _
+      c.loop-at.invariant.1 _
+      (placed_at_lem _ _ _ _ c.place.ensures
+      c.in-At.is) _ c.key_at-key.ensures _
+      c.splices-spliced.ensures _ c.create_at.ensures c.if-spliced-tag.true,
+  tt,
+)
 
 pub returns-then-lfs_tag_isdelete : goal.returns-then-lfs_tag_isdelete
 returns-then-lfs_tag_isdelete c =
