@@ -1,10 +1,8 @@
 -- `lookup::getgstate_of` meets its contract: the test decides the definitions' case (`Moves.antt`), and the record's
 -- first number the block. Assumes nothing.
 use mathlib.Core.Path.{sym, ◌∙◌}
-use borrow.Author.Tests.{not-false}
 use Rattle.sizes.proofs.Records.{end_inside, block_first, block_second}
 use Rattle.lookup.proofs.Moves.{getgstate_refused, getgstate_read}
-use borrow.Author.Rules.{rules}
 use Rattle.lookup.proofs.getgstate_of.Goals as goal
 
 pub returns-then-not-record_fits : goal.returns-then-not-record_fits
@@ -13,11 +11,11 @@ returns-then-not-record_fits c = let a = c.args in getgstate_refused a.g a.b0.no
 
 pub read-requires : goal.read-requires
 read-requires c = (end_inside _ _ _ _ _ _ (sym c.record_fits.ensures
-    ∙ not-false _ c.if-not-record_fits.false)).0
+    ∙ c.if-not-record_fits.false)).0
 
 pub read-requires-else-pair-n0 : goal.read-requires-else-pair-n0
 read-requires-else-pair-n0 c = (end_inside _ _ _ _ _ _ (sym c.record_fits.ensures
-    ∙ not-false _ c.if-not-record_fits.false)).1
+    ∙ c.if-not-record_fits.false)).1
 
 pub returns-then-pair-n0 : goal.returns-then-pair-n0
 returns-then-pair-n0 c = let a = c.args in getgstate_read a.g
