@@ -27,17 +27,16 @@ returns-then-spliced-tag c = (
 )
 
 pub returns-then-lfs_tag_isdelete : goal.returns-then-lfs_tag_isdelete
-returns-then-lfs_tag_isdelete c =
-    (
-      turn_removed _ _ _ _ _ _ _ _ c.loop-at.invariant.1 _
-          (placed_at_lem _ _ _ _ c.place.ensures
-          c.in-At.is) _ c.key_at.ensures _
-          c.splices-spliced.ensures _ c.create_at.ensures
-          c.if-spliced-tag.false _
-          c.diff_after-next.ensures _ c.key_at.ensures
-          c.if-tag-gmask.true (sym c.lfs_tag_isdelete.ensures ∙ c.if-lfs_tag_isdelete.true),
-      tt,
-    )
+returns-then-lfs_tag_isdelete c = (
+  turn_removed _ _ _ _ _ _ _ _ c.loop-at.invariant.1 _
+      (placed_at_lem _ _ _ _ c.place.ensures
+      c.in-At.is) _ c.key_at-key.ensures _
+      c.splices-spliced.ensures _ c.create_at.ensures
+      c.if-spliced-tag.false _
+      c.diff_after-next.ensures _ c.key_at.ensures
+      c.if-tag-gmask.true (sym c.lfs_tag_isdelete.ensures ∙ c.if-lfs_tag_isdelete.true),
+  tt,
+)
 
 pub found_at-requires : goal.found_at-requires
 found_at-requires c =
@@ -54,7 +53,7 @@ returns-then-tag-gmask c =
     c.in-At.is in
     let inv = c.loop-at.invariant in
     let kept = sym c.lfs_tag_isdelete.ensures ∙ c.if-lfs_tag_isdelete.false in (
-      turn_found _ _ _ _ _ _ _ _ inv.1 _ ends _ c.key_at.ensures _
+      turn_found _ _ _ _ _ _ _ _ inv.1 _ ends _ c.key_at-key.ensures _
           c.splices-spliced.ensures _ c.create_at.ensures
           c.if-spliced-tag.false _
           c.diff_after-next.ensures _ c.key_at.ensures
@@ -81,17 +80,16 @@ loop-at-smaller c = omega (
 )
 
 pub loop-at-preserved : goal.loop-at-preserved
-loop-at-preserved c =
-    (
-      omega (
-        arith,
-        back_word _ _ _ (placed_at_lem _ _ _ _
-            c.place.ensures c.in-At.is),
-      ),
-      turn_on _ _ _ _ _ _ _ _ c.loop-at.invariant.1 _
-          (placed_at_lem _ _ _ _ c.place.ensures
-          c.in-At.is) _ c.key_at.ensures _ c.splices-spliced.ensures _
-          c.create_at.ensures
-          c.if-spliced-tag.false _ c.diff_after-next.ensures _
-          c.key_at.ensures c.if-tag-gmask.false _ c.tag_before-tag.ensures,
-    )
+loop-at-preserved c = (
+  omega (
+    arith,
+    back_word _ _ _ (placed_at_lem _ _ _ _
+        c.place.ensures c.in-At.is),
+  ),
+  turn_on _ _ _ _ _ _ _ _ c.loop-at.invariant.1 _
+      (placed_at_lem _ _ _ _ c.place.ensures
+      c.in-At.is) _ c.key_at-key.ensures _ c.splices-spliced.ensures _
+      c.create_at.ensures
+      c.if-spliced-tag.false _ c.diff_after-next.ensures _
+      c.key_at.ensures c.if-tag-gmask.false _ c.tag_before-tag.ensures,
+)
