@@ -1,6 +1,8 @@
 // Document 02, L4: a slot by its name. The block that fetch chooses is passed over once, forward; the answer is what
 // asking slot by slot gives. Any geometry, images, numbers, block count, seed, name and type, and any number for the
 // rule by which the log must be regular: 0 or 1, "any other -22".
+#![tactic(auto)]
+
 ghost use Rattle.std.specs.Prelude.{◌≡◌};
 ghost use Rattle.format.specs.Find.{find_of};
 
