@@ -8,8 +8,8 @@ ghost use Rattle.format.specs.Find.{find_of};
 
 use format::{Fetched, Geometry, Named, Refusal};
 
-// "the lowest id whose live name has the given bytes and type, or none. .. An empty name is -22, and an irregular log is
-// -202." A type that no name has, and a name longer than any, are asked for in vain.
+// "the lowest id whose live name has the given bytes and type, or none. .. An empty name is -22, and an irregular log
+// is -202." A type that no name has, and a name longer than any, are asked for in vain.
 pub fn lfs_dir_find(
     g: Geometry,
     b0: &[u8],
