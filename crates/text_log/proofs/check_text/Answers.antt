@@ -9,18 +9,10 @@ use borrow.Author.Rules.{rules}
 use Rattle.text_log.proofs.check_text.Goals as goal
 
 pub slice_bounds-full_data-count : goal.slice_bounds-full_data-count
-slice_bounds-full_data-count c = omega (
-  arith,
-  tag_length_ge c.args.tag,
-  c.lfs_tag_dsize.ensures,
-)
+slice_bounds-full_data-count c = omega (arith, tag_length_ge c.args.tag, c.lfs_tag_dsize.ensures)
 
-part_full_data_start : goal.slice-bounds-full-data-start
-part_full_data_start c = omega (
-  arith,
-  tag_length_ge c.before.before.before.before.before.before.before.before.before.before.before.before.before.before.before.before.before.before.before.before.before.before.args.tag,
-  c.before.before.before.before.before.before.before.before.before.before.before.before.before.before.before.before.before.before.before.lfs-tag-dsize.ensures,
-)
+pub slice_bounds-full_data-start : goal.slice_bounds-full_data-start
+slice_bounds-full_data-start c = omega (arith, tag_length_ge c.args.tag, c.lfs_tag_dsize.ensures)
 
 pub full_data-requires : goal.full_data-requires
 full_data-requires c = record { place_bound = omega (
