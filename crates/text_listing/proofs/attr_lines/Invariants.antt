@@ -14,8 +14,7 @@ use Rattle.text_listing.proofs.Loops.{attrs_more, attrs_done}
 use Rattle.text_listing.proofs.attr_lines.Given as goal
 
 abbrev pub invariant-loop-class : goal.invariant-loop-class
-invariant-loop-class l =
-    (l.class ≤ classes) × (length l.out ≡ length l.initial.out)
+invariant-loop-class l = (l.class ≤ classes) × (length l.out ≡ length l.initial.out)
     × (puts_of (text l.at l.initial.out) (attr_lines (2 ^ 8) 2 l.id (slot_in l.b l.seats)) ≡ puts_of (text l.n l.out)
     (attr_lines (classes - l.class) l.class l.id (slot_in l.b l.seats)))
 

@@ -15,8 +15,7 @@ use Rattle.text_input.proofs.Slots.{slots_next, slots_done}
 use Rattle.text_listing.proofs.slot_lines.Given as goal
 
 abbrev pub invariant-loop-id : goal.invariant-loop-id
-invariant-loop-id l =
-    (l.id ≤ l.count) × (length l.out ≡ length l.initial.out)
+invariant-loop-id l = (l.id ≤ l.count) × (length l.out ≡ length l.initial.out)
     × (puts_of (text l.at l.initial.out) (slot_lines 0 (dir_of (log l.b))) ≡ puts_of (text l.n l.out)
     (slot_lines l.id (drop l.id (dir_of (log l.b)))))
 
