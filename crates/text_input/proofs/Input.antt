@@ -51,9 +51,9 @@ block_ends b m w = record { word = w.word; ends = w.ends }
 
 -- x is what the test of regularity answers, by the rule q
 pub block_slots : (b : List ℕ) (m : LfsMdir) (q : Rules) (x : Bool) → Listable b m → x ≡ Regular q (log b)
-    → not x ≡ false → Slots b m.off m.etag m.count
+    → x ≡ true → Slots b m.off m.etag m.count
 block_slots b m q x w ex h =
-    let regular : Regular Littlefs (log b) ≡ true = widest q (log b) (sym ex ∙ not-false x h) in
+    let regular : Regular Littlefs (log b) ≡ true = widest q (log b) (sym ex ∙ h) in
     record {
       word = w.word;
       most = w.most;

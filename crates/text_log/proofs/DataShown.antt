@@ -155,9 +155,9 @@ lines_start place d s =
     rw e
 
 -- ---- below the tag
-pub full_none : (s : Text) (full : Bool) (at : ℕ) (d : List ℕ) → not full ≡ true → s ≡ puts_of s (full_data full at d)
+pub full_none : (s : Text) (full : Bool) (at : ℕ) (d : List ℕ) → full ≡ false → s ≡ puts_of s (full_data full at d)
 unfolding full_data
-full_none s full at d h = rw (not-true full h) (puts_none s)
+full_none s full at d h = rw h (puts_none s)
 
 pub full_shown : (s r : Text) (full : Bool) (at : ℕ) (d : List ℕ) → full ≡ true → r ≡ puts_of s (data_lines 64 at d)
     → r ≡ puts_of s (full_data full at d)
