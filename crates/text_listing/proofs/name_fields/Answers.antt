@@ -10,8 +10,8 @@ returns-in_default c = name_missing _ _ _ c.in_default.is _ c.puts.ensures
 pub overflow_sub-to : goal.overflow_sub-to
 overflow_sub-to c = (hit_in _ _ c.requires c.in-Found.is).counted
 
-part_name_bytes_end : goal.slice-bounds-name-bytes-end
-part_name_bytes_end c = (hit_in _ _ c.before.before.before.before.before.before.before.before.before.before.before.before.before.before.before.before.before.before.before.before.before.before.before.requires c.before.before.before.before.before.before.before.before.before.before.before.before.before.before.before.before.before.before.before.name.given.1).inside
+pub slice_bounds-name_bytes-end : goal.slice_bounds-name_bytes-end
+slice_bounds-name_bytes-end c = (hit_in _ _ c.requires c.in-Found.is).inside
 
 pub returns : goal.returns
 returns c = name_shown_lem _ _ _ c.in-Found.is _ c.lfs_tag_type3.ensures _ _ _ _ c.puts-n.ensures c.hex_type-n.ensures c.puts-n-2.ensures c.name_bytes.ensures
