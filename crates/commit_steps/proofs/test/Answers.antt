@@ -21,8 +21,7 @@ check_tag-requires c =
 
 pub returns-then-coincides : goal.returns-then-coincides
 returns-then-coincides c =
-    let tested = c.before.before.before.before.before.before.before in
-    tested_coincides _ _ _ _ _ _ _ tested.rounded_end.ensures tested.if-b-rounded_end.false _
+    tested_coincides _ _ _ _ _ _ _ c.rounded_end.ensures c.if-b-rounded_end.false _
     c.room.ensures
     c.in-Clean.is _ c.check_tag.ensures _
     c.coincides.ensures c.if-coincides.true
@@ -34,8 +33,7 @@ returns-in-Refused c = tested_no_room _ _ _ _ _ _ _ c.rounded_end.ensures
 
 pub returns-else-coincides : goal.returns-else-coincides
 returns-else-coincides c =
-    let tested = c.before.before.before.before.before.before.before.before in
-    tested_lays _ _ _ _ _ _ _ tested.rounded_end.ensures tested.if-b-rounded_end.false _
+    tested_lays _ _ _ _ _ _ _ c.rounded_end.ensures c.if-b-rounded_end.false _
     c.room.ensures
     c.in-Clean.is _
     c.check_tag.ensures _ c.coincides.ensures _

@@ -8,23 +8,24 @@ use Rattle.fetch.specs.Read.{Readables}
 use Rattle.fetch.proofs.Answers.{readables, readables_swapped, fetch_invalid, fetch_high, fetch_high_2}
 use Rattle.fetch.proofs.Answers.{fetch_second, fetch_first}
 use borrow.Author.Rules.{rules}
+use Rattle.fetch.proofs.lfs_dir_fetch.Goals.{Else-not-pair_fits, Else-too_high, Else-too_high-2}
 use Rattle.fetch.proofs.lfs_dir_fetch.Goals as goal
 
 -- what the tests left, at the places where they were made
-ok : (c : goal.Else-not-pair_fits) → (let a = c.args in pair_fits a.g (length a.b0.now)
+ok : (c : Else-not-pair_fits) → (let a = c.args in pair_fits a.g (length a.b0.now)
     (length a.b1.now) a.n0 a.n1) ≡ true
 ok c = sym c.pair_fits.ensures ∙ c.if-not-pair_fits.false
 
-fits : (c : goal.Else-not-pair_fits) → (let a = c.args in Readables a.g.prog_size a.b0.now
+fits : (c : Else-not-pair_fits) → (let a = c.args in Readables a.g.prog_size a.b0.now
     a.b1.now)
 fits c = let a = c.args in readables a.g a.b0.now a.b1.now a.n0 a.n1
     (ok c)
 
-low0 : (c : goal.Else-too_high) → (let a = c.args in too_high a.block-count
+low0 : (c : Else-too_high) → (let a = c.args in too_high a.block-count
     a.n0) ≡ false
 low0 c = sym c.too_high.ensures ∙ c.if-too_high.false
 
-low1 : (c : goal.Else-too_high-2) → (let a = c.args in too_high
+low1 : (c : Else-too_high-2) → (let a = c.args in too_high
     a.block-count a.n1) ≡ false
 low1 c = sym c.too_high-2.ensures ∙ c.if-too_high-2.false
 

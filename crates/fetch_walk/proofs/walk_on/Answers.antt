@@ -10,15 +10,16 @@ use Rattle.fetch_walk.specs.declared.cursor.Seen.TheVariants.{Entry, Check}
 use Rattle.fetch_walk.proofs.Turns.{turn_entry, turn_check, turn_invalid, turn_past, entry_moved, entry_room}
 use Rattle.fetch_walk.proofs.Turns.{check_moved}
 use borrow.Author.Rules.{rules}
+use Rattle.fetch_walk.proofs.walk_on.Goals.{In-Check, In-Entry}
 use Rattle.fetch_walk.proofs.walk_on.Goals as goal
 
 -- what was seen, at the places where an arm knows it
-saw_entry : (c : goal.In-Entry-2)
+saw_entry : (c : In-Entry)
     → next_of c.args.b.now c.loop-tag.c
     ≡ Entry c.in-Entry.tag c.in-Entry.behind
 saw_entry c = sym c.next.ensures ∙ c.in-Entry.is
 
-saw_check : (c : goal.In-Check-2)
+saw_check : (c : In-Check)
     → next_of c.args.b.now c.loop-tag.c
     ≡ Check c.in-Check.sum c.in-Check.behind
 saw_check c = sym c.next.ensures ∙ c.in-Check.is

@@ -31,11 +31,11 @@ returns-then-spliced-tag c = (
 
 pub returns-then-lfs_tag_isdelete : goal.returns-then-lfs_tag_isdelete
 returns-then-lfs_tag_isdelete c =
-    let d = c.before.before.before.before.before.before in (
-      turn_removed _ _ _ _ _ _ _ _ d.loop-at.invariant.1 _
-          (placed_at_lem _ _ _ _ d.place.ensures
-          d.in-At.is) _ d.key_at-key.ensures _
-          d.splices-spliced.ensures _ d.create_at.ensures
+    (
+      turn_removed _ _ _ _ _ _ _ _ c.loop-at.invariant.1 _
+          (placed_at_lem _ _ _ _ c.place.ensures
+          c.in-At.is) _ c.key_at.ensures _
+          c.splices-spliced.ensures _ c.create_at.ensures
           c.if-spliced-tag.false _
           c.diff_after-next.ensures _ c.key_at.ensures
           c.if-tag-gmask.true (sym c.lfs_tag_isdelete.ensures ∙ c.if-lfs_tag_isdelete.true),
@@ -44,27 +44,24 @@ returns-then-lfs_tag_isdelete c =
 
 pub found_at-requires : goal.found_at-requires
 found_at-requires c =
-    let d = c.before.before.before.before.before.before in
     omega (
       arith,
       back_word _ _ _
-          (placed_at_lem _ _ _ _ d.place.ensures
-          d.in-At.is),
+          (placed_at_lem _ _ _ _ c.place.ensures
+          c.in-At.is),
     )
 
 pub returns-then-tag-gmask : goal.returns-then-tag-gmask
 returns-then-tag-gmask c =
-    let f = c.before in
-    let d = f.before.before.before.before.before.before in
-    let ends = placed_at_lem _ _ _ _ d.place.ensures
-    d.in-At.is in
-    let inv = d.loop-at.invariant in
-    let kept = sym f.lfs_tag_isdelete.ensures ∙ f.if-lfs_tag_isdelete.false in (
-      turn_found _ _ _ _ _ _ _ _ inv.1 _ ends _ d.key_at-key.ensures _
-          d.splices-spliced.ensures _ d.create_at.ensures
-          f.if-spliced-tag.false _
-          f.diff_after-next.ensures _ f.key_at.ensures
-          f.if-tag-gmask.true kept _ c.found_at.ensures,
+    let ends = placed_at_lem _ _ _ _ c.place.ensures
+    c.in-At.is in
+    let inv = c.loop-at.invariant in
+    let kept = sym c.lfs_tag_isdelete.ensures ∙ c.if-lfs_tag_isdelete.false in (
+      turn_found _ _ _ _ _ _ _ _ inv.1 _ ends _ c.key_at.ensures _
+          c.splices-spliced.ensures _ c.create_at.ensures
+          c.if-spliced-tag.false _
+          c.diff_after-next.ensures _ c.key_at.ensures
+          c.if-tag-gmask.true kept _ c.found_at.ensures,
       turn_inside _ _ _ _ _ ends kept inv.0 _ c.found_at.ensures,
     )
 
@@ -88,15 +85,15 @@ loop-at-smaller c = omega (
 
 pub loop-at-preserved : goal.loop-at-preserved
 loop-at-preserved c =
-    let d = c.before.before.before.before.before.before in (
+    (
       omega (
         arith,
         back_word _ _ _ (placed_at_lem _ _ _ _
-            d.place.ensures d.in-At.is),
+            c.place.ensures c.in-At.is),
       ),
-      turn_on _ _ _ _ _ _ _ _ d.loop-at.invariant.1 _
-          (placed_at_lem _ _ _ _ d.place.ensures
-          d.in-At.is) _ d.key_at-key.ensures _ d.splices-spliced.ensures _
+      turn_on _ _ _ _ _ _ _ _ c.loop-at.invariant.1 _
+          (placed_at_lem _ _ _ _ c.place.ensures
+          c.in-At.is) _ c.key_at.ensures _ c.splices-spliced.ensures _
           c.create_at.ensures
           c.if-spliced-tag.false _ c.diff_after-next.ensures _
           c.key_at.ensures c.if-tag-gmask.false _ c.tag_before-tag.ensures,

@@ -5,19 +5,20 @@ use Rattle.format.specs.Tag.{tag_type1}
 use Rattle.fetch_walk.proofs.Steps.{enter_name, enter_splice, enter_tail, enter_forward, enter_other, tail_reads}
 use Rattle.fetch_walk.proofs.Steps.{forward_reads}
 use borrow.Author.Rules.{rules}
+use Rattle.fetch_walk.proofs.dir.DirState.entry.Goals.{Else-type1-eq-LFS_TYPE_NAME, Else-type1-eq-LFS_TYPE_SPLICE, Else-type1-eq-LFS_TYPE_TAIL, Then-type1-eq-LFS_TYPE_TAIL}
 use Rattle.fetch_walk.proofs.dir.DirState.entry.Goals as goal
 
 -- what the tests said, at the places where they were made
-not_name : (c : goal.Else-type1-eq-LFS_TYPE_NAME) → tag_type1 c.args.tag ≡ 0 → ⊥
+not_name : (c : Else-type1-eq-LFS_TYPE_NAME) → tag_type1 c.args.tag ≡ 0 → ⊥
 not_name c q = c.if-type1-eq-LFS_TYPE_NAME.false (c.lfs_tag_type1-type1.ensures ∙ q)
 
-not_splice : (c : goal.Else-type1-eq-LFS_TYPE_SPLICE) → tag_type1 c.args.tag ≡ 0x400 → ⊥
+not_splice : (c : Else-type1-eq-LFS_TYPE_SPLICE) → tag_type1 c.args.tag ≡ 0x400 → ⊥
 not_splice c q = c.if-type1-eq-LFS_TYPE_SPLICE.false (c.lfs_tag_type1-type1.ensures ∙ q)
 
-is_tail_lem : (c : goal.Then-type1-eq-LFS_TYPE_TAIL) → tag_type1 c.args.tag ≡ 0x600
+is_tail_lem : (c : Then-type1-eq-LFS_TYPE_TAIL) → tag_type1 c.args.tag ≡ 0x600
 is_tail_lem c = sym c.lfs_tag_type1-type1.ensures ∙ c.if-type1-eq-LFS_TYPE_TAIL.true
 
-not_tail : (c : goal.Else-type1-eq-LFS_TYPE_TAIL) → tag_type1 c.args.tag ≡ 0x600 → ⊥
+not_tail : (c : Else-type1-eq-LFS_TYPE_TAIL) → tag_type1 c.args.tag ≡ 0x600 → ⊥
 not_tail c q = c.if-type1-eq-LFS_TYPE_TAIL.false (c.lfs_tag_type1-type1.ensures ∙ q)
 
 pub returns-then-type1-eq-LFS_TYPE_NAME : goal.returns-then-type1-eq-LFS_TYPE_NAME
