@@ -18,10 +18,13 @@ pub gather-seats-requires : goal.gather-seats-requires
 gather-seats-requires c = slot_gathers _ _ _ _ c.requires _ (omega arith)
 
 pub slot_audit-a-requires : goal.slot_audit-a-requires
-slot_audit-a-requires c = record { all_inside = c.gather-seats.ensures.inside; few = run_few _ _ _ _ _ (omega (
+slot_audit-a-requires c = record {
+  all_inside = c.gather-seats.ensures.inside;
+  few = run_few _ _ _ _ _ (omega (
     arith,
     slots_few _ _ _ _ c.requires,
-  )) c.loop-id.invariant.2 }
+  )) c.loop-id.invariant.2;
+}
 
 pub loop-id-preserved : goal.loop-id-preserved
 loop-id-preserved c = (

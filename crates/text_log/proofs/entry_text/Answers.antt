@@ -21,12 +21,15 @@ pub slice_bounds-full_data-start : goal.slice_bounds-full_data-start
 slice_bounds-full_data-start c = omega (arith, tag_length_ge c.args.tag, c.lfs_tag_dsize.ensures)
 
 pub full_data-requires : goal.full_data-requires
-full_data-requires c = record { place_bound = omega (
+full_data-requires c = record {
+  place_bound = omega (
     arith,
     c.requires.most,
     c.requires.whole,
     tag_length_ge c.args.tag,
-  ); bytes_len_bound = data_short _ _ _ _ c.lfs_tag_dsize.ensures }
+  );
+  bytes_len_bound = data_short _ _ _ _ c.lfs_tag_dsize.ensures;
+}
 
 pub returns : goal.returns
 unfolding entry_text
