@@ -33,35 +33,35 @@ pub returns-then-not-pair_fits : goal.returns-then-not-pair_fits
 returns-then-not-pair_fits c = fetch_invalid _ _ _ _ _ _ _ (sym c.pair_fits.ensures ∙ c.if-not-pair_fits.true)
 
 pub returns-then-too_high : goal.returns-then-too_high
-returns-then-too_high c = fetch_high _ _ _ _ _ _ _ (ok c.before.before) (sym c.too_high.ensures ∙ c.if-too_high.true)
+returns-then-too_high c = fetch_high _ _ _ _ _ _ _ (ok (goal.at.returns-then-too_high c).Else-not-pair_fits) (sym c.too_high.ensures ∙ c.if-too_high.true)
 
 pub returns-then-too_high-2 : goal.returns-then-too_high-2
-returns-then-too_high-2 c = fetch_high_2 _ _ _ _ _ _ _ (ok c.before.before.before.before) (low0 c.before.before)
+returns-then-too_high-2 c = fetch_high_2 _ _ _ _ _ _ _ (ok (goal.at.returns-then-too_high-2 c).Else-not-pair_fits) (low0 (goal.at.returns-then-too_high-2 c).Else-too_high)
     (sym c.too_high-2.ensures ∙ c.if-too_high-2.true)
 
 pub le32-rev0-requires : goal.le32-rev0-requires
-le32-rev0-requires c = (fits c.before.before.before.before).low
+le32-rev0-requires c = (fits (goal.at.le32-rev0-requires c).Else-not-pair_fits).low
 
 pub le32-rev1-requires : goal.le32-rev1-requires
-le32-rev1-requires c = (fits c.before.before.before.before.before).other_low
+le32-rev1-requires c = (fits (goal.at.le32-rev1-requires c).Else-not-pair_fits).other_low
 
 pub in_order-requires : goal.in_order-requires
 in_order-requires c = readables_swapped _ _ _ _ _
-    (ok c.before.before.before.before.before.before.before.before)
+    (ok (goal.at.in_order-requires c).Else-not-pair_fits)
 
 pub in_order-requires-else-second_first : goal.in_order-requires-else-second_first
-in_order-requires-else-second_first c = fits c.before.before.before.before.before.before.before.before
+in_order-requires-else-second_first c = fits (goal.at.in_order-requires-else-second_first c).Else-not-pair_fits
 
 pub returns-then-second_first : goal.returns-then-second_first
 returns-then-second_first c = c.in_order.ensures ∙ fetch_second _ _ _ _ _ _ _
-    (ok c.before.before.before.before.before.before.before.before.before)
-    (low0 c.before.before.before.before.before.before.before)
-    (low1 c.before.before.before.before.before) _ _ c.le32-rev0.ensures
+    (ok (goal.at.returns-then-second_first c).Else-not-pair_fits)
+    (low0 (goal.at.returns-then-second_first c).Else-too_high)
+    (low1 (goal.at.returns-then-second_first c).Else-too_high-2) _ _ c.le32-rev0.ensures
     c.le32-rev1.ensures (sym c.second_first.ensures ∙ c.if-second_first.true)
 
 pub returns-else-second_first : goal.returns-else-second_first
 returns-else-second_first c = c.in_order-else-second_first.ensures ∙ fetch_first _ _ _ _ _ _ _
-    (ok c.before.before.before.before.before.before.before.before.before)
-    (low0 c.before.before.before.before.before.before.before)
-    (low1 c.before.before.before.before.before) _ _ c.le32-rev0.ensures
+    (ok (goal.at.returns-else-second_first c).Else-not-pair_fits)
+    (low0 (goal.at.returns-else-second_first c).Else-too_high)
+    (low1 (goal.at.returns-else-second_first c).Else-too_high-2) _ _ c.le32-rev0.ensures
     c.le32-rev1.ensures (sym c.second_first.ensures ∙ c.if-second_first.false)

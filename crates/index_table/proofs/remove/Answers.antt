@@ -6,7 +6,7 @@ use Rattle.index_table.proofs.remove.Goals as goal
 pub returns : goal.returns
 returns c P h =
     (
-      omega (arith, search rules, search rules),
+      search rules,
       removed h _ _ _ _ _ c.rank_at.ensures c.rank_at-2.ensures c.seek-first.ensures
           c.seek-last.ensures c.close.ensures c.shift_ids.ensures,
     )
