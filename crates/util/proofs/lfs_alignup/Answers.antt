@@ -10,5 +10,5 @@ returns c =
     let s = c.wrapping_add_u32-above in
     let d = c.wrapping_sub_u32 in
     let e : d.result ≡ minus32 (plus32 c.args.a c.args.alignment) 1 =
-    omega (arith, s.ensures, s.type-inv, d.ensures, d.type-inv) in
+    omega (arith, s.ensures, s.type_inv, d.ensures, d.type_inv) in
     c.lfs_aligndown.ensures ∙ ap (λ (x : ℕ). align_down x c.args.alignment) e
