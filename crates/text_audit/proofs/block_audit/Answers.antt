@@ -12,15 +12,15 @@ pub returns-then-not-log_regular : goal.returns-then-not-log_regular
 returns-then-not-log_regular c =
     block_irregular _ _ _ c.args.rules _ c.rules_of.ensures _
     c.log_regular.ensures _
-    (ap not c.if-not-log_regular.true) c.refused.ensures
+    c.if-not-log_regular.true c.refused.ensures
 
 pub slot_audits-a-requires : goal.slot_audits-a-requires
-slot_audits-a-requires c = block_slots _ _ _ _ c.requires c.log_regular.ensures (ap not c.if-not-log_regular.false)
+slot_audits-a-requires c = block_slots _ _ _ _ c.requires c.log_regular.ensures c.if-not-log_regular.false
 
 pub returns : goal.returns
 returns c =
     block_audited _ _ _ c.args.rules _ c.rules_of.ensures _
-    c.log_regular.ensures _ _ _ (ap not c.if-not-log_regular.false) (block_slots _ _ _ _ c.requires c.log_regular.ensures
-    (ap not c.if-not-log_regular.false))
+    c.log_regular.ensures _ _ _ c.if-not-log_regular.false (block_slots _ _ _ _ c.requires c.log_regular.ensures
+    c.if-not-log_regular.false)
     c.slot_audits-a.ensures
     c.total_lines.ensures

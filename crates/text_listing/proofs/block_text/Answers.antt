@@ -13,13 +13,13 @@ returns-then-not-log_regular c =
     block_irregular _ _ _ _ _ c.args.rules _ c.rules_of.ensures _
     c.log_regular.ensures
     c.record_lines-n.ensures
-    (ap not c.if-not-log_regular.true) c.refused.ensures
+    c.if-not-log_regular.true c.refused.ensures
 
 pub slot_lines-requires : goal.slot_lines-requires
 slot_lines-requires c = block_slots _ _ _ _ c.requires c.log_regular.ensures
-    (ap not c.if-not-log_regular.false)
+    c.if-not-log_regular.false
 
 pub returns : goal.returns
 returns c =
     block_regular _ _ _ _ _ c.args.rules _ c.rules_of.ensures _ c.log_regular.ensures
-    c.record_lines-n.ensures (ap not c.if-not-log_regular.false) c.slot_lines.ensures
+    c.record_lines-n.ensures c.if-not-log_regular.false c.slot_lines.ensures
