@@ -9,7 +9,7 @@ use Rattle.commit_steps.proofs.begin.Goals as goal
 pub returns-then-not-fits : goal.returns-then-not-fits
 returns-then-not-fits c =
     let a = c.args in
-    begins_broken a.g a.b0.now a.b1.now a.n0 a.n1 a.block-count a.seed a.rules a.erased
+    begins_broken a.g a.b0.now a.b1.now a.n0 a.n1 a.block_count a.seed a.rules a.erased
     a.entries a.dat.now _ _ c.pair_fits.ensures c.writes_fit.ensures _
     (ap not c.if-not-fits.true)
     c.refused.ensures
@@ -25,7 +25,7 @@ start-requires-else-m-n0 c = ends_second _ _ _ _ _ _ _ _ _ (sym c.in-Found.is
 pub returns-in-Refused : goal.returns-in-Refused
 returns-in-Refused c =
     let a = c.args in
-    begins_refused a.g a.b0.now a.b1.now a.n0 a.n1 a.block-count a.seed a.rules a.erased
+    begins_refused a.g a.b0.now a.b1.now a.n0 a.n1 a.block_count a.seed a.rules a.erased
     a.entries a.dat.now _ _ c.pair_fits.ensures c.writes_fit.ensures
     (ap not c.if-not-fits.false) _ _
     (sym c.lfs_dir_fetch.ensures ∙ c.in-Refused.is)
@@ -34,7 +34,7 @@ returns-in-Refused c =
 pub returns-then-m-n0 : goal.returns-then-m-n0
 returns-then-m-n0 c =
     let a = c.args in
-    begins_first a.g a.b0.now a.b1.now a.n0 a.n1 a.block-count a.seed a.rules a.erased
+    begins_first a.g a.b0.now a.b1.now a.n0 a.n1 a.block_count a.seed a.rules a.erased
     a.entries a.dat.now _ _ c.pair_fits.ensures c.writes_fit.ensures
     (ap not c.if-not-fits.false) _ _
     (sym c.lfs_dir_fetch.ensures
@@ -44,7 +44,7 @@ returns-then-m-n0 c =
 pub returns-else-m-n0 : goal.returns-else-m-n0
 returns-else-m-n0 c =
     let a = c.args in
-    begins_second a.g a.b0.now a.b1.now a.n0 a.n1 a.block-count a.seed a.rules a.erased
+    begins_second a.g a.b0.now a.b1.now a.n0 a.n1 a.block_count a.seed a.rules a.erased
     a.entries a.dat.now _ _ c.pair_fits.ensures c.writes_fit.ensures
     (ap not c.if-not-fits.false) _ _
     (sym c.lfs_dir_fetch.ensures

@@ -21,12 +21,12 @@ fits : (c : Else-not-pair_fits) → (let a = c.args in Readables a.g.prog_size a
 fits c = let a = c.args in readables a.g a.b0.now a.b1.now a.n0 a.n1
     (ok c)
 
-low0 : (c : Else-too_high) → (let a = c.args in too_high a.block-count
+low0 : (c : Else-too_high) → (let a = c.args in too_high a.block_count
     a.n0) ≡ false
 low0 c = sym c.too_high.ensures ∙ c.if-too_high.false
 
 low1 : (c : Else-too_high-2) → (let a = c.args in too_high
-    a.block-count a.n1) ≡ false
+    a.block_count a.n1) ≡ false
 low1 c = sym c.too_high-2.ensures ∙ c.if-too_high-2.false
 
 pub returns-then-not-pair_fits : goal.returns-then-not-pair_fits
