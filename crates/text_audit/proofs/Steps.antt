@@ -8,7 +8,6 @@ use native.Mathlib.Numerals.{add-one}
 use native.Mathlib.Omega.{arith}
 use lib.ListN.{length, drop, get_or, drop_of_length-le}
 use lib.Seq.{drop-cons}
-use borrow.Author.Tests.{not-true, not-false}
 use Rattle.format.specs.Log.{log}
 use Rattle.format.specs.Regular.{Regular, rules_of}
 use Rattle.format.specs.declared.Rules.{Rules}

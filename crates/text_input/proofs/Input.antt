@@ -9,7 +9,7 @@ use lib.IntN.{pos, neg_ℤ}
 use lib.ListN.{length, take, drop, length-drop}
 use lib.Dec.{eqb, ltb}
 use lib.Seq.{take_all}
-use borrow.Author.Tests.{not-false, eq-eqb, ne_eqb, lt-ltb, le-ltb, lt-leb, le-leb}
+use borrow.Author.Tests.{eq-eqb, ne_eqb, lt-ltb, le-ltb, lt-leb, le-leb}
 use Rattle.format.specs.Log.{log}
 use Rattle.format.specs.Answer.{refusal_number}
 use Rattle.format.specs.Fetch.{fetch_of}

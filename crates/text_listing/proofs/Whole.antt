@@ -1,9 +1,8 @@
 -- The lines of a record, a refusal, a block and a pair. Assumes nothing.
 use mathlib.Core.Path.{◌≡◌, sym, ap, ◌∙◌}
-use mathlib.Core.Bool.{Bool, true, false, not, cond}
+use mathlib.Core.Bool.{Bool, true, false, cond}
 use mathlib.Core.List.{List, ◌++◌}
-use Prim.Native.Nat.{ℕ, ◌-◌}
-use borrow.Author.Tests.{not-true, not-false}
+use Prim.Native.Nat.{ℕ}
 use Rattle.format.specs.Log.{log}
 use Rattle.format.specs.Regular.{Regular, rules_of}
 use Rattle.format.specs.declared.Rules.{Rules}

@@ -1,13 +1,12 @@
 -- Data in hex and as letters: a place for a byte, a row of places, the lines of it. Assumes nothing.
 use mathlib.Core.Path.{◌≡◌, refl, sym, ap, ap₂, ◌∙◌}
-use mathlib.Core.Bool.{Bool, true, false, not, ◌&&◌, ◌||◌}
+use mathlib.Core.Bool.{Bool, true, false, ◌&&◌, ◌||◌}
 use mathlib.Core.List.{List, [], ◌∷◌, ◌++◌}
 use Prim.Native.Nat.{ℕ, zero, suc, ◌+◌, ◌*◌, ◌-◌, ◌≤◌, ◌<◌}
 use native.Mathlib.Omega.{arith}
 use lib.ListN.{length, get_or, take, drop, length-drop, drop_of_length-le}
 use lib.Seq.{drop-cons, drop-drop, take_all}
 use lib.Dec.{leb, eqb}
-use borrow.Author.Tests.{not-true}
 use Rattle.format.specs.Listing.{ascii, hex_byte}
 use Rattle.format.specs.RawLog.{cell, hex_cells, letter, letters, cells, cut_data, data_line, data_lines, full_data}
 use Rattle.text.specs.Put.{Text, puts_of}

@@ -1,8 +1,6 @@
 -- `text_audit::block_audit` meets its contract: -202, or the slots and the three lines. Assumes nothing.
-use borrow.Author.Rules.{rules}
 use Rattle.text_input.proofs.Input.{block_ends, block_slots}
 use Rattle.text_audit.proofs.Steps.{block_irregular, block_audited}
-use Rattle.std.proofs.Common.{ap, not}
 use Rattle.text_audit.proofs.block_audit.Goals as goal
 
 pub log_regular-requires : goal.log_regular-requires

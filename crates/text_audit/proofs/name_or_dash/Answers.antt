@@ -1,5 +1,4 @@
 -- `text_audit::name_or_dash` meets its contract: a dash, or the name. Assumes nothing.
-use borrow.Author.Rules.{rules}
 use Rattle.format.proofs.Searched.{hit_in}
 use Rattle.text_audit.proofs.Told.{dash_shown, name_shown_lem}
 use Rattle.text_audit.proofs.name_or_dash.Goals as goal

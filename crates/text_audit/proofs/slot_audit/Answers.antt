@@ -3,7 +3,6 @@ use mathlib.Core.Path.{ap}
 use native.Mathlib.Omega.{arith}
 use Rattle.format.specs.Audit.{deadline_class}
 use Rattle.theory.specs.Lookup.ByMask.{holds}
-use borrow.Author.Rules.{rules}
 use Rattle.text_audit.proofs.Steps.{Asked, tells_deadline, tells_payload, slot_no_deadline, slot_no_payload}
 use Rattle.text_audit.proofs.Steps.{slot_whole}
 use Rattle.text_audit.proofs.slot_audit.Goals as goal

@@ -1,5 +1,4 @@
 -- `text_listing::attr_line` meets its contract: nothing, or a line. Assumes nothing.
-use borrow.Author.Rules.{rules}
 use Rattle.format.proofs.Searched.{hit_in}
 use Rattle.text_listing.proofs.Fields.{attr_missing, attr_shown}
 use Rattle.text_listing.proofs.attr_line.Goals as goal

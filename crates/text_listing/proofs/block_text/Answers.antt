@@ -1,8 +1,6 @@
 -- `text_listing::block_text` meets its contract: the record, and then -202 or the slots. Assumes nothing.
-use borrow.Author.Rules.{rules}
 use Rattle.text_listing.proofs.Whole.{block_irregular, block_regular}
 use Rattle.text_input.proofs.Input.{block_ends, block_slots}
-use Rattle.std.proofs.Common.{ap, not}
 use Rattle.text_listing.proofs.block_text.Goals as goal
 
 pub log_regular-requires : goal.log_regular-requires

@@ -1,5 +1,4 @@
 -- `text_listing::name_fields` meets its contract: two dashes, or type and name. Assumes nothing.
-use borrow.Author.Rules.{rules}
 use Rattle.format.proofs.Searched.{hit_in}
 use Rattle.text_listing.proofs.Fields.{name_missing, name_shown_lem}
 use Rattle.text_listing.proofs.name_fields.Goals as goal

@@ -1,7 +1,5 @@
 -- `text_log::block_logs` meets its contract: nothing, or both blocks. Assumes nothing.
 use Rattle.text_log.proofs.PairShown.{shown_none, front_reached, back_reached, shown_both}
-use borrow.Author.Rules.{rules}
-use Rattle.std.proofs.Common.{ap, not}
 use Rattle.text_log.proofs.block_logs.Goals as goal
 
 pub returns-then-not-is_shown : goal.returns-then-not-is_shown

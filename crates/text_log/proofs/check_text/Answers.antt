@@ -5,7 +5,6 @@ use native.Mathlib.Omega.{arith}
 use Rattle.format.proofs.Words.{tag_length_ge}
 use Rattle.text.proofs.Joined.{join, same_part}
 use Rattle.text_log.proofs.WalkShown.{data_cut, data_short}
-use borrow.Author.Rules.{rules}
 use Rattle.text_log.proofs.check_text.Goals as goal
 
 pub slice_bounds-full_data-count : goal.slice_bounds-full_data-count

@@ -1,7 +1,6 @@
 -- `text_log::columns::type_name` meets its contract, by the type's arm. Assumes nothing.
 use Rattle.format.specs.RawLog.{name_in}
 use Rattle.text_log.proofs.TagShown.{type_other}
-use borrow.Author.Rules.{rules}
 use Rattle.std.proofs.Common.{arith}
 use Rattle.text_log.proofs.columns.type_name.Goals as goal
 

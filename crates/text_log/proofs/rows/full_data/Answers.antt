@@ -1,7 +1,5 @@
 -- `text_log::rows::full_data` meets its contract: nothing, or all lines. Assumes nothing.
 use Rattle.text_log.proofs.DataShown.{full_none, full_shown}
-use borrow.Author.Rules.{rules}
-use Rattle.std.proofs.Common.{ap, not}
 use Rattle.text_log.proofs.rows.full_data.Goals as goal
 
 pub returns-then-not-full : goal.returns-then-not-full
