@@ -13,4 +13,4 @@ returns c =
     let neg = c.wrapping_sub_u32 in
     let start = c.before.before.before in
     ap (λ (x : ℕ). x - 1) (c.lfs_npw2.ensures ∙ ap npw2 sum.ensures.value)
-    ∙ ctz_is start.args.a neg.result start.ranges.a.fits (omega (arith, neg.type-inv)) neg.ensures.value
+    ∙ ctz_is start.args.a neg.result start.ranges.a.fits (omega (arith, neg.type_inv)) neg.ensures.value

@@ -1,7 +1,8 @@
 -- `commit_room::past_eights` meets its contract. The loop keeps which byte from here on is the first that isn't erased;
 -- the rest shrinks. Assumes nothing.
 use borrow.Author.Rules.{rules}
-use mathlib.Core.Path.{◌≡◌, refl, sym, ◌∙◌}
+use mathlib.Core.Path.{◌≡◌, refl, sym, ap, ◌∙◌}
+use mathlib.Core.Bool.{not}
 use Prim.Native.Nat.{◌-◌}
 use native.Mathlib.Omega.{arith}
 use lib.ListN.{length}
@@ -21,7 +22,7 @@ returns-then-not-all c = c.loop-at.invariant
 pub loop-at-preserved : goal.loop-at-preserved
 loop-at-preserved c =
     let at = c.before.before.before.before.before.before.before.before.before.before.before in
-    sym (eight_on at.args.erased at.args.b.now at.loop-at.at (omega arith) c.if-not-all.false)
+    sym (eight_on at.args.erased at.args.b.now at.loop-at.at (omega arith) (ap not c.if-not-all.false))
     ∙ at.loop-at.invariant
 
 pub returns : goal.returns

@@ -21,5 +21,6 @@ pub returns-else-count-eq0 : goal.returns-else-count-eq0
 unfolding count_after
 returns-else-count-eq0 c = rw c.in-Delete.is (omega arith)
 
+
 pub returns-in_default : goal.returns-in_default
-returns-in_default c = count_stays c.args.rule c.args.count c.in_default.in_default-own.keys3
+returns-in_default c = count_stays c.args.rule c.args.count c.in_default.not-Create c.in_default.not-Delete

@@ -13,4 +13,4 @@ unfolding grows_after
 returns-in-Delete c = rw c.in-Delete.is
 
 pub returns-in_default : goal.returns-in_default
-returns-in_default c = grows_on c.args.rule c.args.grows c.in_default.in_default-own.keys3
+returns-in_default c = grows_on c.args.rule c.args.grows c.in_default.not-Create c.in_default.not-Delete

@@ -21,4 +21,4 @@ returns-else-grows-count c =
     rw c.in-Name.is (names_stay a.grows a.count a.id c.if-grows-count.false)
 
 pub returns-in_default : goal.returns-in_default
-returns-in_default c = raises_none c.args.rule _ c.args.count c.args.id c.in_default.in_default-own.keys2
+returns-in_default c = raises_none c.args.rule _ c.args.count c.args.id c.in_default.not-Name

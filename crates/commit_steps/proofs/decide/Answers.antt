@@ -11,7 +11,7 @@ returns-then-not-images_fit c = decide_broken _ _ _ _ _ _ _ c.in-Judge.is _
 
 pub place-requires : goal.place-requires
 place-requires c =
-    let s = images_sized _ _ _ (sym c.images_fit.ensures ∙ not-false _ c.if-not-images_fit.false) in record { le_prog = s.geometry.prog_low; prog_bound = s.geometry.prog_high; b_len_bound = omega (arith, s.second, s.geometry.block_high) }
+    let s = images_sized _ _ _ (sym c.images_fit.ensures ∙ c.if-not-images_fit.false) in record { le_prog = s.geometry.prog_low; prog_bound = s.geometry.prog_high; b_len_bound = omega (arith, s.second, s.geometry.block_high) }
 
 pub returns-then-second : goal.returns-then-second
 returns-then-second c = decide_second _ _ _ _ _ _ _ c.in-Judge.is _
@@ -20,7 +20,7 @@ returns-then-second c = decide_second _ _ _ _ _ _ _ c.in-Judge.is _
 
 pub place-requires-in-Judge : goal.place-requires-in-Judge
 place-requires-in-Judge c =
-    let s = images_sized _ _ _ (sym c.images_fit.ensures ∙ not-false _ c.if-not-images_fit.false) in record { le_prog = s.geometry.prog_low; prog_bound = s.geometry.prog_high; b_len_bound = omega (arith, s.first, s.geometry.block_high) }
+    let s = images_sized _ _ _ (sym c.images_fit.ensures ∙ c.if-not-images_fit.false) in record { le_prog = s.geometry.prog_low; prog_bound = s.geometry.prog_high; b_len_bound = omega (arith, s.first, s.geometry.block_high) }
 
 pub returns-in-Refused : goal.returns-in-Refused
 returns-in-Refused c = decide_refused _ _ _ _ _ _ _ c.in-Refused.is

@@ -13,7 +13,7 @@ use Rattle.fetch.proofs.lfs_dir_fetch.Goals as goal
 -- what the tests left, at the places where they were made
 ok : (c : goal.Else-not-pair_fits) → (let a = c.args in pair_fits a.g (length a.b0.now)
     (length a.b1.now) a.n0 a.n1) ≡ true
-ok c = sym c.pair_fits.ensures ∙ not-false _ c.if-not-pair_fits.false
+ok c = sym c.pair_fits.ensures ∙ c.if-not-pair_fits.false
 
 fits : (c : goal.Else-not-pair_fits) → (let a = c.args in Readables a.g.prog_size a.b0.now
     a.b1.now)
@@ -29,7 +29,7 @@ low1 : (c : goal.Else-too_high-2) → (let a = c.args in too_high
 low1 c = sym c.too_high-2.ensures ∙ c.if-too_high-2.false
 
 pub returns-then-not-pair_fits : goal.returns-then-not-pair_fits
-returns-then-not-pair_fits c = fetch_invalid _ _ _ _ _ _ _ (sym c.pair_fits.ensures ∙ not-true _ c.if-not-pair_fits.true)
+returns-then-not-pair_fits c = fetch_invalid _ _ _ _ _ _ _ (sym c.pair_fits.ensures ∙ c.if-not-pair_fits.true)
 
 pub returns-then-too_high : goal.returns-then-too_high
 returns-then-too_high c = fetch_high _ _ _ _ _ _ _ (ok c.before.before) (sym c.too_high.ensures ∙ c.if-too_high.true)

@@ -9,7 +9,7 @@ pub returns-then-not-fits-dir : goal.returns-then-not-fits-dir
 returns-then-not-fits-dir c =
     let a = c.args in
     refetch_invalid a.g a.b0.now a.b1.now a.n0 a.n1 a.block-count a.seed a.dir _
-    c.record_fits-fits.ensures (not-true _ c.if-not-fits-dir.true)
+    c.record_fits-fits.ensures (c.if-not-fits-dir.true)
 
 pub returns-then-too_high : goal.returns-then-too_high
 returns-then-too_high c =

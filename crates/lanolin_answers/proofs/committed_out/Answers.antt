@@ -25,7 +25,7 @@ unfolding out
 returns-in-Refused c =
     let n = c.number in
     let at-match = c.before.before.before.before.before in
-    same (to_z-of_z (sfits_of n.type-inv) ∙ n.ensures) c.refused_index.ensures
+    same (to_z-of_z (sfits_of n.type_inv) ∙ n.ensures) c.refused_index.ensures
     c.refused_mdir.ensures
     c.refused_seed.ensures
     ∙ sym (ap (committed_out at-match.args.seed) at-match.in-Refused.is)

@@ -22,4 +22,4 @@ pub returns-in-Refused : goal.returns-in-Refused
 unfolding out
 returns-in-Refused c =
     let n = c.number in
-    ap out (to_z-of_z (sfits_of n.type-inv) ∙ n.ensures) ∙ sym (ap indexed_out c.in-Refused.is)
+    ap out (to_z-of_z (sfits_of n.type_inv) ∙ n.ensures) ∙ sym (ap indexed_out c.in-Refused.is)

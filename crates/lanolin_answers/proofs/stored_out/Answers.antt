@@ -22,5 +22,5 @@ pub returns-in-Refused : goal.returns-in-Refused
 unfolding out
 returns-in-Refused c =
     let n = c.number in
-    same (to_z-of_z (sfits_of n.type-inv) ∙ n.ensures) c.refused_index.ensures
+    same (to_z-of_z (sfits_of n.type_inv) ∙ n.ensures) c.refused_index.ensures
     ∙ sym (ap stored_out c.in-Refused.is)

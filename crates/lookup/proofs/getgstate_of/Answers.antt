@@ -13,11 +13,11 @@ returns-then-not-record_fits c = let a = c.args in getgstate_refused a.g a.b0.no
 
 pub read-requires : goal.read-requires
 read-requires c = (end_inside _ _ _ _ _ _ (sym c.record_fits.ensures
-    ∙ not-false _ c.if-not-record_fits.false)).0
+    ∙ c.if-not-record_fits.false)).0
 
 pub read-requires-else-pair-n0 : goal.read-requires-else-pair-n0
 read-requires-else-pair-n0 c = (end_inside _ _ _ _ _ _ (sym c.record_fits.ensures
-    ∙ not-false _ c.if-not-record_fits.false)).1
+    ∙ c.if-not-record_fits.false)).1
 
 pub returns-then-pair-n0 : goal.returns-then-pair-n0
 returns-then-pair-n0 c = let a = c.args in getgstate_read a.g

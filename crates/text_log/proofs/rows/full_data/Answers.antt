@@ -8,4 +8,4 @@ pub returns-then-not-full : goal.returns-then-not-full
 returns-then-not-full c = full_none _ _ _ _ c.if-not-full.true
 
 pub returns : goal.returns
-returns c = full_shown _ _ _ _ _ (not-false _ c.if-not-full.false) c.data_lines.ensures
+returns c = full_shown _ _ _ _ _ (c.if-not-full.false) c.data_lines.ensures
