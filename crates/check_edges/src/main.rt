@@ -5,6 +5,7 @@
 
 use format::{Fetched, Geometry, LfsMdir, Refusal};
 use std::env::{Env, FillError};
+use std::fs::Files;
 use std::{fs, io, str};
 
 fn text(rt: &impl Print, bytes: &[u8]) -> io::Result<()> {

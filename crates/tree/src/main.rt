@@ -18,6 +18,16 @@ fn show_refusal(rt: &HostRuntime, r: Refusal) -> io::Result<()> {
     Ok(())
 }
 
+// Room for a text, and for a volume and a byte more. Functions of their own, so that no proof but their own sees so long
+// an array.
+fn text_room() -> [u8; 524_288] {
+    [0u8; 524_288]
+}
+
+fn volume_room() -> [u8; 524_289] {
+    [0u8; 524_289]
+}
+
 fn show(
     rt: &HostRuntime,
     g: Geometry,
@@ -25,7 +35,7 @@ fn show(
     rules: u32,
     volume: &[u8],
 ) -> io::Result<()> {
-    let mut text = [0u8; 524_288];
+    let mut text = text_room();
     let tree = tree_walk::lfs_dir_tree(
         g, volume, numbers.n0, numbers.n1, rules, ALLOWANCE, &mut text,
     );
@@ -46,7 +56,7 @@ fn tree(
     numbers: LfsPair,
     rules: u32,
 ) -> io::Result<()> {
-    let mut volume = [0u8; 524_289];
+    let mut volume = volume_room();
     let n = text_print::read_full(&mut rt.stdin(), &mut volume)?;
     let g = Geometry {
         block_size,
