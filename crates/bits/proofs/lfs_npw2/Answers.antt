@@ -12,6 +12,5 @@ pub returns : goal.returns
 unfolding npw2
 returns c =
     let less = c.wrapping_sub_u32 in
-    let start = c.before.before in
-    let e : less.result ≡ minus32 start.args.a 1 = omega (arith, less.ensures, less.type_inv, start.ranges.a) in
+    let e : less.result ≡ minus32 c.args.a 1 = omega (arith, less.ensures, less.type_inv, c.ranges.a) in
     c.lfs_max.ensures ∙ ap (λ (w : ℕ). max 1 (32 - count_leading_zeros 32 w)) e

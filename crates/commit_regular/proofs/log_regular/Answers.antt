@@ -6,6 +6,7 @@ use native.Mathlib.Omega.{arith}
 use borrow.Author.Rules.{rules}
 use Rattle.commit_regular.proofs.Turn.{Ahead, starts_ahead, word_inside, tag_small, tag_inside}
 use Rattle.commit_regular.proofs.Turn.{turn_unchecked, turn_check, turn_bad, turn_entry, all_regular}
+use Rattle.std.proofs.Common.{ap, not}
 use Rattle.commit_regular.proofs.log_regular.Goals as goal
 
 pub loop-at-init : goal.loop-at-init
@@ -27,7 +28,7 @@ returns-then-not-check_fits c = sym (turn_unchecked _ _ _ _ _ _ _
     c.be32.ensures _
     c.lfs_tag_dsize.ensures _
     c.is_check.ensures c.if-is_check.true _
-    c.lfs_tag_size.ensures _ c.check_fits.ensures c.if-not-check_fits.true _
+    c.lfs_tag_size.ensures _ c.check_fits.ensures (ap not c.if-not-check_fits.true) _
     c.grows-grows.ensures)
 
 pub flipped-prev-requires : goal.flipped-prev-requires
@@ -53,7 +54,7 @@ loop-at-preserved-then-is_check c = (turn_check _ _ _ _ _ _ _
     c.lfs_tag_dsize.ensures _
     c.is_check.ensures c.if-is_check.true _
     c.lfs_tag_size.ensures _ c.check_fits.ensures
-    c.if-not-check_fits.false _ c.flipped-prev.ensures).ahead
+    (ap not c.if-not-check_fits.false) _ c.flipped-prev.ensures).ahead
 
 pub returns-in_default : goal.returns-in_default
 returns-in_default c = sym (turn_bad _ _ _ _ _ _ _

@@ -3,11 +3,12 @@ use Rattle.std.proofs.Common.{sym, ◌∙◌, arith, rules}
 use borrow.Author.Tests.{not-false}
 use Rattle.sizes.proofs.Sized.{images_sized}
 use Rattle.commit_steps.proofs.Placed.{decide_refused, decide_laid, decide_broken, decide_first, decide_second}
+use Rattle.std.proofs.Common.{ap, not}
 use Rattle.commit_steps.proofs.decide.Goals as goal
 
 pub returns-then-not-images_fit : goal.returns-then-not-images_fit
 returns-then-not-images_fit c = decide_broken _ _ _ _ _ _ _ c.in-Judge.is _
-    c.images_fit.ensures _ c.if-not-images_fit.true c.refused.ensures
+    c.images_fit.ensures _ (ap not c.if-not-images_fit.true) c.refused.ensures
 
 pub place-requires : goal.place-requires
 place-requires c =
@@ -15,7 +16,7 @@ place-requires c =
 
 pub returns-then-second : goal.returns-then-second
 returns-then-second c = decide_second _ _ _ _ _ _ _ c.in-Judge.is _
-    c.images_fit.ensures _ c.if-not-images_fit.false c.if-second.true
+    c.images_fit.ensures _ (ap not c.if-not-images_fit.false) c.if-second.true
     c.place.ensures
 
 pub place-requires-in-Judge : goal.place-requires-in-Judge
@@ -30,5 +31,5 @@ returns-in-Lay c = decide_laid _ _ _ _ _ _ _ c.in-Lay.is
 
 pub returns-else-second : goal.returns-else-second
 returns-else-second c = decide_first _ _ _ _ _ _ _ c.in-Judge.is _
-    c.images_fit.ensures _ c.if-not-images_fit.false c.if-second.false
+    c.images_fit.ensures _ (ap not c.if-not-images_fit.false) c.if-second.false
     c.place-in-Judge.ensures

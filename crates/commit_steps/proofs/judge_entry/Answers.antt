@@ -2,11 +2,12 @@
 -- Assumes nothing.
 use Rattle.std.proofs.Common.{sym, ◌∙◌, rules}
 use Rattle.commit_steps.proofs.Entered.{judged_bad, judged_outside, judged_good}
+use Rattle.std.proofs.Common.{ap, not}
 use Rattle.commit_steps.proofs.judge_entry.Goals as goal
 
 pub returns-then-not-in_buffer : goal.returns-then-not-in_buffer
 returns-then-not-in_buffer c = judged_outside _ _ _ _ _ _ _ (sym c.counted.ensures
-    ∙ c.in-To.is) _ c.in_buffer.ensures c.if-not-in_buffer.true
+    ∙ c.in-To.is) _ c.in_buffer.ensures (ap not c.if-not-in_buffer.true)
 
 pub returns-in-Bad : goal.returns-in-Bad
 returns-in-Bad c = judged_bad _ _ _ _ _ _ (sym c.counted.ensures ∙ c.in-Bad.is)
@@ -15,5 +16,5 @@ pub returns-else-not-in_buffer : goal.returns-else-not-in_buffer
 returns-else-not-in_buffer c = judged_good _ _ _ _ _ _ _
     (sym c.counted.ensures
     ∙ c.in-To.is) _
-    c.in_buffer.ensures _ _ c.if-not-in_buffer.false c.lfs_mktag-tag.ensures
+    c.in_buffer.ensures _ _ (ap not c.if-not-in_buffer.false) c.lfs_mktag-tag.ensures
     c.sum_up.ensures

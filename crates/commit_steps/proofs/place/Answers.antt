@@ -6,10 +6,8 @@ use Rattle.commit_steps.proofs.place.Goals as goal
 pub forward-fcrc-requires : goal.forward-fcrc-requires
 forward-fcrc-requires c =
     let pre = c.requires in
-    record { low = pre.0; high = pre.1.0; near = omega arith }
+    record { low = pre.le_prog; high = pre.prog_bound; near = omega arith }
 
-pub test-requires : goal.test-requires
-test-requires c = let all = c.requires in record { le_prog = all.0; prog_bound = all.1.0; b_len_bound = all.1.1 }
 
 pub returns : goal.returns
 returns c = placed_tested _ _ _ _ _ _ _ _ c.forward-fcrc.ensures c.sum_forward.ensures

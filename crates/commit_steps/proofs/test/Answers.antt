@@ -6,23 +6,22 @@ use Rattle.commit_steps.proofs.test.Goals as goal
 pub rounded_end-requires : goal.rounded_end-requires
 rounded_end-requires c =
     let pre = c.requires in
-    record { low = pre.0; high = pre.1.0; near = omega arith }
+    record { low = pre.le_prog; high = pre.prog_bound; near = omega arith }
 
 pub returns-then-b-rounded_end : goal.returns-then-b-rounded_end
 returns-then-b-rounded_end c = tested_full _ _ _ _ _ _ _ c.rounded_end.ensures c.if-b-rounded_end.true
 
 pub room-requires : goal.room-requires
-room-requires c = let pre = c.requires in record { le_prog = pre.0; b_len_bound = pre.1.1 }
+room-requires c = let pre = c.requires in record { le_prog = pre.le_prog; b_len_bound = pre.b_len_bound }
 
 pub check_tag-requires : goal.check_tag-requires
 check_tag-requires c =
     let pre = c.requires in
-    record { low = pre.0; high = pre.1.0; near = omega arith }
+    record { low = pre.le_prog; high = pre.prog_bound; near = omega arith }
 
 pub returns-then-coincides : goal.returns-then-coincides
 returns-then-coincides c =
-    let tested = c.before.before.before.before.before.before.before in
-    tested_coincides _ _ _ _ _ _ _ tested.rounded_end.ensures tested.if-b-rounded_end.false _
+    tested_coincides _ _ _ _ _ _ _ c.rounded_end.ensures c.if-b-rounded_end.false _
     c.room.ensures
     c.in-Clean.is _ c.check_tag.ensures _
     c.coincides.ensures c.if-coincides.true
@@ -34,8 +33,7 @@ returns-in-Refused c = tested_no_room _ _ _ _ _ _ _ c.rounded_end.ensures
 
 pub returns-else-coincides : goal.returns-else-coincides
 returns-else-coincides c =
-    let tested = c.before.before.before.before.before.before.before.before in
-    tested_lays _ _ _ _ _ _ _ tested.rounded_end.ensures tested.if-b-rounded_end.false _
+    tested_lays _ _ _ _ _ _ _ c.rounded_end.ensures c.if-b-rounded_end.false _
     c.room.ensures
     c.in-Clean.is _
     c.check_tag.ensures _ c.coincides.ensures _

@@ -6,16 +6,17 @@ use Rattle.compact.proofs.Called.{kept, renews_first, renews_second, called_inva
 use Rattle.compact.proofs.Called.{called_first, called_second}
 use native.Mathlib.Omega.{arith}
 use borrow.Author.Rules.{rules}
+use Rattle.std.proofs.Common.{ap, not}
 use Rattle.compact.proofs.run.Goals as goal
 
 pub renew-requires : goal.renew-requires
 renew-requires c =
-    renews_first _ _ _ _ _ _ _ c.args.rules c.args.erased _ c.writes_fit.ensures c.if-not-writes_fit.false _ _
+    renews_first _ _ _ _ _ _ _ c.args.rules c.args.erased _ c.writes_fit.ensures (ap not c.if-not-writes_fit.false) _ _
     (sym c.in-Found.is ∙ c.lfs_dir_fetch.ensures) c.if-pair-n0.true
 
 pub renew-requires-else-pair-n0 : goal.renew-requires-else-pair-n0
 renew-requires-else-pair-n0 c =
-    renews_second _ _ _ _ _ _ _ c.args.rules c.args.erased _ c.writes_fit.ensures c.if-not-writes_fit.false _ _
+    renews_second _ _ _ _ _ _ _ c.args.rules c.args.erased _ c.writes_fit.ensures (ap not c.if-not-writes_fit.false) _ _
     (sym c.in-Found.is ∙ c.lfs_dir_fetch.ensures) c.if-pair-n0.false
 
 pub returns-then-not-writes_fit : goal.returns-then-not-writes_fit
@@ -24,7 +25,7 @@ returns-then-not-writes_fit c = let all = kept _ _ _ _ _ _ _ _ _ _ _ _ _ _ _ (λ
       c.slice_known-1.given i,
     ))
     (λ i. omega (arith, c.slice_known-2-1.given i))
-    (called_invalid _ _ _ _ _ _ _ _ _ _ c.writes_fit.ensures _ _ c.if-not-writes_fit.true) in record { value = all.0; compact_stores_leaves = all.1.0; table_after = all.1.1 }
+    (called_invalid _ _ _ _ _ _ _ _ _ _ c.writes_fit.ensures _ _ (ap not c.if-not-writes_fit.true)) in record { value = all.0; compact_stores_leaves = all.1.0; table_after = all.1.1 }
 
 pub returns-in-Refused : goal.returns-in-Refused
 returns-in-Refused c = let all = kept _ _ _ _ _ _ _ _ _ _ _ _ _ _ _ (λ i. omega (
@@ -35,7 +36,7 @@ returns-in-Refused c = let all = kept _ _ _ _ _ _ _ _ _ _ _ _ _ _ _ (λ i. omega
       arith,
       c.slice_known-2-1.given i,
     ))
-    (called_refused _ _ _ _ _ _ _ _ _ _ c.writes_fit.ensures c.if-not-writes_fit.false _ _ _
+    (called_refused _ _ _ _ _ _ _ _ _ _ c.writes_fit.ensures (ap not c.if-not-writes_fit.false) _ _ _
     (sym c.in-Refused.is ∙ c.lfs_dir_fetch.ensures)) in record { value = all.0; compact_stores_leaves = all.1.0; table_after = all.1.1 }
 
 pub returns-then-pair-n0 : goal.returns-then-pair-n0
@@ -49,7 +50,7 @@ returns-then-pair-n0 c =
       c.slice_known-2-1.given i,
     ))
     (called_first _ _ _ _ _ _ _ _ _ _ c.writes_fit.ensures
-    c.if-not-writes_fit.false _ _
+    (ap not c.if-not-writes_fit.false) _ _
     (sym c.in-Found.is ∙ c.lfs_dir_fetch.ensures) c.if-pair-n0.true _ _ _
     renewed.0 renewed.1.0 _ _ renewed.1.1) in record { value = all.0; compact_stores_leaves = all.1.0; table_after = all.1.1 }
 
@@ -64,6 +65,6 @@ returns-else-pair-n0 c =
       c.slice_known-2-1.given i,
     ))
     (called_second _ _ _ _ _ _ _ _ _ _ c.writes_fit.ensures
-    c.if-not-writes_fit.false _ _
+    (ap not c.if-not-writes_fit.false) _ _
     (sym c.in-Found.is ∙ c.lfs_dir_fetch.ensures) c.if-pair-n0.false _ _ _
     renewed.0 renewed.1.0 _ _ renewed.1.1) in record { value = all.0; compact_stores_leaves = all.1.0; table_after = all.1.1 }

@@ -3,6 +3,7 @@
 use Rattle.std.proofs.Common.{⊎_elim, arith, rules}
 use Rattle.compact_block.proofs.Lent.{Lends, renew_irregular, renew_done, renew_regular, renew_builds}
 use Rattle.compact_block.proofs.Lent.{places_few, lends_places, lends_none}
+use Rattle.std.proofs.Common.{ap, not}
 use Rattle.compact_block.proofs.renew.Goals as goal
 
 pub log_regular-requires : goal.log_regular-requires
@@ -14,16 +15,16 @@ pub returns-then-not-log_regular : goal.returns-then-not-log_regular
 returns-then-not-log_regular c =
     let a = c.args in let all = renew_irregular _ a.rules _ c.rules_of.ensures _ c.log_regular.ensures
     a.erased a.prog _ _ a.stores
-    c.if-not-log_regular.true in record { value = all.0; after = all.1.0; table_after = all.1.1 }
+    (ap not c.if-not-log_regular.true) in record { value = all.0; after = all.1.0; table_after = all.1.1 }
 
 pub build-built-requires : goal.build-built-requires
 build-built-requires c = renew_builds _ c.args.rules _ c.rules_of.ensures _ c.log_regular.ensures
-    c.if-not-log_regular.false _
+    (ap not c.if-not-log_regular.false) _
     c.requires.recorded
 
 pub overflow_mul-used : goal.overflow_mul-used
 overflow_mul-used c =
-    let few = places_few _ c.args.rules _ c.rules_of.ensures _ c.log_regular.ensures c.if-not-log_regular.false _ _
+    let few = places_few _ c.args.rules _ c.rules_of.ensures _ c.log_regular.ensures (ap not c.if-not-log_regular.false) _ _
     c.build-built.ensures.value _ c.build-built.ensures.table_after c.table-1.given _ c.in-Places.is in
     omega (
       arith,
@@ -37,7 +38,7 @@ slice_bounds-places-end c =
     let m = c.match-built in
     let t = c.build-built.ensures in
     let lent : Lends a.old.now _ m.used m.indexed
-    = ⊎_elim (λ w. lends_places _ a.rules _ c.rules_of.ensures _ c.log_regular.ensures c.if-not-log_regular.false _ _ t.0
+    = ⊎_elim (λ w. lends_places _ a.rules _ c.rules_of.ensures _ c.log_regular.ensures (ap not c.if-not-log_regular.false) _ _ t.0
     _ t.1 c.table-1.given _ w.1.given.1 _ w.3 _) (λ w. lends_none _
     _ _ w.2 _ w.3) m.branch in
     lent.inside
@@ -48,11 +49,11 @@ rewrite-requires c =
     let m = c.match-built in
     let t = c.build-built.ensures in
     let lent : Lends a.old.now _ m.used m.indexed
-    = ⊎_elim (λ w. lends_places _ a.rules _ c.rules_of.ensures _ c.log_regular.ensures c.if-not-log_regular.false _ _ t.0
+    = ⊎_elim (λ w. lends_places _ a.rules _ c.rules_of.ensures _ c.log_regular.ensures (ap not c.if-not-log_regular.false) _ _ t.0
     _ t.1 c.table-1.given _ w.1.given.1 _ w.3 _)
     (λ w. lends_none _ _ _ w.2 _ w.3) m.branch in (
       c.requires,
-      renew_regular _ a.rules _ c.rules_of.ensures _ c.log_regular.ensures c.if-not-log_regular.false,
+      renew_regular _ a.rules _ c.rules_of.ensures _ c.log_regular.ensures (ap not c.if-not-log_regular.false),
       lent.are,
     )
 
@@ -60,4 +61,4 @@ pub returns : goal.returns
 returns c =
     let a = c.args in let all = renew_done _ a.rules _ c.rules_of.ensures _ c.log_regular.ensures a.erased a.prog _ _
     a.stores
-    c.if-not-log_regular.false _ c.build-built.ensures.table_after _ _ c.rewrite.ensures.value c.rewrite.ensures.after in record { value = all.0; after = all.1.0; table_after = all.1.1 }
+    (ap not c.if-not-log_regular.false) _ c.build-built.ensures.table_after _ _ c.rewrite.ensures.value c.rewrite.ensures.after in record { value = all.0; after = all.1.0; table_after = all.1.1 }

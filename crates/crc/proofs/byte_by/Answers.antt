@@ -11,7 +11,6 @@ use Rattle.crc.proofs.byte_by.Goals as goal
 pub returns : goal.returns
 unfolding crc_byte
 returns c =
-    let start = c.before.before in
     c.half-2.ensures ∙ ap (crc_bits 4) c.half.ensures
-    ∙ sym (more 4 4 (bit_xor start.args.sum start.args.byte))
-    ∙ ap (λ (x : ℕ). crc_bits 8 (bit_xor start.args.sum x)) (sym (mod-eq_of_lt start.ranges.byte.fits))
+    ∙ sym (more 4 4 (bit_xor c.args.sum c.args.byte))
+    ∙ ap (λ (x : ℕ). crc_bits 8 (bit_xor c.args.sum x)) (sym (mod-eq_of_lt c.ranges.byte.fits))

@@ -10,6 +10,5 @@ use Rattle.crc.proofs.half.Goals as goal
 
 pub returns : goal.returns
 returns c =
-    let start = c.before in
-    let sum = start.args.sum in
-    ap (bit_xor (sum / 2 ^ 4)) (start.requires.word (sum % 16) (omega arith)) ∙ sym (steps 4 sum)
+    let sum = c.args.sum in
+    ap (bit_xor (sum / 2 ^ 4)) (c.requires.word (sum % 16) (omega arith)) ∙ sym (steps 4 sum)

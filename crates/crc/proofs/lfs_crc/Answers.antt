@@ -18,11 +18,11 @@ turn l i s r h e = ap₂ (λ (x k : ℕ). crc x (drop k l)) e (add-one i) ∙ sy
 
 pub loop-i-preserved : goal.loop-i-preserved
 loop-i-preserved c =
-    let at-loop = c.before.before.before.before in (
+    (
       search rules,
       (
-        at-loop.loop-i.invariant.1.0,
-        turn _ at-loop.loop-i.i at-loop.loop-i.s _ c.loop-i-test.true c.byte_by-s.ensures ∙ at-loop.loop-i.invariant.1.1,
+        c.loop-i.invariant.1.0,
+        turn _ c.loop-i.i c.loop-i.s _ c.loop-i-test.true c.byte_by-s.ensures ∙ c.loop-i.invariant.1.1,
       ),
     )
 

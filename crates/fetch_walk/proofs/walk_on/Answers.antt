@@ -10,15 +10,16 @@ use Rattle.fetch_walk.specs.declared.cursor.Seen.TheVariants.{Entry, Check}
 use Rattle.fetch_walk.proofs.Turns.{turn_entry, turn_check, turn_invalid, turn_past, entry_moved, entry_room}
 use Rattle.fetch_walk.proofs.Turns.{check_moved}
 use borrow.Author.Rules.{rules}
+use Rattle.fetch_walk.proofs.walk_on.Goals.{In-Check, In-Entry}
 use Rattle.fetch_walk.proofs.walk_on.Goals as goal
 
 -- what was seen, at the places where an arm knows it
-saw_entry : (c : goal.In-Entry-2)
+saw_entry : (c : In-Entry)
     → next_of c.args.b.now c.loop-tag.c
     ≡ Entry c.in-Entry.tag c.in-Entry.behind
 saw_entry c = sym c.next.ensures ∙ c.in-Entry.is
 
-saw_check : (c : goal.In-Check-2)
+saw_check : (c : In-Check)
     → next_of c.args.b.now c.loop-tag.c
     ≡ Check c.in-Check.sum c.in-Check.behind
 saw_check c = sym c.next.ensures ∙ c.in-Check.is
@@ -27,24 +28,24 @@ pub loop-tag-init : goal.loop-tag-init
 loop-tag-init c = refl
 
 pub overflow_add-c : goal.overflow_add-c
-overflow_add-c c = let m = entry_moved _ _ (saw_entry c.before.before) in omega arith
+overflow_add-c c = let m = entry_moved _ _ (saw_entry (goal.at.overflow_add-c c).In-Entry) in omega arith
 
 pub entry-w-requires : goal.entry-w-requires
-entry-w-requires c = entry_room _ _ (saw_entry c.before.before)
+entry-w-requires c = entry_room _ _ (saw_entry (goal.at.entry-w-requires c).In-Entry)
 
 pub loop-tag-smaller-in-Entry : goal.loop-tag-smaller-in-Entry
-loop-tag-smaller-in-Entry c = let m = entry_moved _ _ (saw_entry c.before.before.before) in omega arith
+loop-tag-smaller-in-Entry c = let m = entry_moved _ _ (saw_entry (goal.at.loop-tag-smaller-in-Entry c).In-Entry) in omega arith
 
 pub loop-tag-preserved-in-Entry : goal.loop-tag-preserved-in-Entry
 loop-tag-preserved-in-Entry c = turn_entry _ _ _ _ c.loop-tag.invariant _
-    (saw_entry c.before.before.before) c.entry-w.ensures
+    (saw_entry (goal.at.loop-tag-preserved-in-Entry c).In-Entry) c.entry-w.ensures
 
 pub loop-tag-smaller : goal.loop-tag-smaller
-loop-tag-smaller c = let m = check_moved _ _ (saw_check c.before.before) in omega arith
+loop-tag-smaller c = let m = check_moved _ _ (saw_check (goal.at.loop-tag-smaller c).In-Check) in omega arith
 
 pub loop-tag-preserved : goal.loop-tag-preserved
 loop-tag-preserved c = turn_check _ _ _ _ c.loop-tag.invariant _
-    (saw_check c.before.before) c.commit-w.ensures
+    (saw_check (goal.at.loop-tag-preserved c).In-Check) c.commit-w.ensures
 
 pub returns-in-Invalid : goal.returns-in-Invalid
 returns-in-Invalid c = turn_invalid _ _ _ _ c.loop-tag.invariant _

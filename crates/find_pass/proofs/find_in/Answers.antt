@@ -1,14 +1,12 @@
 -- `find_pass::find_in` meets its contract. The loop keeps which of the slots so far have the name, and the log that is
 -- still to come (`Going`); what is left of the block falls. Assumes nothing.
 use mathlib.Core.Path.{sym}
-use Prim.Native.Nat.{◌-◌}
 use native.Mathlib.Omega.{arith}
-use borrow.Author.Rules.{rules}
-use Rattle.format.specs.Find.{is_named}
 use Rattle.commit_regular.proofs.Turn.{word_inside, tag_small, tag_inside, turn_unchecked, turn_check, turn_bad}
 use Rattle.commit_regular.proofs.Turn.{turn_entry}
-use Rattle.find_pass.proofs.Turn.{Going, starts_going, none_named, check_goes, entry_followable, entry_goes}
+use Rattle.find_pass.proofs.Turn.{starts_going, none_named, check_goes, entry_followable, entry_goes}
 use Rattle.find_pass.proofs.Turn.{refused, ends}
+use Rattle.std.proofs.Common.{ap, not}
 use Rattle.find_pass.proofs.find_in.Goals as goal
 
 pub loop-at-init : goal.loop-at-init
@@ -30,7 +28,7 @@ returns-then-not-check_fits c = refused _ _ _ _ (turn_unchecked _ _ _ _ _ _ _
     c.be32.ensures _
     c.lfs_tag_dsize.ensures _
     c.is_check.ensures c.if-is_check.true _
-    c.lfs_tag_size.ensures _ c.check_fits.ensures c.if-not-check_fits.true _
+    c.lfs_tag_size.ensures _ c.check_fits.ensures (ap not c.if-not-check_fits.true) _
     c.grows-grows.ensures)
 
 pub flipped-prev-requires : goal.flipped-prev-requires
@@ -57,7 +55,7 @@ loop-at-preserved-then-is_check c = check_goes _ _ _ (none_named _ _) _ _ _ _ _ 
     c.lfs_tag_dsize.ensures _
     c.is_check.ensures c.if-is_check.true _
     c.lfs_tag_size.ensures _ c.check_fits.ensures
-    c.if-not-check_fits.false _ c.flipped-prev.ensures)
+    (ap not c.if-not-check_fits.false) _ c.flipped-prev.ensures)
 
 pub returns-in_default : goal.returns-in_default
 returns-in_default c = refused _ _ _ _ (turn_bad _ _ _ _ _ _ _

@@ -1,5 +1,4 @@
 -- `find_pass::remove` meets its contract: the bits are moved, or there are none. Assumes nothing.
-use borrow.Author.Rules.{rules}
 use Rattle.find_pass.proofs.Moved.{removed_still, removed_moved}
 use Rattle.find_pass.proofs.remove.Goals as goal
 

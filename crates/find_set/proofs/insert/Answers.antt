@@ -1,11 +1,9 @@
 -- `find_set::insert` meets its contract. The words above the loop's are moved, and the others as at entry; the loop
 -- goes down. Assumes nothing.
-use Prim.Native.Nat.{◌+◌, ◌-◌, ◌≤◌, ◌<◌}
+use Prim.Native.Nat.{◌-◌}
 use native.Mathlib.Omega.{arith}
-use Rattle.find_set.specs.Set.{has, made}
-use Rattle.find_set.proofs.Words.{Moved, moved_start}
+use Rattle.find_set.proofs.Words.{moved_start}
 use Rattle.find_set.proofs.Moves.{up_turn, up_end}
-use borrow.Author.Rules.{rules}
 use Rattle.find_set.proofs.insert.Goals as goal
 
 pub loop-i-init : goal.loop-i-init

@@ -3,19 +3,20 @@
 use Rattle.sizes.proofs.Records.{block_first, block_second}
 use Rattle.index.proofs.Called.{index_refused, index_inside, index_read}
 use borrow.Author.Rules.{rules}
+use Rattle.std.proofs.Common.{ap, not}
 use Rattle.index.proofs.lfs_dir_index.Goals as goal
 
 pub returns-then-not-fits-rules : goal.returns-then-not-fits-rules
-returns-then-not-fits-rules c = let a = c.args in let all = index_refused a.g a.b0.now a.b1.now a.n0 a.n1 a.dir a.rules a.table.now _ c.record_fits-fits.ensures c.if-not-fits-rules.true in record { value = all.0; table_after = all.1 }
+returns-then-not-fits-rules c = let a = c.args in let all = index_refused a.g a.b0.now a.b1.now a.n0 a.n1 a.dir a.rules a.table.now _ c.record_fits-fits.ensures (ap not c.if-not-fits-rules.true) in record { value = all.0; table_after = all.1 }
 
 pub index_block-requires : goal.index_block-requires
-index_block-requires c = let a = c.args in (index_inside a.g a.b0.now a.b1.now a.n0 a.n1 a.dir a.rules a.table.now _ c.record_fits-fits.ensures c.if-not-fits-rules.false).0
+index_block-requires c = let a = c.args in (index_inside a.g a.b0.now a.b1.now a.n0 a.n1 a.dir a.rules a.table.now _ c.record_fits-fits.ensures (ap not c.if-not-fits-rules.false)).0
 
 pub index_block-requires-else-pair-n0 : goal.index_block-requires-else-pair-n0
-index_block-requires-else-pair-n0 c = let a = c.args in (index_inside a.g a.b0.now a.b1.now a.n0 a.n1 a.dir a.rules a.table.now _ c.record_fits-fits.ensures c.if-not-fits-rules.false).1
+index_block-requires-else-pair-n0 c = let a = c.args in (index_inside a.g a.b0.now a.b1.now a.n0 a.n1 a.dir a.rules a.table.now _ c.record_fits-fits.ensures (ap not c.if-not-fits-rules.false)).1
 
 pub returns-then-pair-n0 : goal.returns-then-pair-n0
-returns-then-pair-n0 c = let a = c.args in let all = index_read a.g a.b0.now a.b1.now a.n0 a.n1 a.dir a.rules a.table.now _ c.record_fits-fits.ensures c.if-not-fits-rules.false a.b0.now (block_first a.b0.now a.b1.now a.n0 a.dir c.if-pair-n0.true) _ _ c.index_block.ensures.value c.index_block.ensures.table_after in record { value = all.0; table_after = all.1 }
+returns-then-pair-n0 c = let a = c.args in let all = index_read a.g a.b0.now a.b1.now a.n0 a.n1 a.dir a.rules a.table.now _ c.record_fits-fits.ensures (ap not c.if-not-fits-rules.false) a.b0.now (block_first a.b0.now a.b1.now a.n0 a.dir c.if-pair-n0.true) _ _ c.index_block.ensures.value c.index_block.ensures.table_after in record { value = all.0; table_after = all.1 }
 
 pub returns-else-pair-n0 : goal.returns-else-pair-n0
-returns-else-pair-n0 c = let a = c.args in let all = index_read a.g a.b0.now a.b1.now a.n0 a.n1 a.dir a.rules a.table.now _ c.record_fits-fits.ensures c.if-not-fits-rules.false a.b1.now (block_second a.b0.now a.b1.now a.n0 a.dir c.if-pair-n0.false) _ _ c.index_block-else-pair-n0.ensures.value c.index_block-else-pair-n0.ensures.table_after in record { value = all.0; table_after = all.1 }
+returns-else-pair-n0 c = let a = c.args in let all = index_read a.g a.b0.now a.b1.now a.n0 a.n1 a.dir a.rules a.table.now _ c.record_fits-fits.ensures (ap not c.if-not-fits-rules.false) a.b1.now (block_second a.b0.now a.b1.now a.n0 a.dir c.if-pair-n0.false) _ _ c.index_block-else-pair-n0.ensures.value c.index_block-else-pair-n0.ensures.table_after in record { value = all.0; table_after = all.1 }

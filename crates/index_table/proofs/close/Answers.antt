@@ -14,8 +14,7 @@ shape_of-part c = c.part-1.given.1 ∙ c.loop-i.invariant.long
 
 pub returns : goal.returns
 returns c =
-    let k = c.before.before.before.before in
-    close_end _ k.loop-i.invariant k.loop-i-test.false c.clear.ensures
+    close_end _ c.loop-i.invariant c.loop-i-test.false c.clear.ensures
 
 pub overflow_sub-left : goal.overflow_sub-left
 overflow_sub-left c = omega arith

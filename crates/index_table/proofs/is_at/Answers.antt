@@ -8,5 +8,4 @@ returns-then-used-at c = at_none _ _ _ c.requires _ c.if-used-at.true
 
 pub returns : goal.returns
 returns c =
-    let k = c.before.before in
-    rw c.rank_of.ensures (at_one _ _ _ k.requires _ k.if-used-at.false)
+    rw c.rank_of.ensures (at_one _ _ _ c.requires _ c.if-used-at.false)

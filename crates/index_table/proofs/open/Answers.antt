@@ -14,8 +14,7 @@ shape_of-part c = c.part-1.given ∙ c.loop-i.invariant.long
 
 pub returns : goal.returns
 returns c =
-    let k = c.before.before.before.before in
-    rw (open_end k.loop-i.invariant k.loop-i-test.false) at c.put.ensures
+    rw (open_end c.loop-i.invariant c.loop-i-test.false) at c.put.ensures
 
 pub overflow_sub-i : goal.overflow_sub-i
 overflow_sub-i c = omega arith

@@ -13,6 +13,5 @@ rank_at-requires c =
 
 pub returns : goal.returns
 returns c =
-    let k = c.before.before in
     c.rank_at.ensures
-    ∙ rw (k.lfs_tag_id.ensures, c.class_of.ensures) (rank_some _ k.if-tag-eq0.false)
+    ∙ rw (c.lfs_tag_id.ensures, c.class_of.ensures) (rank_some _ c.if-tag-eq0.false)

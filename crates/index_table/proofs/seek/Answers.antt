@@ -8,13 +8,11 @@ loop-left-init c = seek_start _ _ _ c.requires
 
 pub loop-left-preserved-then-rank_of-rank : goal.loop-left-preserved-then-rank_of-rank
 loop-left-preserved-then-rank_of-rank c =
-    let k = c.before.before.before in
-    seek_up k.loop-left.invariant k.loop-left-test.true (omega (arith, c.rank_of.ensures))
+    seek_up c.loop-left.invariant c.loop-left-test.true (omega (arith, c.rank_of.ensures))
 
 pub loop-left-preserved : goal.loop-left-preserved
 loop-left-preserved c =
-    let k = c.before.before.before in
-    seek_down k.loop-left.invariant k.loop-left-test.true (omega (arith, c.rank_of.ensures))
+    seek_down c.loop-left.invariant c.loop-left-test.true (omega (arith, c.rank_of.ensures))
 
 pub returns : goal.returns
 returns c = (seek_end c.loop-left.invariant c.loop-left-test.false, omega arith, omega arith)

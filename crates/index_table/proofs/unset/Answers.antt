@@ -6,21 +6,17 @@ use Rattle.index_table.proofs.unset.Goals as goal
 
 pub close-requires : goal.close-requires
 close-requires c =
-    let k = c.before.before in
-    let start = k.before.before.before.before.before.before in
-    at_room _ _ _ start.requires _ _ k.is_at.ensures c.if-is_at.true
+    at_room _ _ _ c.requires _ _ c.is_at.ensures c.if-is_at.true
 
 pub overflow_sub-result : goal.overflow_sub-result
 overflow_sub-result c =
-    let k = c.before.before.before.before in
-    let start = k.before.before.before.before.before.before.before in
-    omega (arith, at_inside _ _ _ start.requires _ _ k.is_at.ensures k.if-is_at.true)
+    omega (arith, at_inside _ _ _ c.requires _ _ c.is_at.ensures c.if-is_at.true)
 
 pub returns-then-is_at : goal.returns-then-is_at
 returns-then-is_at c P h =
-    let k = c.before.before.before.before in (
-      c.before.table2.given.1,
-      unset_there h _ _ k.seek-place.ensures _ k.is_at.ensures k.if-is_at.true
+    (
+      search rules,
+      unset_there h _ _ c.seek-place.ensures _ c.is_at.ensures c.if-is_at.true
           c.close.ensures,
     )
 

@@ -23,6 +23,5 @@ pub returns-in-Refused : goal.returns-in-Refused
 unfolding out
 returns-in-Refused c =
     let n = c.number in
-    let at-match = c.before.before.before.before in
     same (to_z-of_z (sfits_of n.type_inv) ∙ n.ensures) c.refused_mdir.ensures c.refused_seed.ensures
-    ∙ sym (ap (fetched_out at-match.args.seed) at-match.in-Refused.is)
+    ∙ sym (ap (fetched_out c.args.seed) c.in-Refused.is)

@@ -1,10 +1,8 @@
 -- `lookup::getgstate_of` meets its contract: the test decides the definitions' case (`Moves.antt`), and the record's
 -- first number the block. Assumes nothing.
 use mathlib.Core.Path.{sym, ◌∙◌}
-use borrow.Author.Tests.{not-false}
 use Rattle.sizes.proofs.Records.{end_inside, block_first, block_second}
 use Rattle.lookup.proofs.Moves.{getgstate_refused, getgstate_read}
-use borrow.Author.Rules.{rules}
 use Rattle.lookup.proofs.getgstate_of.Goals as goal
 
 pub returns-then-not-record_fits : goal.returns-then-not-record_fits

@@ -2,7 +2,6 @@
 use mathlib.Core.Path.{sym}
 use lib.Seq.{length-take-le}
 use Rattle.lookup.proofs.Slices.{get_short, get_long, get_read}
-use borrow.Author.Rules.{rules}
 use Rattle.lookup.proofs.lfs_dir_get.Goals as goal
 
 pub returns-then-buffer-size : goal.returns-then-buffer-size

@@ -2,7 +2,6 @@
 -- record's first number the block. Assumes nothing.
 use Rattle.sizes.proofs.Records.{block_first, block_second}
 use Rattle.lookup.proofs.Slices.{getslice_refused, getslice_inside, getslice_read}
-use borrow.Author.Rules.{rules}
 use Rattle.lookup.proofs.lfs_dir_getslice.Goals as goal
 
 pub returns-then-not-fits-buffer : goal.returns-then-not-fits-buffer

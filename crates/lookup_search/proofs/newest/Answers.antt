@@ -1,7 +1,6 @@
 -- `lookup_search::newest` meets its contract: the pending move decides where the walk starts (`Turn.antt`). Assumes
 -- nothing.
 use Rattle.lookup_search.proofs.Turn.{start_moved, start_from}
-use Rattle.std.proofs.Common.{rules}
 use Rattle.lookup_search.proofs.newest.Goals as goal
 
 pub returns-then-moves-moved : goal.returns-then-moves-moved

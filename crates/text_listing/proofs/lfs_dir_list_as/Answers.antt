@@ -24,12 +24,12 @@ block_text-requires-else-pair-numbers c =
 
 pub returns-then-rules-gt1 : goal.returns-then-rules-gt1
 returns-then-rules-gt1 c =
-    let a = c.args in let all = puts_written _ _ _ _ (listing_short a.prog-size a.numbers a.rules a.input.now)
+    let a = c.args in let all = puts_written _ _ _ _ (listing_short a.prog_size a.numbers a.rules a.input.now)
     (rule_refused _ _ _ _ c.if-rules-gt1.true c.refused.ensures) in record { value = all.0; out_after = all.1 }
 
 pub returns-in-Refused : goal.returns-in-Refused
 returns-in-Refused c =
-    let a = c.args in let all = puts_written _ _ _ _ (listing_short a.prog-size a.numbers a.rules a.input.now)
+    let a = c.args in let all = puts_written _ _ _ _ (listing_short a.prog_size a.numbers a.rules a.input.now)
     (rule_fits _ _ _ _ c.if-rules-gt1.false
     (shown_refused _ _ _ (block_text (rules_of a.rules)) _ _ _
     (sym c.in-Refused.is
@@ -38,7 +38,7 @@ returns-in-Refused c =
 
 pub returns-then-pair-numbers : goal.returns-then-pair-numbers
 returns-then-pair-numbers c =
-    let a = c.args in let all = puts_written _ _ _ _ (listing_short a.prog-size a.numbers a.rules a.input.now)
+    let a = c.args in let all = puts_written _ _ _ _ (listing_short a.prog_size a.numbers a.rules a.input.now)
     (rule_fits _ _ _ _ c.if-rules-gt1.false (shown_first _ _ _ _ _
     (sym c.in-Found.is
     ∙ c.fetch_input.ensures) c.if-pair-numbers.true (block_text (rules_of a.rules)) _ _
@@ -46,7 +46,7 @@ returns-then-pair-numbers c =
 
 pub returns-else-pair-numbers : goal.returns-else-pair-numbers
 returns-else-pair-numbers c =
-    let a = c.args in let all = puts_written _ _ _ _ (listing_short a.prog-size a.numbers a.rules a.input.now)
+    let a = c.args in let all = puts_written _ _ _ _ (listing_short a.prog_size a.numbers a.rules a.input.now)
     (rule_fits _ _ _ _ c.if-rules-gt1.false (shown_second _ _ _ _ _
     (sym c.in-Found.is
     ∙ c.fetch_input.ensures) c.if-pair-numbers.false (block_text (rules_of a.rules)) _ _

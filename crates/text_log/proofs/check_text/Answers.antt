@@ -19,7 +19,7 @@ part_full_data_start : goal.slice-bounds-full-data-start
 part_full_data_start c = omega (
   arith,
   tag_length_ge c.before.before.before.before.before.before.before.before.before.before.before.before.before.before.before.before.before.before.before.before.before.before.args.tag,
-  c.before.before.before.before.before.before.before.before.before.before.before.before.before.before.before.before.before.before.before.lfs-tag-dsize.ensures,
+  c.before.before.before.before.before.before.before.before.before.before.before.before.before.before.before.before.before.before.before.lfs_tag_dsize.ensures,
 )
 
 pub full_data-requires : goal.full_data-requires

@@ -9,7 +9,6 @@ unfolding align_up
 returns c =
     let s = c.wrapping_add_u32-above in
     let d = c.wrapping_sub_u32 in
-    let start = c.before.before.before in
-    let e : d.result ≡ minus32 (plus32 start.args.a start.args.alignment) 1 =
+    let e : d.result ≡ minus32 (plus32 c.args.a c.args.alignment) 1 =
     omega (arith, s.ensures, s.type_inv, d.ensures, d.type_inv) in
-    c.lfs_aligndown.ensures ∙ ap (λ (x : ℕ). align_down x start.args.alignment) e
+    c.lfs_aligndown.ensures ∙ ap (λ (x : ℕ). align_down x c.args.alignment) e

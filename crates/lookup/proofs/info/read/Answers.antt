@@ -6,16 +6,15 @@ use native.Mathlib.Omega.{arith}
 use lib.Seq.{length-take-le}
 use Rattle.format.specs.Lookup.{blank_buffer}
 use Rattle.lookup.proofs.Infos.{info_refused_lem, info_found}
-use borrow.Author.Rules.{rules}
 use Rattle.lookup.proofs.info.read.Goals as goal
 
 pub slice_bounds-read-end : goal.slice_bounds-read-end
-slice_bounds-read-end c = sym (length-take-le (c.args.name-max + 1) (blank_buffer 256)
+slice_bounds-read-end c = sym (length-take-le (c.args.name_max + 1) (blank_buffer 256)
     (omega arith))
 
 pub returns-in-Refused : goal.returns-in-Refused
 returns-in-Refused c = let a = c.args in
-    info_refused_lem a.b.now a.dir a.gdisk a.name-max a.id (omega arith) (omega arith) _ _
+    info_refused_lem a.b.now a.dir a.gdisk a.name_max a.id (omega arith) (omega arith) _ _
     c.lfs_mktag-gmask.ensures
     c.lfs_mktag-gtag.ensures _
     c.read.ensures.value _ c.in-Refused.is _
@@ -23,7 +22,7 @@ returns-in-Refused c = let a = c.args in
 
 pub returns-in-Found : goal.returns-in-Found
 returns-in-Found c = let a = c.args in
-    info_found a.b.now a.dir a.gdisk a.name-max a.id (omega arith) (omega arith) _ _
+    info_found a.b.now a.dir a.gdisk a.name_max a.id (omega arith) (omega arith) _ _
     c.lfs_mktag-gmask.ensures
     c.lfs_mktag-gtag.ensures _
     c.read.ensures.value _ c.in-Found.is _
