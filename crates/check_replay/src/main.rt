@@ -214,7 +214,7 @@ fn slice_into(head: [u8; 128], b0: &[u8], b1: &[u8], want: &[u8], buffer: &mut [
         Got::Found(e) => (result == 0) & (e.tag == at(head, WANT_TAG)),
         Got::Refused(r) => result == number(r),
     };
-    equal & (buffer == want)
+    equal & (&*buffer == want)
 }
 
 fn same_slice(head: [u8; 128], b0: &[u8], b1: &[u8], want: &[u8]) -> bool {

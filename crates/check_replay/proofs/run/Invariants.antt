@@ -1,5 +1,5 @@
 -- `check_replay::run` is safe and ends: the number of records that are left falls. Assumes nothing.
-use Rattle.std.proofs.Common.{◌≤◌, rules}
+use Rattle.std.proofs.Common.{◌≤◌}
 use Rattle.check_replay.proofs.run.Given as goal
 
 abbrev pub invariant-loop-left : goal.invariant-loop-left
