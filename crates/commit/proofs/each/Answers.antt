@@ -12,8 +12,8 @@ loop-i-init c = (omega arith, each_start _ _ _ _ _)
 pub loop-i-preserved : goal.loop-i-preserved
 loop-i-preserved c = (
   omega arith,
-  each_step c.args.es.now c.args.dat.now c.args.b0.now c.args.b1.now c.args.st _ _ _ _ _ _ _ c.loop-i.invariant.1
-      c.step-s.ensures,
+  rw (add-one c.loop-i.i) (each_step c.args.es.now c.args.dat.now c.args.b0.now c.args.b1.now c.args.st _ _ _ _ _ _ _ c.loop-i.invariant.1
+      c.step-s.ensures),
 )
 
 pub returns : goal.returns

@@ -38,8 +38,8 @@ slice_bounds-places-end c =
     let m = c.match-built in
     let t = c.build-built.ensures in
     let lent : Lends a.old.now _ m.used m.indexed
-    = ⊎_elim (λ w. lends_places _ a.rules _ c.rules_of.ensures _ c.log_regular.ensures (ap not c.if-not-log_regular.false) _ _ t.0
-    _ t.1 c.table-1.given _ w.1.given.1 _ w.3 _) (λ w. lends_none _
+    = ⊎_elim (λ w. lends_places _ a.rules _ c.rules_of.ensures _ c.log_regular.ensures (ap not c.if-not-log_regular.false) _ _ t.value
+    _ t.table_after c.table-1.given _ w.1.given.1 _ w.3 _) (λ w. lends_none _
     _ _ w.2 _ w.3) m.branch in
     lent.inside
 
@@ -49,8 +49,8 @@ rewrite-requires c =
     let m = c.match-built in
     let t = c.build-built.ensures in
     let lent : Lends a.old.now _ m.used m.indexed
-    = ⊎_elim (λ w. lends_places _ a.rules _ c.rules_of.ensures _ c.log_regular.ensures (ap not c.if-not-log_regular.false) _ _ t.0
-    _ t.1 c.table-1.given _ w.1.given.1 _ w.3 _)
+    = ⊎_elim (λ w. lends_places _ a.rules _ c.rules_of.ensures _ c.log_regular.ensures (ap not c.if-not-log_regular.false) _ _ t.value
+    _ t.table_after c.table-1.given _ w.1.given.1 _ w.3 _)
     (λ w. lends_none _ _ _ w.2 _ w.3) m.branch in (
       c.requires,
       renew_regular _ a.rules _ c.rules_of.ensures _ c.log_regular.ensures (ap not c.if-not-log_regular.false),
