@@ -1,6 +1,8 @@
 // The audit of a pair's instructions: each slot with a payload and no deadline, or a deadline and no payload, and how
 // many there are of both; or the refusal. The text is written to a lent buffer as far as there is room; the answer is
 // the length of the whole text. Any bytes may be audited.
+#![tactic(auto)]
+
 ghost use Rattle.std.specs.Prelude.{◌≡◌, ◌<◌, length};
 ghost use Rattle.format.specs.Log.{log};
 ghost use Rattle.format.specs.Regular.{rules_of};

@@ -9,7 +9,7 @@ use lib.IntN.{pos, neg_ℤ}
 use lib.ListN.{length, take, drop, length-drop}
 use lib.Dec.{eqb, ltb}
 use lib.Seq.{take_all}
-use borrow.Author.Tests.{not-false, eq-eqb, ne_eqb, lt-ltb, le-ltb, lt-leb, le-leb}
+use borrow.Author.Tests.{eq-eqb, ne_eqb, lt-ltb, le-ltb, lt-leb, le-leb}
 use Rattle.format.specs.Log.{log}
 use Rattle.format.specs.Answer.{refusal_number}
 use Rattle.format.specs.Fetch.{fetch_of}
@@ -51,9 +51,9 @@ block_ends b m w = record { word = w.word; ends = w.ends }
 
 -- x is what the test of regularity answers, by the rule q
 pub block_slots : (b : List ℕ) (m : LfsMdir) (q : Rules) (x : Bool) → Listable b m → x ≡ Regular q (log b)
-    → not x ≡ false → Slots b m.off m.etag m.count
+    → x ≡ true → Slots b m.off m.etag m.count
 block_slots b m q x w ex h =
-    let regular : Regular Littlefs (log b) ≡ true = widest q (log b) (sym ex ∙ not-false x h) in
+    let regular : Regular Littlefs (log b) ≡ true = widest q (log b) (sym ex ∙ h) in
     record {
       word = w.word;
       most = w.most;

@@ -1,9 +1,8 @@
 -- The lines of a record, a refusal, a block and a pair. Assumes nothing.
 use mathlib.Core.Path.{◌≡◌, sym, ap, ◌∙◌}
-use mathlib.Core.Bool.{Bool, true, false, not, cond}
+use mathlib.Core.Bool.{Bool, true, false, cond}
 use mathlib.Core.List.{List, ◌++◌}
-use Prim.Native.Nat.{ℕ, ◌-◌}
-use borrow.Author.Tests.{not-true, not-false}
+use Prim.Native.Nat.{ℕ}
 use Rattle.format.specs.Log.{log}
 use Rattle.format.specs.Regular.{Regular, rules_of}
 use Rattle.format.specs.declared.Rules.{Rules}
@@ -67,16 +66,16 @@ record_done s t1 t2 t3 t4 t5 r m e1 e2 e3 e4 e5 er =
 -- ---- a block and its record; q is the rule that was asked for, x what the test of regularity answers
 module _ (b : List ℕ) (m : LfsMdir) (s t r : Text) (rules : ℕ) (q : Rules) (asked : q ≡ rules_of rules) (x : Bool)
     (ex : x ≡ Regular q (log b)) (et : t ≡ puts_of s (record_lines m)) where
-  pub block_irregular : not x ≡ true → r ≡ puts_of t (refused_line Irregular) → r ≡ puts_of s
+  pub block_irregular : x ≡ false → r ≡ puts_of t (refused_line Irregular) → r ≡ puts_of s
       (block_text (rules_of rules) m b)
   unfolding block_text dir_lines
   block_irregular h er = join s t r (record_lines m) (refused_line Irregular) et er
       ∙ ap (λ (z : Bool). puts_of s (record_lines m ++ cond z (slot_lines 0 (dir_of (log b))) (refused_line Irregular)))
-      (sym (not-true x h) ∙ ex ∙ ap (λ (k : Rules). Regular k (log b)) asked)
+      (sym h ∙ ex ∙ ap (λ (k : Rules). Regular k (log b)) asked)
 
-  pub block_regular : not x ≡ false → r ≡ puts_of t (slot_lines 0 (dir_of (log b))) → r ≡ puts_of s
+  pub block_regular : x ≡ true → r ≡ puts_of t (slot_lines 0 (dir_of (log b))) → r ≡ puts_of s
       (block_text (rules_of rules) m b)
   unfolding block_text dir_lines
   block_regular h er = join s t r (record_lines m) (slot_lines 0 (dir_of (log b))) et er
       ∙ ap (λ (z : Bool). puts_of s (record_lines m ++ cond z (slot_lines 0 (dir_of (log b))) (refused_line Irregular)))
-      (sym (not-false x h) ∙ ex ∙ ap (λ (k : Rules). Regular k (log b)) asked)
+      (sym h ∙ ex ∙ ap (λ (k : Rules). Regular k (log b)) asked)

@@ -1,6 +1,8 @@
 // The listing of a metadata pair: document 01's text of the record, the slots and their user attributes, or of the
 // refusal. It is written to a lent buffer as far as there is room; the answer is the length of the whole text. Any
 // bytes may be listed.
+#![tactic(auto)]
+
 ghost use Rattle.std.specs.Prelude.{◌≡◌, ◌^◌, length};
 ghost use Rattle.format.specs.Log.{log};
 ghost use Rattle.format.specs.Regular.{rules_of};

@@ -1,5 +1,4 @@
 -- `text_audit::deadline_line` meets its contract: none, or its length. Assumes nothing.
-use borrow.Author.Rules.{rules}
 use Rattle.format.proofs.Searched.{hit_in}
 use Rattle.text_audit.proofs.Told.{deadline_none, deadline_unread}
 use Rattle.text_audit.proofs.deadline_line.Goals as goal

@@ -1,6 +1,5 @@
 -- `text_find::found_text` meets its contract: the slot that was found, none, or the refusal. Assumes nothing.
 use mathlib.Core.Path.{sym, ◌∙◌}
-use borrow.Author.Rules.{rules}
 use Rattle.text_input.proofs.Input.{block_ends}
 use Rattle.text_find.proofs.Told.{found_gathers, shown_slot, shown_none, shown_refused}
 use Rattle.text_find.proofs.found_text.Goals as goal

@@ -1,7 +1,6 @@
 -- `text_find::lfs_dir_find_as` meets its contract: the text is put from the start, and is shorter than 2^32. Assumes
 -- nothing.
 use mathlib.Core.Path.{sym, ◌∙◌}
-use borrow.Author.Rules.{rules}
 use Rattle.format.specs.Regular.{rules_of}
 use Rattle.format.specs.FindText.{found_text}
 use Rattle.text.proofs.Written.{puts_written}

@@ -1,5 +1,4 @@
 -- `text_listing::struct_fields` meets its contract: two dashes, or type and length. Assumes nothing.
-use borrow.Author.Rules.{rules}
 use Rattle.format.proofs.Searched.{hit_in}
 use Rattle.text_listing.proofs.Fields.{struct_missing, struct_shown}
 use Rattle.text_listing.proofs.struct_fields.Goals as goal

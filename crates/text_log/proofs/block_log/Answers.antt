@@ -6,7 +6,6 @@ use Rattle.format.specs.RawLog.{committed_line, block_log}
 use Rattle.text.proofs.Joined.{join, same_part}
 use Rattle.text_log.proofs.WalkShown.{texts_start}
 use Rattle.text_log.proofs.PairShown.{taken_end, taken_within, start_reached}
-use borrow.Author.Rules.{rules}
 use Rattle.text_log.proofs.block_log.Goals as goal
 
 pub event_texts-n-requires : goal.event_texts-n-requires

@@ -1,7 +1,6 @@
 -- `text_log::committed_line` meets its contract: nothing, or the end. Assumes nothing.
 use Rattle.text_log.proofs.PairShown.{committed_none, committed_some}
 use Rattle.text.proofs.Joined.{join}
-use borrow.Author.Rules.{rules}
 use Rattle.text_log.proofs.committed_line.Goals as goal
 
 pub returns-then-end-eq4 : goal.returns-then-end-eq4

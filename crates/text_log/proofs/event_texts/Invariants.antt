@@ -1,14 +1,10 @@
 -- `text_log::event_texts` meets its contract. The loop keeps where the text of the whole walk ends, from here; the block's
 -- rest shrinks. Assumes nothing.
-use mathlib.Core.Path.{◌≡◌, refl, sym, ◌∙◌}
+use mathlib.Core.Path.{◌≡◌}
 use Prim.Native.Nat.{◌-◌, ◌≤◌}
-use native.Mathlib.Omega.{arith}
 use lib.ListN.{length}
-use borrow.Author.Rules.{rules}
 use Rattle.text.specs.Put.{text, puts_of}
-use Rattle.fetch_walk.proofs.Turns.{entry_moved, check_moved}
 use Rattle.text_log.specs.Events.{texts_from}
-use Rattle.text_log.proofs.WalkShown.{turn_entry, turn_check, turn_invalid, turn_past, entry_placed, check_placed}
 use Rattle.text_log.proofs.event_texts.Given as goal
 
 abbrev pub invariant-loop-tag : goal.invariant-loop-tag

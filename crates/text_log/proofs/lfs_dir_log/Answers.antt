@@ -5,7 +5,6 @@ use Rattle.format.specs.RawLog.{answer_line}
 use Rattle.text.proofs.Joined.{join, same_part}
 use Rattle.text.proofs.Written.{puts_written}
 use Rattle.text_log.proofs.Fits.{raw_short}
-use borrow.Author.Rules.{rules}
 use Rattle.text_log.proofs.lfs_dir_log.Goals as goal
 
 pub returns-in-Refused : goal.returns-in-Refused

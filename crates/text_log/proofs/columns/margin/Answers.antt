@@ -1,6 +1,5 @@
 -- `text_log::columns::margin` meets its contract, by the tests in order. Assumes nothing.
 use Rattle.text_log.proofs.TagShown.{margin_three, margin_two, margin_one, margin_none}
-use borrow.Author.Rules.{rules}
 use Rattle.text_log.proofs.columns.margin.Goals as goal
 
 pub returns-then-n-lt10 : goal.returns-then-n-lt10

@@ -1,7 +1,6 @@
 -- `text_log::columns::tag_columns` meets its contract: its parts, one behind the other. Assumes nothing.
 use Rattle.format.specs.RawLog.{tag_columns}
 use Rattle.text.proofs.Joined.{join}
-use borrow.Author.Rules.{rules}
 use Rattle.text_log.proofs.columns.tag_columns.Goals as goal
 
 pub returns : goal.returns

@@ -1,7 +1,6 @@
 -- `text_log::columns::tag_name` meets its contract: a check, or the type's name. Assumes nothing.
 use mathlib.Core.Path.{sym, ◌∙◌}
 use Rattle.text_log.proofs.TagShown.{name_check, name_other}
-use borrow.Author.Rules.{rules}
 use Rattle.text_log.proofs.columns.tag_name.Goals as goal
 
 pub returns-then-is_check : goal.returns-then-is_check

@@ -3,7 +3,6 @@ use mathlib.Core.Path.{ap}
 use Rattle.format.specs.Listing.{hex_type}
 use Rattle.format.specs.RawLog.{type_columns}
 use Rattle.text.proofs.Joined.{join, same_part}
-use borrow.Author.Rules.{rules}
 use Rattle.text_log.proofs.columns.type_columns.Goals as goal
 
 pub returns : goal.returns

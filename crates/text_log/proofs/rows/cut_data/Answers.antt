@@ -1,6 +1,5 @@
 -- `text_log::rows::cut_data` meets its contract: nothing, or the first bytes. Assumes nothing.
 use Rattle.text_log.proofs.DataShown.{cut_none, cut_shown}
-use borrow.Author.Rules.{rules}
 use Rattle.text_log.proofs.rows.cut_data.Goals as goal
 
 pub returns-then-full-bytes : goal.returns-then-full-bytes

@@ -2,7 +2,6 @@
 use Rattle.format.specs.RawLog.{data_line}
 use Rattle.text.proofs.Joined.{join}
 use Rattle.text_log.proofs.DataShown.{line_cells}
-use borrow.Author.Rules.{rules}
 use Rattle.text_log.proofs.rows.data_line.Goals as goal
 
 pub returns : goal.returns

@@ -1,12 +1,9 @@
 -- `text_log::rows::data_lines` meets its contract. The loop keeps where all lines end, from here. Assumes nothing.
-use mathlib.Core.Path.{◌≡◌, refl}
+use mathlib.Core.Path.{◌≡◌}
 use Prim.Native.Nat.{◌+◌, ◌*◌, ◌-◌, ◌≤◌}
-use native.Mathlib.Omega.{arith}
 use lib.ListN.{length, drop}
-use borrow.Author.Rules.{rules}
 use Rattle.format.specs.RawLog.{data_lines}
 use Rattle.text.specs.Put.{text, puts_of}
-use Rattle.text_log.proofs.DataShown.{lines_start, lines_more, lines_done}
 use Rattle.text_log.proofs.rows.data_lines.Given as goal
 
 abbrev pub invariant-loop-line : goal.invariant-loop-line

@@ -4,7 +4,6 @@ use native.Mathlib.Omega.{arith}
 use Rattle.format.specs.RawLog.{hex_word, check_stop}
 use Rattle.text.proofs.Joined.{join, same_part}
 use Rattle.text_log.proofs.StopShown.{stored_is, computed_is}
-use borrow.Author.Rules.{rules}
 use Rattle.text_log.proofs.stop.check_stop.Goals as goal
 
 pub overflow_cast-place-2 : goal.overflow_cast-place-2

@@ -3,7 +3,6 @@ use mathlib.Core.Path.{ap}
 use Rattle.format.specs.RawLog.{hex_word, invalid_stop}
 use Rattle.text.proofs.Joined.{join, same_part}
 use Rattle.text_log.proofs.StopShown.{stop_more}
-use borrow.Author.Rules.{rules}
 use Rattle.text_log.proofs.stop.invalid_stop.Goals as goal
 
 pub returns : goal.returns

@@ -1,7 +1,6 @@
 -- `text_log::stop::stop_line` meets its contract: its parts, one behind the other. Assumes nothing.
 use Rattle.format.specs.RawLog.{stop_line}
 use Rattle.text.proofs.Joined.{join}
-use borrow.Author.Rules.{rules}
 use Rattle.text_log.proofs.stop.stop_line.Goals as goal
 
 pub returns : goal.returns

@@ -1,6 +1,5 @@
 -- `text_log::stop::stop_text` meets its contract, by the tests in order. Assumes nothing.
 use Rattle.text_log.proofs.StopShown.{stop_ends, stop_invalid, check_reach, stop_check, stop_past}
-use borrow.Author.Rules.{rules}
 use Rattle.text_log.proofs.stop.stop_text.Goals as goal
 
 pub returns-then-left-lt4 : goal.returns-then-left-lt4
