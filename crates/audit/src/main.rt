@@ -1,7 +1,9 @@
 // The audit as a program: both images of a pair on standard input, one behind the other, and the arguments, as the
 // program `list` takes them; the text on standard output.
+#![tactic(auto)]
+
 use format::LfsPair;
-use libc::STDIN_FILENO;
+use std::io;
 use text_args::Request;
 
 // The buffer has room for every text. A slot with a line has a struct of one byte or more, five bytes at least, and its
@@ -9,23 +11,31 @@ use text_args::Request;
 // can't be read, both, nine bytes at least, and its line at most 35. A byte of a name shows at most four. So a line has
 // at most seven bytes more than four for each byte of its slot, of at most 1,023 slots: a block of 32,768 bytes shows
 // at most 4 * 32,768 + 7 * 1,023, and the three lines behind have at most 89 bytes.
-fn show(prog_size: u32, numbers: LfsPair, rules: u32, pair: &[u8]) {
+fn show(
+    rt: &HostRuntime,
+    prog_size: u32,
+    numbers: LfsPair,
+    rules: u32,
+    pair: &[u8],
+) -> io::Result<()> {
     let mut text = [0u8; 138_400];
     let n = text_audit::lfs_dir_audit_as(prog_size, numbers, rules, pair, &mut text);
-    text_print::whole(&text, n as usize);
+    text_print::whole(&mut rt.stdout(), &mut rt.stderr(), &text, n as usize)?;
+    Ok(())
 }
 
-fn main() {
-    match text_args::asked(1, true) {
+fn main(rt: HostRuntime) -> io::Result<()> {
+    match text_args::asked(&rt, 1, true) {
         Request::As(prog_size, numbers, rules) => {
             let mut pair = [0u8; 65_537];
-            let n = io::read_full(STDIN_FILENO, &mut pair);
-            show(prog_size, numbers, rules, &pair[..n]);
+            let n = text_print::read_full(&mut rt.stdin(), &mut pair)?;
+            show(&rt, prog_size, numbers, rules, &pair[..n])
         }
         Request::Unclear => {
             text_print::usage(
+                &mut rt.stderr(),
                 b"usage: audit [PROG_SIZE A B [RULES]], both images on standard input\n",
-            );
+            )
         }
     }
 }

@@ -1,43 +1,44 @@
 // Runs the counts of crate `bits` and the old shifts beside each other. That they agree is proved
 // (`bits_shifts::agree`); that the compiled counts do is seen here: at each corner, and on 2^20 words. `stdout` is what
 // it must print, worked out by samples/make_counts.py.
-use libc::STDOUT_FILENO;
+#![tactic(auto)]
+
+use std::io;
 
 const WORDS: u32 = 0x10_0000;
 
-fn text(bytes: &[u8]) {
-    io::write_all(STDOUT_FILENO, bytes);
+fn text(rt: &impl Print, words: &str) -> io::Result<()> {
+    rt.print(words)
 }
 
-fn number(label: &[u8], n: u32) {
-    text(label);
-    io::print_decimal(STDOUT_FILENO, n as u64);
+fn number(rt: &impl Print, label: &str, n: u32) -> io::Result<()> {
+    print!(rt; "{label}{n}")
 }
 
 // A word, and what the counts give.
-fn show(a: u32) {
-    io::print_hex(STDOUT_FILENO, a as u64, 8);
-    number(b" npw2 ", bits::lfs_npw2(a));
-    number(b" ctz ", bits::lfs_ctz(a));
-    number(b" popc ", bits::lfs_popc(a));
+fn show(rt: &impl Print, a: u32) -> io::Result<()> {
+    print!(rt; "{a:08x}")?;
+    number(rt, " npw2 ", bits::lfs_npw2(a))?;
+    number(rt, " ctz ", bits::lfs_ctz(a))?;
+    number(rt, " popc ", bits::lfs_popc(a))?;
     if bits_shifts::agree(a) {
-        text(b"\n");
+        text(rt, "\n")
     } else {
-        text(b", but not by shifts\n");
+        text(rt, ", but not by shifts\n")
     }
 }
 
 // 2 to the k and its neighbours.
-fn corners() {
+fn corners(rt: &impl Print) -> io::Result<()> {
     let mut k = 0u32;
     while k < 32 {
         let power = 1u32 << k;
-        show(std::num::wrapping_sub_u32(power, 1));
-        show(power);
-        show(std::num::wrapping_add_u32(power, 1));
+        show(rt, power.wrapping_sub(1))?;
+        show(rt, power)?;
+        show(rt, power.wrapping_add(1))?;
         k += 1;
     }
-    show(0xffff_ffff);
+    show(rt, 0xffff_ffff)
 }
 
 // The i-th of words that are all different before they are shifted down or up: they have every length, and every number
@@ -74,13 +75,11 @@ fn by_shifts(sum: u32, a: u32) -> u32 {
     )
 }
 
-fn sum_line(label: &[u8], sum: u32) {
-    text(label);
-    io::print_hex(STDOUT_FILENO, sum as u64, 8);
-    text(b"\n");
+fn sum_line(rt: &impl Print, label: &str, sum: u32) -> io::Result<()> {
+    println!(rt; "{label}{sum:08x}")
 }
 
-fn many() {
+fn many(rt: &impl Print) -> io::Result<()> {
     let mut counts = 0xffff_ffffu32;
     let mut shifts = 0xffff_ffffu32;
     let mut i = 0u32;
@@ -90,12 +89,12 @@ fn many() {
         shifts = by_shifts(shifts, a);
         i += 1;
     }
-    number(b"words ", WORDS);
-    sum_line(b"\nby counts ", counts);
-    sum_line(b"by shifts ", shifts);
+    number(rt, "words ", WORDS)?;
+    sum_line(rt, "\nby counts ", counts)?;
+    sum_line(rt, "by shifts ", shifts)
 }
 
-fn main() {
-    corners();
-    many();
+fn main(rt: HostRuntime) -> io::Result<()> {
+    corners(&rt)?;
+    many(&rt)
 }

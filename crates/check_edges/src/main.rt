@@ -1,38 +1,41 @@
 // Fetches each pair that its arguments name, both blocks in one file, and prints what document 01 says of the edges:
 // the count at 1,023 and 1,024, an end at the block size and past it, erased flash, and files that are no pair. Program
 // size 16, numbers 0 and 1.
+#![tactic(auto)]
+
 use format::{Fetched, Geometry, LfsMdir, Refusal};
-use libc::STDOUT_FILENO;
+use std::env::{Env, FillError};
+use std::fs::Files;
+use std::{fs, io, str};
 
-fn text(bytes: &[u8]) {
-    io::write_all(STDOUT_FILENO, bytes);
+fn text(rt: &impl Print, bytes: &[u8]) -> io::Result<()> {
+    rt.write_all(bytes)
 }
 
-fn number(label: &[u8], n: u32) {
-    text(label);
-    io::print_decimal(STDOUT_FILENO, n as u64);
+fn number(rt: &impl Print, label: &str, n: u32) -> io::Result<()> {
+    print!(rt; "{label}{n}")
 }
 
-fn record(m: LfsMdir) {
-    number(b" rev ", m.rev);
-    number(b" end ", m.off);
-    number(b" count ", m.count as u32);
-    text(b"\n");
+fn record(rt: &impl Print, m: LfsMdir) -> io::Result<()> {
+    number(rt, " rev ", m.rev)?;
+    number(rt, " end ", m.off)?;
+    number(rt, " count ", m.count as u32)?;
+    text(rt, b"\n")
 }
 
-fn refused(r: Refusal) {
+fn refused(rt: &impl Print, r: Refusal) -> io::Result<()> {
     match r {
-        Refusal::Invalid => text(b"refused -22\n"),
-        Refusal::Corrupt => text(b"refused -84\n"),
+        Refusal::Invalid => text(rt, b"refused -22\n"),
+        Refusal::Corrupt => text(rt, b"refused -84\n"),
         Refusal::TooMany(m, _) => {
-            text(b"refused -2");
-            record(m);
+            text(rt, b"refused -2")?;
+            record(rt, m)
         }
-        _ => text(b"refused otherwise\n"),
+        _ => text(rt, b"refused otherwise\n"),
     }
 }
 
-fn show(pair: &[u8]) {
+fn show(rt: &impl Print, pair: &[u8]) -> io::Result<()> {
     let half = pair.len() / 2;
     let g = Geometry {
         block_size: (half % 65536) as u32,
@@ -40,38 +43,45 @@ fn show(pair: &[u8]) {
     };
     match fetch::lfs_dir_fetch(g, &pair[0..half], &pair[half..], 0, 1, 0, 0) {
         Fetched::Found(m, _) => {
-            text(b"found");
-            record(m);
+            text(rt, b"found")?;
+            record(rt, m)
         }
-        Fetched::Refused(r) => refused(r),
+        Fetched::Refused(r) => refused(rt, r),
     }
 }
 
-fn show_file(path: &[u8]) {
-    text(path);
-    text(b": ");
-    let fd = os::open_read(path);
-    if fd < 0 {
-        text(b"cannot be read\n");
-        return;
-    }
+// A path is text; of one that is none, as of a file that can't be opened, it says so.
+fn show_file(rt: &(impl Print + Files), path: &[u8]) -> io::Result<()> {
+    text(rt, path)?;
+    text(rt, b": ")?;
+    let Ok(name) = str::from_utf8(path) else {
+        return text(rt, b"cannot be read\n");
+    };
+    let Ok(mut file) = fs::open(rt, name) else {
+        return text(rt, b"cannot be read\n");
+    };
     let mut buf = [0u8; 65536];
-    let n = io::read_full(fd, &mut buf);
-    libc::close(fd);
-    show(&buf[..n]);
+    let n = text_print::read_full(&mut file, &mut buf)?;
+    show(rt, &buf[..n])
 }
 
-fn show_arg(i: usize) {
-    let mut path = io::buffer();
-    let n = os::arg(i, &mut path);
-    show_file(&path[..n]);
+// The i-th argument's file: whether there is such an argument. One that is longer than any path counts as empty.
+fn show_arg(rt: &(impl Print + Files + Env), i: usize) -> io::Result<bool> {
+    let mut path = [0u8; 4096];
+    let n = match rt.arg(i, &mut path) {
+        Ok(n) => n,
+        Err(FillError::NotPresent) => return Ok(false),
+        Err(FillError::TooLong) => 0,
+    };
+    show_file(rt, &path[..n])?;
+    Ok(true)
 }
 
-fn main() {
-    let n = os::arg_count();
-    let mut i = 1;
-    while i < n {
-        show_arg(i);
-        i += 1;
+fn main(rt: HostRuntime) -> io::Result<()> {
+    for i in 1..usize::MAX {
+        if !show_arg(&rt, i)? {
+            break;
+        }
     }
+    Ok(())
 }

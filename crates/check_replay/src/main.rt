@@ -1,10 +1,13 @@
 // Replays a fixed list of the Rust's answers, with no Rust at hand: each record of standard input is a fetch or a
 // lookup with what the Rust gave (README.md beside this crate says how the list was made; oracle/RECORDED.md has its
 // layout). Prints how many of each kind were equal.
+#![tactic(auto)]
+
 use format::{
     Altered, Fetched, Geometry, Got, LfsFcrc, LfsGstate, LfsMdir, LfsPair, Refusal, Word,
 };
-use libc::{STDIN_FILENO, STDOUT_FILENO};
+use std::io;
+use std::io::Read;
 
 const MOST: usize = 1024;
 
@@ -211,7 +214,7 @@ fn slice_into(head: [u8; 128], b0: &[u8], b1: &[u8], want: &[u8], buffer: &mut [
         Got::Found(e) => (result == 0) & (e.tag == at(head, WANT_TAG)),
         Got::Refused(r) => result == number(r),
     };
-    equal & check::same(buffer, want)
+    equal & (&*buffer == want)
 }
 
 fn same_slice(head: [u8; 128], b0: &[u8], b1: &[u8], want: &[u8]) -> bool {
@@ -224,7 +227,7 @@ fn same_slice(head: [u8; 128], b0: &[u8], b1: &[u8], want: &[u8]) -> bool {
 }
 
 fn same_name(name: [u8; 256], want: &[u8]) -> bool {
-    check::same(&name, want)
+    &name[..] == want
 }
 
 fn same_info(head: [u8; 128], b0: &[u8], b1: &[u8], want: &[u8]) -> bool {
@@ -276,23 +279,23 @@ fn same_state(head: [u8; 128], b0: &[u8], b1: &[u8]) -> bool {
 }
 
 // The next header; zeros where the input ends.
-fn header() -> [u8; 128] {
+fn header<R: Read>(input: &mut R) -> io::Result<[u8; 128]> {
     let mut head = [0u8; 128];
-    io::read_full(STDIN_FILENO, &mut head);
-    head
+    text_print::read_full(input, &mut head)?;
+    Ok(head)
 }
 
 // The next n bytes, at most 1,024 of them.
-fn part(n: usize) -> [u8; 1024] {
+fn part<R: Read>(input: &mut R, n: usize) -> io::Result<[u8; 1024]> {
     let mut bytes = [0u8; 1024];
     if n <= MOST {
-        io::read_full(STDIN_FILENO, &mut bytes[0..n]);
+        text_print::read_full(input, &mut bytes[0..n])?;
     }
-    bytes
+    Ok(bytes)
 }
 
 fn one_more(n: u32) -> u32 {
-    std::num::wrapping_add_u32(n, 1)
+    n.wrapping_add(1)
 }
 
 fn compared(head: [u8; 128], kind: u32, b0: &[u8], b1: &[u8], want: &[u8]) -> bool {
@@ -329,39 +332,37 @@ fn counted(t: Tally, kind: u32, equal: bool) -> Tally {
 }
 
 // The record behind a header, compared.
-fn replayed(head: [u8; 128], t: Tally) -> Tally {
+fn replayed<R: Read>(input: &mut R, head: [u8; 128], t: Tally) -> io::Result<Tally> {
     let kind = at(head, KIND);
     let size = at(head, BLOCK_SIZE) as usize;
     let more = at(head, BUFFER_SIZE) as usize;
-    let b0 = part(size);
-    let b1 = part(size);
-    let want = part(more);
+    let b0 = part(input, size)?;
+    let b1 = part(input, size)?;
+    let want = part(input, more)?;
     if MOST < size {
-        return counted(t, kind, false);
+        return Ok(counted(t, kind, false));
     }
     if MOST < more {
-        return counted(t, kind, false);
+        return Ok(counted(t, kind, false));
     }
     let equal = compared(head, kind, &b0[0..size], &b1[0..size], &want[0..more]);
-    counted(t, kind, equal)
+    Ok(counted(t, kind, equal))
 }
 
-fn line(label: &[u8], n: u32) {
-    io::write_all(STDOUT_FILENO, label);
-    io::print_decimal(STDOUT_FILENO, n as u64);
-    io::write_all(STDOUT_FILENO, b"\n");
+fn line(rt: &impl Print, label: &str, n: u32) -> io::Result<()> {
+    println!(rt; "{label}{n}")
 }
 
-fn report(t: Tally) {
-    line(b"lfs_dir_fetch ", t.fetches);
-    line(b"lfs_dir_getslice ", t.slices);
-    line(b"lfs_dir_getinfo ", t.infos);
-    line(b"lfs_dir_getgstate ", t.states);
-    line(b"different ", t.different);
+fn report(rt: &impl Print, t: Tally) -> io::Result<()> {
+    line(rt, "lfs_dir_fetch ", t.fetches)?;
+    line(rt, "lfs_dir_getslice ", t.slices)?;
+    line(rt, "lfs_dir_getinfo ", t.infos)?;
+    line(rt, "lfs_dir_getgstate ", t.states)?;
+    line(rt, "different ", t.different)
 }
 
 // The list to its end, or a hundred thousand records.
-fn run() -> Tally {
+fn run<R: Read>(input: &mut R) -> io::Result<Tally> {
     let mut t = Tally {
         fetches: 0,
         slices: 0,
@@ -371,16 +372,17 @@ fn run() -> Tally {
     };
     let mut left: u32 = 100_000;
     while 0 < left {
-        let head = header();
+        let head = header(input)?;
         if at(head, KIND) == 0 {
-            return t;
+            return Ok(t);
         }
-        t = replayed(head, t);
+        t = replayed(input, head, t)?;
         left -= 1;
     }
-    t
+    Ok(t)
 }
 
-fn main() {
-    report(run());
+fn main(rt: HostRuntime) -> io::Result<()> {
+    let tally = run(&mut rt.stdin())?;
+    report(&rt, tally)
 }

@@ -1,5 +1,3 @@
--- How a lent slice is lent again, for the walks.
-pub mod Again
 -- From the code's two passes to format's writer: a pass as a fold, the bytes, the first pass, the second, and both with
 -- what is around them.
 pub mod Folded
@@ -7,5 +5,5 @@ pub mod Chained
 pub mod Judges
 pub mod Lays
 pub mod Whole
--- The laws that the walks cite.
+-- The laws that the answers cite.
 pub mod Rules

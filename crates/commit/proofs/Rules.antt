@@ -1,4 +1,4 @@
--- The laws that the walks cite. Assumes nothing.
+-- The laws that the answers cite. Assumes nothing.
 use mathlib.Core.Path.{◌≡◌, refl, ap, ◌∙◌}
 use mathlib.Core.List.{List}
 use Prim.Native.Nat.{ℕ, suc}

@@ -6,8 +6,8 @@ use Prim.{tt}
 use Prim.Native.Nat.{ℕ, ◌+◌, ◌^◌, ◌≤◌, ◌<◌}
 use native.Mathlib.Omega.{arith}
 use lib.Dec.{leb, eqb}
-use types.Run.{OneOf, miss}
-use denote.Enum.Declared.{tag_of}
+
+
 use borrow.Author.Tests.{leb-true}
 use Rattle.format.specs.Regular.{Rule, rule_holds, count_after, grows_after, count_raised, create, delete, name, inlined}
 use Rattle.format.specs.Regular.{eight, attribute, tail, move, forward, bad}

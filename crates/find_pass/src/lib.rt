@@ -1,6 +1,8 @@
 // One forward pass over a block's committed log for a name: which slots have it now, one bit for each id, moved as
 // slots are made and removed. Fetch has said where the log ends, so nothing is summed again. The functions require that
 // the log is known to end there, and are for the crates of this repository.
+#![tactic(auto)]
+
 ghost use Rattle.std.specs.Prelude.{◌≡◌, ◌+◌, ◌^◌, ◌≤◌, ◌<◌, length, take, drop};
 ghost use Rattle.std.proofs.Math.Option.{some};
 ghost use Rattle.format.specs.Tag.{tag_type3, tag_id, tag_size};

@@ -1,6 +1,8 @@
 // A set of slot ids, one bit for each id below 1,024, in 32 words: id i is bit i % 32 of word i / 32. A slot that is
 // made or removed moves the bits above it. The functions require 32 words and an id below 1,024, and are for the crates
 // of this repository. They take slices: of an array behind a `&mut` no proof knows the words' range.
+#![tactic(auto)]
+
 ghost use Rattle.std.specs.Prelude.{◌≡◌, ◌+◌, ◌*◌, ◌%◌, ◌^◌, ◌<◌, length, get_or};
 ghost use Rattle.std.proofs.Math.ListN as list;
 ghost use Rattle.find_set.specs.Set.{Is, has, made, removed, assigned, lowest};

@@ -2,8 +2,11 @@
 // caller of this repository; and littlefs's own functions, thin, which take the state where it stands, by `&` or
 // `&mut`, and call the first. (lfs_gstate_fromle32 and lfs_gstate_tole32 have no counterpart: a state is read from
 // bytes, see docs/DECISIONS.md.)
+#![tactic(auto)]
+
 ghost use Rattle.std.specs.Prelude.{◌≡◌};
-ghost use Rattle.format.specs.Gstate.{gstate_xor, gstate_zero, gstate_has_orphans, gstate_orphans, gstate_needs_superblock};
+ghost use Rattle.format.specs.Gstate.{gstate_xor, gstate_zero, gstate_has_orphans, gstate_orphans};
+ghost use Rattle.format.specs.Gstate.{gstate_needs_superblock};
 ghost use Rattle.format.specs.Gstate.{gstate_has_move, gstate_has_move_here};
 
 use format::{LfsGstate, LfsPair};

@@ -1,14 +1,15 @@
 -- The info: what the two lookups say of it, and the test before them. Assumes nothing.
 use mathlib.Core.Path.{◌≡◌, refl, sym, ap, ◌∙◌}
-use mathlib.Core.Bool.{Bool, true, false, not, ◌&&◌}
+use mathlib.Core.Bool.{Bool, true, false, ◌&&◌}
 use mathlib.Core.List.{List, ◌∷◌, ◌++◌}
 use Prim.Native.Nat.{ℕ, zero, suc, ◌+◌, ◌-◌, ◌%◌, ◌^◌, ◌≤◌}
 use native.Mathlib.Omega.{arith}
 use lib.Dec.{leb}
 use lib.ListN.{length, take, drop, length-replicate}
-use borrow.Author.Tests.{leb-true, eq-eqb, ne_eqb, not-true, not-false}
+use borrow.Author.Tests.{leb-true, eq-eqb, ne_eqb}
 use Rattle.format.specs.Tag.{tag_type3, mk_tag}
-use Rattle.format.specs.Lookup.{record_fits, block_of, searched, slice_answer, slice_buffer, blank_buffer, name_mask, name_key}
+use Rattle.format.specs.Lookup.{record_fits, block_of, searched, slice_answer, slice_buffer, blank_buffer, name_mask}
+use Rattle.format.specs.Lookup.{name_key}
 use Rattle.format.specs.Lookup.{struct_mask, struct_key, info_refused, info_root, info_size, info_from, read_answer}
 use Rattle.format.specs.Lookup.{read_buffer, info_of, getinfo_fits, getinfo_of}
 use Rattle.format.specs.declared.Geometry.{Geometry}
@@ -105,8 +106,10 @@ module _ (b : List ℕ) (dir : LfsMdir) (gdisk : LfsGstate) (nameMax id : ℕ) (
   name_answer_lem = e ∙ ap (λ f. slice_answer b 0 (length (blank nameMax)) f) name_search
       ∙ ap (λ (k : ℕ). slice_answer b 0 k u) (ap length lent ∙ length-replicate {A = ℕ} (nameMax + 1) 0)
 
-  pub info_refused_lem : (r : Refusal) → a ≡ got.Refused r → (x : Informed) → x ≡ info_refused r → x ≡ info_of b nameMax u v
-  info_refused_lem r q x ex = ex ∙ ap (λ y. info_from y (read_buffer b (nameMax + 1) u) (read_answer b 8 v) (read_buffer b 8 v))
+  pub info_refused_lem : (r : Refusal) → a ≡ got.Refused r → (x : Informed) → x ≡ info_refused r
+      → x ≡ info_of b nameMax u v
+  info_refused_lem r q x ex = ex
+      ∙ ap (λ y. info_from y (read_buffer b (nameMax + 1) u) (read_answer b 8 v) (read_buffer b 8 v))
       (sym q ∙ name_answer_lem)
 
   -- l is the part that was lent, x the info with the buffer of which it is the front
@@ -132,15 +135,15 @@ module _ (g : Geometry) (b0 b1 : List ℕ) (n0 n1 : ℕ) (dir : LfsMdir) (gdisk 
   abbrev taken : Bool
   taken = fits && leb 1 nameMax && leb nameMax 255 && leb id 1023
 
-  pub getinfo_refused : not taken ≡ true → (x : Informed) → x ≡ info_refused Invalid
+  pub getinfo_refused : taken ≡ false → (x : Informed) → x ≡ info_refused Invalid
       → x ≡ getinfo_of g b0 b1 n0 n1 dir gdisk nameMax id
   unfolding getinfo_of getinfo_fits
-  getinfo_refused h x ex = ex ∙ sym (rw (← e, not-true taken h))
+  getinfo_refused h x ex = ex ∙ sym (rw (← e, h))
 
-  module _ (h : not taken ≡ false) where
+  module _ (h : taken ≡ true) where
     pub getinfo_inside : ((dir.off ≤ length b0) × (dir.off ≤ length b1)) × ((nameMax ≤ 255) × (id ≤ 1023))
     getinfo_inside =
-        let p = both (fits && leb 1 nameMax && leb nameMax 255) (leb id 1023) (not-false taken h) in
+        let p = both (fits && leb 1 nameMax && leb nameMax 255) (leb id 1023) h in
         let q = both (fits && leb 1 nameMax) (leb nameMax 255) p.0 in
         let r = both fits (leb 1 nameMax) q.0 in (
           end_inside g (length b0) (length b1) n0 n1 dir (sym e ∙ r.0),
@@ -149,7 +152,7 @@ module _ (g : Geometry) (b0 b1 : List ℕ) (n0 n1 : ℕ) (dir : LfsMdir) (gdisk 
 
     pub getinfo_root : id ≡ 1023 → (x : Informed) → x ≡ info_root → x ≡ getinfo_of g b0 b1 n0 n1 dir gdisk nameMax id
     unfolding getinfo_of getinfo_fits
-    getinfo_root q x ex = ex ∙ sym (rw (← e, not-false taken h, eq-eqb id 1023 q))
+    getinfo_root q x ex = ex ∙ sym (rw (← e, h, eq-eqb id 1023 q))
 
     -- b is the block that is read
     pub getinfo_read : (id ≡ 1023 → ⊥) → (b : List ℕ) → b ≡ block_of b0 b1 n0 dir → (x : Informed)
@@ -157,4 +160,4 @@ module _ (g : Geometry) (b0 b1 : List ℕ) (n0 n1 : ℕ) (dir : LfsMdir) (gdisk 
         (searched b dir gdisk struct_mask (struct_key id))
         → x ≡ getinfo_of g b0 b1 n0 n1 dir gdisk nameMax id
     unfolding getinfo_of getinfo_fits
-    getinfo_read n b eb x ex = ex ∙ sym (rw (← e, not-false taken h, ne_eqb id 1023 n, ← eb))
+    getinfo_read n b eb x ex = ex ∙ sym (rw (← e, h, ne_eqb id 1023 n, ← eb))

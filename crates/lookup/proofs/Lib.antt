@@ -2,4 +2,3 @@
 pub mod Slices
 pub mod Moves
 pub mod Infos
-pub mod Lends

@@ -1,12 +1,11 @@
 -- The move state: what the slice of twelve bytes says of it. Assumes nothing.
 use mathlib.Core.Path.{◌≡◌, refl, sym, ap, ◌∙◌}
-use mathlib.Core.Bool.{Bool, true, false, not, cond}
+use mathlib.Core.Bool.{Bool, true, false, cond}
 use mathlib.Core.List.{List}
 use Prim.Native.Nat.{ℕ, ◌^◌, ◌<◌}
 use native.Mathlib.Omega.{arith}
 use lib.Dec.{leb}
 use lib.ListN.{length}
-use borrow.Author.Tests.{not-true, not-false}
 use Rattle.format.specs.Tag.{mk_tag, tag_of}
 use Rattle.format.specs.Gstate.{gstate_xor}
 use Rattle.format.specs.Lookup.{record_fits, block_of, searched, slice_end, slice_answer, slice_buffer, blank_buffer}
@@ -92,17 +91,16 @@ module _ (b : List ℕ) (dir : LfsMdir) (gdisk gstate : LfsGstate) (gm gt : ℕ)
 -- ---- `lfs_dir_getgstate`; fits is what `record_fits` answers
 module _ (g : Geometry) (b0 b1 : List ℕ) (n0 n1 : ℕ) (dir : LfsMdir) (gdisk gstate : LfsGstate) (fits : Bool)
     (e : fits ≡ record_fits g (length b0) (length b1) n0 n1 dir) where
-  pub getgstate_refused : not fits ≡ true
+  pub getgstate_refused : fits ≡ false
       → (altered.Refused Invalid ≡ getgstate_of g b0 b1 n0 n1 dir gdisk)
       × (gstate ≡ getgstate_state g b0 b1 n0 n1 dir gdisk gstate)
   unfolding getgstate_of getgstate_state
-  getgstate_refused h = let f = not-true fits h in (sym (rw (← e, f)), sym (rw (← e, f)))
+  getgstate_refused h = (sym (rw (← e, h)), sym (rw (← e, h)))
 
   -- b is the block that is read
-  pub getgstate_read : not fits ≡ false → (b : List ℕ) → b ≡ block_of b0 b1 n0 dir → (a : Altered) (x : LfsGstate)
+  pub getgstate_read : fits ≡ true → (b : List ℕ) → b ≡ block_of b0 b1 n0 dir → (a : Altered) (x : LfsGstate)
       → a ≡ move_answer b (searched b dir gdisk move_mask move_key)
       → x ≡ move_state b gstate (searched b dir gdisk move_mask move_key)
       → (a ≡ getgstate_of g b0 b1 n0 n1 dir gdisk) × (x ≡ getgstate_state g b0 b1 n0 n1 dir gdisk gstate)
   unfolding getgstate_of getgstate_state
-  getgstate_read h b eb a x ea ex = let f =
-      not-false fits h in (ea ∙ sym (rw (← e, f, ← eb)), ex ∙ sym (rw (← e, f, ← eb)))
+  getgstate_read h b eb a x ea ex = (ea ∙ sym (rw (← e, h, ← eb)), ex ∙ sym (rw (← e, h, ← eb)))

@@ -1,11 +1,11 @@
 -- `lfs_dir_getslice` and `lfs_dir_get`: each way out of the code decides the definition's cases. Assumes nothing.
 use mathlib.Core.Path.{◌≡◌, sym, ap, ◌∙◌}
-use mathlib.Core.Bool.{Bool, true, false, not, ◌&&◌}
+use mathlib.Core.Bool.{Bool, true, false, ◌&&◌}
 use mathlib.Core.List.{List, ◌++◌}
 use Prim.Native.Nat.{ℕ, ◌≤◌, ◌<◌}
 use lib.Dec.{leb}
 use lib.ListN.{length, take, drop}
-use borrow.Author.Tests.{le-leb, lt-leb, not-true, not-false}
+use borrow.Author.Tests.{le-leb, lt-leb}
 use Rattle.format.specs.Tag.{tag_size}
 use Rattle.format.specs.Lookup.{record_fits, block_of, searched, slice_answer, slice_buffer, getslice_fits, getslice_of}
 use Rattle.format.specs.Lookup.{getslice_buffer, get_fits, get_of, get_buffer}
@@ -22,27 +22,26 @@ use Rattle.sizes.proofs.Records.{end_inside}
 module _ (g : Geometry) (b0 b1 : List ℕ) (n0 n1 : ℕ) (dir : LfsMdir) (gdisk : LfsGstate) (mask key goff : ℕ)
     (d : List ℕ) (fits : Bool)
     (e : fits ≡ record_fits g (length b0) (length b1) n0 n1 dir) where
-  pub getslice_refused : not (fits && leb (length d) 65_536) ≡ true
+  pub getslice_refused : fits && leb (length d) 65_536 ≡ false
       → (got.Refused Invalid ≡ getslice_of g b0 b1 n0 n1 dir gdisk mask key goff d)
       × (d ≡ getslice_buffer g b0 b1 n0 n1 dir gdisk mask key goff d)
   unfolding getslice_of getslice_buffer getslice_fits
-  getslice_refused h = let f = not-true (fits && leb (length d) 65_536) h in (sym (rw (← e, f)), sym (rw (← e, f)))
+  getslice_refused h = (sym (rw (← e, h)), sym (rw (← e, h)))
 
-  pub getslice_inside : not (fits && leb (length d) 65_536) ≡ false → (dir.off ≤ length b0) × (dir.off ≤ length b1)
+  pub getslice_inside : fits && leb (length d) 65_536 ≡ true → (dir.off ≤ length b0) × (dir.off ≤ length b1)
   getslice_inside h =
-      let f = both fits (leb (length d) 65_536) (not-false (fits && leb (length d) 65_536) h) in
+      let f = both fits (leb (length d) 65_536) h in
       end_inside g (length b0) (length b1) n0 n1 dir (sym e ∙ f.0)
 
   -- b is the block that is read
-  pub getslice_read : not (fits && leb (length d) 65_536) ≡ false → (b : List ℕ) → b ≡ block_of b0 b1 n0 dir
+  pub getslice_read : fits && leb (length d) 65_536 ≡ true → (b : List ℕ) → b ≡ block_of b0 b1 n0 dir
       → (r : Got) (l : List ℕ)
       → r ≡ slice_answer b goff (length d) (searched b dir gdisk mask key)
       → l ≡ slice_buffer b goff d (searched b dir gdisk mask key)
       → (r ≡ getslice_of g b0 b1 n0 n1 dir gdisk mask key goff d)
       × (l ≡ getslice_buffer g b0 b1 n0 n1 dir gdisk mask key goff d)
   unfolding getslice_of getslice_buffer getslice_fits
-  getslice_read h b eb r l er el = let f = not-false (fits && leb (length d) 65_536) h in
-      (er ∙ sym (rw (← e, f, ← eb)), el ∙ sym (rw (← e, f, ← eb)))
+  getslice_read h b eb r l er el = (er ∙ sym (rw (← e, h, ← eb)), el ∙ sym (rw (← e, h, ← eb)))
 
 -- ---- `lfs_dir_get`; s is the key's size
 module _ (g : Geometry) (b0 b1 : List ℕ) (n0 n1 : ℕ) (dir : LfsMdir) (gdisk : LfsGstate) (mask key : ℕ) (d : List ℕ)

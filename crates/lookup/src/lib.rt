@@ -1,6 +1,8 @@
 // Lookups in a metadata pair: traverse.rs lfs_dir_getslice and lfs_dir_get, fetch.rs lfs_dir_getinfo and
 // lfs_dir_getgstate. What the Rust reads through `lfs` is here the two images with their numbers, the record that fetch
 // gave, and the global state on disk. Any bytes, numbers and records are answered; a refusal alters nothing.
+#![tactic(auto)]
+
 ghost use Rattle.std.specs.Prelude.{◌≡◌};
 ghost use Rattle.format.specs.Lookup.{getslice_of, getslice_buffer, get_of, get_buffer, getgstate_of, getgstate_state};
 ghost use Rattle.format.specs.Lookup.{getinfo_of};

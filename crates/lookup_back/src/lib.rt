@@ -1,6 +1,8 @@
 // A step of the walk back over a block's committed log: where the tag that ends at an offset stands, and the tag
 // before it. The loops of the lookups and of compaction step by these; what a turn does with the tag is theirs. A
 // function with a `requires` is for the crates of this repository.
+#![tactic(auto)]
+
 ghost use Rattle.std.specs.Prelude.{◌≡◌, ◌+◌, ◌≤◌, length};
 ghost use Rattle.lookup_back.specs.Step.{Placed, tag_before};
 

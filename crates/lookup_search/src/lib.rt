@@ -2,6 +2,8 @@
 // committed log. This is the loop of traverse.rs lfs_dir_getslice; what is done with the entry that it finds stands in
 // crate `lookup`, and compaction finds its move state by it. The functions require that the end is inside the block,
 // and are for the crates of this repository.
+#![tactic(auto)]
+
 ghost use Rattle.std.specs.Prelude.{◌≡◌, ◌+◌, ◌^◌, ◌<◌, ◌≤◌, cond, length, if◌then◌else◌};
 ghost use Rattle.format.specs.Word.{plus32, minus32};
 ghost use Rattle.format.specs.Tag.{tag_splice};

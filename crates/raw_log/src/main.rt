@@ -1,8 +1,11 @@
 // The raw log as a program: both images of a pair on standard input, one behind the other, the text on standard output.
 // `--full` as the first argument shows all data; behind it, or alone, the arguments are those of the program `list`,
 // but for the rule: every log is shown as it is.
+#![tactic(auto)]
+
 use format::LfsPair;
-use libc::STDIN_FILENO;
+use std::env::Env;
+use std::io;
 use text_args::Request;
 
 // Room for every text. Of what the walk meets a check with one byte behind it shows most for its length, a line of 71
@@ -13,16 +16,23 @@ fn room() -> [u8; 1_836_000] {
     [0u8; 1_836_000]
 }
 
-fn show(full: bool, prog_size: u32, numbers: LfsPair, pair: &[u8]) {
+fn show(
+    rt: &HostRuntime,
+    full: bool,
+    prog_size: u32,
+    numbers: LfsPair,
+    pair: &[u8],
+) -> io::Result<()> {
     let mut text = room();
     let n = text_log::lfs_dir_log(full, prog_size, numbers, pair, &mut text);
-    text_print::whole(&text, n as usize);
+    text_print::whole(&mut rt.stdout(), &mut rt.stderr(), &text, n as usize)?;
+    Ok(())
 }
 
 // Whether the first argument is `--full`.
-fn asks_full() -> bool {
+fn asks_full(rt: &HostRuntime) -> bool {
     let mut word = [0u8; 8];
-    let n = os::arg(1, &mut word);
+    let n = rt.arg(1, &mut word).unwrap_or(0);
     (n == 6)
         & (word[0] == b'-')
         & (word[1] == b'-')
@@ -32,19 +42,20 @@ fn asks_full() -> bool {
         & (word[5] == b'l')
 }
 
-fn main() {
-    let full = asks_full();
+fn main(rt: HostRuntime) -> io::Result<()> {
+    let full = asks_full(&rt);
     let from = if full { 2 } else { 1 };
-    match text_args::asked(from, false) {
+    match text_args::asked(&rt, from, false) {
         Request::As(prog_size, numbers, _) => {
             let mut pair = [0u8; 65_537];
-            let n = io::read_full(STDIN_FILENO, &mut pair);
-            show(full, prog_size, numbers, &pair[..n]);
+            let n = text_print::read_full(&mut rt.stdin(), &mut pair)?;
+            show(&rt, full, prog_size, numbers, &pair[..n])
         }
         Request::Unclear => {
             text_print::usage(
+                &mut rt.stderr(),
                 b"usage: log [--full] [PROG_SIZE A B], both images on standard input\n",
-            );
+            )
         }
     }
 }

@@ -1,9 +1,12 @@
 // What a program is asked for: the program size, the two block numbers and the rule that its arguments name, or
 // document 01's own where it has none.
+#![tactic(auto)]
+
 ghost use Rattle.std.specs.Prelude.{◌≡◌};
 ghost use Rattle.text_args.specs.Number.{digit_behind, number_of};
 
 use format::LfsPair;
+use std::env::{Env, FillError};
 use text_input::{INPUT_PAIR, INPUT_PROG_SIZE, INPUT_RULES};
 
 // A word in decimal, or a text that is none.
@@ -57,17 +60,29 @@ pub fn number(text: &[u8]) -> Decimal
     Decimal::Is(value)
 }
 
+// How many arguments the program was started with, its own name among them.
+pub fn count<E: Env>(env: &E) -> usize {
+    for i in 0..usize::MAX {
+        if let Err(FillError::NotPresent) = env.arg(i, &mut []) {
+            return i;
+        }
+    }
+    usize::MAX
+}
+
 // An argument as a number. One that is longer than the buffer counts as empty, and so as none.
-pub fn word(i: usize) -> Decimal {
+pub fn word<E: Env>(env: &E, i: usize) -> Decimal {
     let mut text = [0u8; 32];
-    let n = os::arg(i, &mut text);
-    number(&text[..n])
+    match env.arg(i, &mut text) {
+        Ok(n) => number(&text[..n]),
+        Err(_) => Decimal::Not,
+    }
 }
 
 // What the arguments from number `from` on ask for: document 01's own where there are none, else three numbers; and, of
 // a program that goes by a rule, a fourth, without which it is document 01's.
-pub fn asked(from: usize, ruled: bool) -> Request {
-    let count = os::arg_count();
+pub fn asked<E: Env>(env: &E, from: usize, ruled: bool) -> Request {
+    let count = count(env);
     if count <= from {
         return Request::As(INPUT_PROG_SIZE, INPUT_PAIR, INPUT_RULES);
     }
@@ -78,13 +93,13 @@ pub fn asked(from: usize, ruled: bool) -> Request {
     if 4 < words {
         return Request::Unclear;
     }
-    let Decimal::Is(prog_size) = word(from) else {
+    let Decimal::Is(prog_size) = word(env, from) else {
         return Request::Unclear;
     };
-    let Decimal::Is(n0) = word(from + 1) else {
+    let Decimal::Is(n0) = word(env, from + 1) else {
         return Request::Unclear;
     };
-    let Decimal::Is(n1) = word(from + 2) else {
+    let Decimal::Is(n1) = word(env, from + 2) else {
         return Request::Unclear;
     };
     if words == 3 {
@@ -93,7 +108,7 @@ pub fn asked(from: usize, ruled: bool) -> Request {
     if !ruled {
         return Request::Unclear;
     }
-    let Decimal::Is(rules) = word(from + 3) else {
+    let Decimal::Is(rules) = word(env, from + 3) else {
         return Request::Unclear;
     };
     Request::As(prog_size, LfsPair { n0, n1 }, rules)

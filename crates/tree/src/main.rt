@@ -1,55 +1,83 @@
 // The tree of a volume, as a program: the volume on standard input, the text on standard output. The block size is the
 // first argument; behind it may stand the program size, the two block numbers and the rule, as the program `list` takes
 // them. A refusal is shown as the listing shows one, behind the lines that were given before it.
+#![tactic(auto)]
+
 use format::{Altered, Geometry, LfsPair, Refusal};
-use libc::STDIN_FILENO;
+use std::io;
 use text_args::{Decimal, Request};
 
 // "at most 4,096": all that a call takes.
 const ALLOWANCE: u32 = 4_096;
 
 // "A refusal prints `refused` and its number".
-fn show_refusal(r: Refusal) {
+fn show_refusal(rt: &HostRuntime, r: Refusal) -> io::Result<()> {
     let mut line = [0u8; 32];
     let n = text_input::refused(&mut line, 0, r);
-    text_print::whole(&line, n as usize);
+    text_print::whole(&mut rt.stdout(), &mut rt.stderr(), &line, n as usize)?;
+    Ok(())
 }
 
-fn show(g: Geometry, numbers: LfsPair, rules: u32, volume: &[u8]) {
-    let mut text = [0u8; 524_288];
+// Room for a text, and for a volume and a byte more. Functions of their own, so that no proof but their own sees so long
+// an array.
+fn text_room() -> [u8; 524_288] {
+    [0u8; 524_288]
+}
+
+fn volume_room() -> [u8; 524_289] {
+    [0u8; 524_289]
+}
+
+fn show(
+    rt: &HostRuntime,
+    g: Geometry,
+    numbers: LfsPair,
+    rules: u32,
+    volume: &[u8],
+) -> io::Result<()> {
+    let mut text = text_room();
     let tree = tree_walk::lfs_dir_tree(
         g, volume, numbers.n0, numbers.n1, rules, ALLOWANCE, &mut text,
     );
     let answer = tree.answer;
-    if text_print::whole(&text, tree.length as usize) {
+    let length = tree.length as usize;
+    if text_print::whole(&mut rt.stdout(), &mut rt.stderr(), &text, length)? {
         if let Altered::Refused(r) = answer {
-            show_refusal(r);
+            show_refusal(rt, r)?;
         }
     }
+    Ok(())
 }
 
-fn tree(block_size: u32, prog_size: u32, numbers: LfsPair, rules: u32) {
-    let mut volume = [0u8; 524_289];
-    let n = io::read_full(STDIN_FILENO, &mut volume);
+fn tree(
+    rt: &HostRuntime,
+    block_size: u32,
+    prog_size: u32,
+    numbers: LfsPair,
+    rules: u32,
+) -> io::Result<()> {
+    let mut volume = volume_room();
+    let n = text_print::read_full(&mut rt.stdin(), &mut volume)?;
     let g = Geometry {
         block_size,
         prog_size,
     };
-    show(g, numbers, rules, &volume[..n]);
+    show(rt, g, numbers, rules, &volume[..n])
 }
 
-fn usage() {
+fn usage(rt: &HostRuntime) -> io::Result<()> {
     text_print::usage(
+        &mut rt.stderr(),
         b"usage: tree BLOCK_SIZE [PROG_SIZE A B [RULES]], the volume on standard input\n",
-    );
+    )
 }
 
-fn main() {
-    let Decimal::Is(block_size) = text_args::word(1) else {
-        return usage();
+fn main(rt: HostRuntime) -> io::Result<()> {
+    let Decimal::Is(block_size) = text_args::word(&rt, 1) else {
+        return usage(&rt);
     };
-    match text_args::asked(2, true) {
-        Request::As(prog_size, numbers, rules) => tree(block_size, prog_size, numbers, rules),
-        Request::Unclear => usage(),
+    match text_args::asked(&rt, 2, true) {
+        Request::As(prog_size, numbers, rules) => tree(&rt, block_size, prog_size, numbers, rules),
+        Request::Unclear => usage(&rt),
     }
 }

@@ -29,9 +29,9 @@ loop-id-preserved c =
     let more = c.loop-id-test.true in
     let r = c.placed_slot-part.ensures in (
       omega arith,
-      omega (arith, slot_end _ _ _ _ p _ _ _ _ k more _ r.0 _ r.1),
+      omega (arith, slot_end _ _ _ _ p _ _ _ _ k more _ r.after _ r.at_value),
       search rules,
-      slot_passed _ _ _ _ p _ _ _ _ k more _ r.0 _ r.1,
+      slot_passed _ _ _ _ p _ _ _ _ k more _ r.after _ r.at_value,
     )
 
 pub returns : goal.returns

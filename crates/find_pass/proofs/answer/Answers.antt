@@ -1,6 +1,5 @@
 -- `find_pass::answer` meets its contract. Assumes nothing.
 use borrow.Author.Tests.{lt-ltb, le-ltb}
-use borrow.Author.Rules.{rules}
 use Rattle.find_pass.proofs.answer.Goals as goal
 
 pub returns-then-id-lt1024 : goal.returns-then-id-lt1024

@@ -1,6 +1,5 @@
 -- `find_pass::entered` meets its contract: what the rules answer, at the count that they raise. Assumes nothing.
 use mathlib.Core.Path.{◌∙◌}
-use borrow.Author.Rules.{rules}
 use Rattle.find_pass.proofs.entered.Goals as goal
 
 pub returns : goal.returns

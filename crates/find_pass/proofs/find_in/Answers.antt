@@ -1,13 +1,10 @@
 -- `find_pass::find_in` meets its contract. The loop keeps which of the slots so far have the name, and the log that is
 -- still to come (`Going`); what is left of the block falls. Assumes nothing.
 use mathlib.Core.Path.{sym}
-use Prim.Native.Nat.{◌-◌}
 use native.Mathlib.Omega.{arith}
-use borrow.Author.Rules.{rules}
-use Rattle.format.specs.Find.{is_named}
 use Rattle.commit_regular.proofs.Turn.{word_inside, tag_small, tag_inside, turn_unchecked, turn_check, turn_bad}
 use Rattle.commit_regular.proofs.Turn.{turn_entry}
-use Rattle.find_pass.proofs.Turn.{Going, starts_going, none_named, check_goes, entry_followable, entry_goes}
+use Rattle.find_pass.proofs.Turn.{starts_going, none_named, check_goes, entry_followable, entry_goes}
 use Rattle.find_pass.proofs.Turn.{refused, ends}
 use Rattle.std.proofs.Common.{ap, not}
 use Rattle.find_pass.proofs.find_in.Goals as goal
@@ -74,18 +71,24 @@ returns-in_default c = refused _ _ _ _ (turn_bad _ _ _ _ _ _ _
 
 pub follow-any-requires : goal.follow-any-requires
 follow-any-requires c = entry_followable _ _ _ (none_named _ _) _ _ _ _ _ _ _
-    c.loop-at.invariant _ _
-    _ _ (turn_entry _ _ _ _ _ _ _ c.loop-at.invariant.ahead c.loop-at-test.true _ c.be32.ensures _ c.lfs_tag_dsize.ensures _ c.is_check.ensures
-    c.if-is_check.false _ c.lfs_tag_type3.ensures _ c.rule_of-rule.ensures _ c.entered.ensures _ (sym c.in-To.is))
+    c.loop-at.invariant _ _ _ _
+    (turn_entry _ _ _ _ _ _ _ c.loop-at.invariant.ahead c.loop-at-test.true _ c.be32.ensures _
+    c.lfs_tag_dsize.ensures _ c.is_check.ensures c.if-is_check.false _ c.lfs_tag_type3.ensures _
+    c.rule_of-rule.ensures _ c.entered.ensures _ (sym c.in-To.is))
 
 pub loop-at-smaller : goal.loop-at-smaller
 loop-at-smaller c =
-    let t = tag_inside _ _ _ _ _ _ _ c.loop-at.invariant.ahead c.loop-at-test.true _ c.be32.ensures _ c.lfs_tag_dsize.ensures in
+    let t = tag_inside _ _ _ _ _ _ _ c.loop-at.invariant.ahead c.loop-at-test.true _ c.be32.ensures _
+    c.lfs_tag_dsize.ensures in
     omega (arith, t.1)
 
 pub loop-at-preserved : goal.loop-at-preserved
 loop-at-preserved c = entry_goes _ _ _ (none_named _ _) _ _ _ _ _ _ _
-    c.loop-at.invariant _ _ _ _ (turn_entry _ _ _ _ _ _ _ c.loop-at.invariant.ahead c.loop-at-test.true _ c.be32.ensures _ c.lfs_tag_dsize.ensures _ c.is_check.ensures c.if-is_check.false _ c.lfs_tag_type3.ensures _ c.rule_of-rule.ensures _ c.entered.ensures _ (sym c.in-To.is)) _ _ _ c.follow-any.ensures c.grows_after-grows.ensures
+    c.loop-at.invariant _ _ _ _
+    (turn_entry _ _ _ _ _ _ _ c.loop-at.invariant.ahead c.loop-at-test.true _ c.be32.ensures _
+    c.lfs_tag_dsize.ensures _ c.is_check.ensures c.if-is_check.false _ c.lfs_tag_type3.ensures _
+    c.rule_of-rule.ensures _ c.entered.ensures _ (sym c.in-To.is)) _ _ _ c.follow-any.ensures
+    c.grows_after-grows.ensures
 
 pub returns : goal.returns
 returns c = ends _ _ _ _ _ _ _ _ _ _ _ c.loop-at.invariant c.loop-at-test.false _

@@ -1,7 +1,6 @@
 -- `find_pass::follow` meets its contract, by what the entry is. Assumes nothing.
 use mathlib.Core.Path.{sym, ◌∙◌}
 use Rattle.find_pass.proofs.Entry.{name_inside, name_followed, create_followed, delete_followed, other_followed}
-use borrow.Author.Rules.{rules}
 use Rattle.find_pass.proofs.follow.Goals as goal
 
 pub is_named-is-requires : goal.is_named-is-requires

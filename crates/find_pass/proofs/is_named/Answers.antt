@@ -1,6 +1,5 @@
 -- `find_pass::is_named` meets its contract: another type, or as the bytes are. Assumes nothing.
 use Rattle.find_pass.proofs.Names.{other_type, same_type}
-use borrow.Author.Rules.{rules}
 use Rattle.find_pass.proofs.is_named.Goals as goal
 
 pub returns-then-lfs_tag_type3-kind : goal.returns-then-lfs_tag_type3-kind

@@ -1,5 +1,4 @@
 -- `find_pass::make` meets its contract: the bits are moved, or there are none. Assumes nothing.
-use borrow.Author.Rules.{rules}
 use Rattle.find_pass.proofs.Moved.{made_still, made_moved}
 use Rattle.find_pass.proofs.make.Goals as goal
 

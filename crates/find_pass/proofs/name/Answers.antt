@@ -1,5 +1,4 @@
 -- `find_pass::name` meets its contract: the bit is stored, or there is none. Assumes nothing.
-use borrow.Author.Rules.{rules}
 use Rattle.find_pass.proofs.Moved.{named_still, named_moved}
 use Rattle.find_pass.proofs.name.Goals as goal
 

@@ -1,9 +1,6 @@
 -- `find_pass::same_bytes` meets its contract. The loop keeps what is left to compare. Assumes nothing.
-use mathlib.Core.Path.{◌≡◌, refl}
-use Prim.Native.Nat.{◌-◌, ◌≤◌}
+use mathlib.Core.Path.{refl}
 use native.Mathlib.Omega.{arith}
-use lib.ListN.{length, drop}
-use Rattle.format.specs.Find.{same_bytes}
 use Rattle.find_pass.proofs.Names.{lengths_differ, byte_differs, byte_same, all_same}
 use Rattle.find_pass.proofs.same_bytes.Goals as goal
 

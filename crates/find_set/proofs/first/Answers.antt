@@ -1,13 +1,10 @@
 -- `find_set::first` meets its contract. The words before the loop's are zero; the measure is what is left of them.
 -- Assumes nothing.
-use mathlib.Core.Path.{◌≡◌}
-use Prim.Native.Nat.{ℕ, ◌-◌, ◌<◌, ◌≤◌}
 use native.Mathlib.Omega.{arith}
 use borrow.Author.Count.{below_none, below_more}
 use lib.Count.{trailing_le}
 use lib.ListN.{get_or}
 use Rattle.find_set.proofs.Least.{lowest_none, lowest_found}
-use borrow.Author.Rules.{rules}
 use Rattle.find_set.proofs.first.Goals as goal
 
 pub loop-i-init : goal.loop-i-init
@@ -22,7 +19,7 @@ pub returns-then-word-ne0 : goal.returns-then-word-ne0
 returns-then-word-ne0 c =
     let loop = c.loop-i in
     lowest_found _ _ loop.invariant.1 (omega arith) c.if-word-ne0.true
-    (omega (arith, c.shared_slice_known-1.given loop.i))
+    (omega (arith, c.type_inv.words loop.i))
 
 pub loop-i-preserved : goal.loop-i-preserved
 loop-i-preserved c = (omega arith, below_more _ _ c.loop-i.invariant.1 c.if-word-ne0.false)

@@ -2,12 +2,7 @@
 -- Assumes nothing.
 use mathlib.Core.Path.{◌≡◌}
 use Prim.Native.Nat.{ℕ, ◌-◌, ◌<◌, ◌≤◌}
-use native.Mathlib.Omega.{arith}
-use borrow.Author.Count.{below_none, below_more}
-use lib.Count.{trailing_le}
 use lib.ListN.{get_or}
-use Rattle.find_set.proofs.Least.{lowest_none, lowest_found}
-use borrow.Author.Rules.{rules}
 use Rattle.find_set.proofs.first.Given as goal
 
 abbrev pub invariant-loop-i : goal.invariant-loop-i

@@ -1,23 +1,14 @@
 -- `find_set::insert` meets its contract. The words above the loop's are moved, and the others as at entry; the loop
 -- goes down. Assumes nothing.
-use Prim.Native.Nat.{◌+◌, ◌-◌, ◌≤◌, ◌<◌}
+use Prim.Native.Nat.{◌-◌}
 use native.Mathlib.Omega.{arith}
-use Rattle.find_set.specs.Set.{has, made}
-use Rattle.find_set.proofs.Words.{Moved, moved_start}
-use Rattle.find_set.proofs.Moves.{up_turn, up_end}
 use borrow.Author.Rules.{rules}
+use Rattle.find_set.proofs.Words.{moved_start}
+use Rattle.find_set.proofs.Moves.{up_turn, up_end}
 use Rattle.find_set.proofs.insert.Goals as goal
 
 pub loop-i-init : goal.loop-i-init
 loop-i-init c = (omega arith, omega arith, moved_start _ _ c.requires.0)
-
-pub open_word-requires : goal.open_word-requires
-open_word-requires c =
-    let loop = c.loop-i in (
-      omega (arith, loop.invariant.2.full),
-      omega arith,
-      omega (arith, c.slice_known-in-loop-i-1.given (loop.i - 1)),
-    )
 
 pub loop-i-preserved : goal.loop-i-preserved
 loop-i-preserved c =
@@ -25,7 +16,7 @@ loop-i-preserved c =
       omega arith,
       omega arith,
       up_turn _ _ _ _ loop.invariant.2 _ (omega arith) (omega arith) (omega arith)
-          (omega (arith, c.slice_known-in-loop-i-1.given (loop.i - 1))) _
+          (search rules) _
           c.open_word.ensures,
     )
 

@@ -4,7 +4,6 @@ use lib.Pow.{pow_pos}
 use Prim.Native.Nat.{◌*◌, ◌-◌, ◌%◌, ◌^◌}
 use lib.Bits.{bit_and, bit_or, mask_lt}
 use Rattle.find_set.proofs.Digits.{joined_is, shifted_one}
-use borrow.Author.Rules.{rules}
 use Rattle.find_set.proofs.joined.Goals as goal
 
 pub overflow_sub-result : goal.overflow_sub-result

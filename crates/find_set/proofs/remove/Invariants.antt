@@ -2,12 +2,9 @@
 -- is the lowest digit of the word above, as it was. The loop goes down. Assumes nothing.
 use mathlib.Core.Path.{◌≡◌}
 use Prim.Native.Nat.{◌+◌, ◌*◌, ◌≤◌, ◌<◌}
-use native.Mathlib.Omega.{arith}
 use lib.Dec.{eqb}
 use Rattle.find_set.specs.Set.{has, removed}
-use Rattle.find_set.proofs.Words.{Moved, moved_start}
-use Rattle.find_set.proofs.Moves.{down_start, down_turn, down_carry, down_end}
-use borrow.Author.Rules.{rules}
+use Rattle.find_set.proofs.Words.{Moved}
 use Rattle.find_set.proofs.remove.Given as goal
 
 abbrev pub invariant-loop-i : goal.invariant-loop-i

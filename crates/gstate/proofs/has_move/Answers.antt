@@ -1,5 +1,4 @@
 -- `gstate::has_move` meets its contract: the test is of the tag's own type1. Assumes nothing.
-use borrow.Author.Rules.{rules}
 use Rattle.gstate.proofs.has_move.Goals as goal
 
 pub returns : goal.returns

@@ -1,6 +1,5 @@
 -- `gstate::has_move_here` meets its contract: the comparison answers 0 exactly where a block is shared. Assumes
 -- nothing.
-use borrow.Author.Rules.{rules}
 use mathlib.Core.Path.{◌≡◌, refl}
 use mathlib.Core.Bool.{Bool, true, false, cond}
 use lib.Dec.{eqb}

@@ -1,5 +1,4 @@
 -- `gstate::has_orphans` meets its contract: the test is of the tag's own size. Assumes nothing.
-use borrow.Author.Rules.{rules}
 use Rattle.gstate.proofs.has_orphans.Goals as goal
 
 pub returns : goal.returns

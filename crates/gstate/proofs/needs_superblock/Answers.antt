@@ -1,5 +1,4 @@
 -- `gstate::needs_superblock` meets its contract: the test is of the tag's own size. Assumes nothing.
-use borrow.Author.Rules.{rules}
 use Rattle.gstate.proofs.needs_superblock.Goals as goal
 
 pub returns : goal.returns

@@ -1,5 +1,6 @@
 -- `lanolin_answers::committed_out` meets its contract: the record and seed with 0, or what comes back with a refusal.
 -- Assumes nothing.
+use mir.Syntax.{w32}
 use mathlib.Core.Path.{◌≡◌, sym, ap, ◌∙◌}
 use Prim.Native.Nat.{ℕ}
 use lib.IntN.{ℤ}
@@ -24,7 +25,7 @@ pub returns-in-Refused : goal.returns-in-Refused
 unfolding out
 returns-in-Refused c =
     let n = c.number in
-    same (to_z-of_z (sfits_of n.type_inv) ∙ n.ensures) c.refused_index.ensures
+    same (to_z-of_z {w = w32} (sfits_of n.type_inv) ∙ n.ensures) c.refused_index.ensures
     c.refused_mdir.ensures
     c.refused_seed.ensures
     ∙ sym (ap (committed_out c.args.seed) c.in-Refused.is)

@@ -1,4 +1,5 @@
 -- `lanolin_answers::got_out` meets its contract: the entry with 0, or the refusal's number. Assumes nothing.
+use mir.Syntax.{w32}
 use mathlib.Core.Path.{sym, ap, ◌∙◌}
 use lib.IntN.{ℤ}
 use mir.Facts.{to_z-of_z}
@@ -16,5 +17,5 @@ returns-in-Found c = sym (ap got_out c.in-Found.is)
 
 pub returns-in-Refused : goal.returns-in-Refused
 unfolding refused
-returns-in-Refused c = ap refused (to_z-of_z (sfits_of c.number.type_inv) ∙ c.number.ensures)
+returns-in-Refused c = ap refused (to_z-of_z {w = w32} (sfits_of c.number.type_inv) ∙ c.number.ensures)
     ∙ sym (ap got_out c.in-Refused.is)

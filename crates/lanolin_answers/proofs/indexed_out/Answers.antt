@@ -1,4 +1,5 @@
 -- `lanolin_answers::indexed_out` meets its contract: the places with 0, or a refusal's number. Assumes nothing.
+use mir.Syntax.{w32}
 use mathlib.Core.Path.{sym, ap, ◌∙◌}
 use lib.IntN.{ℤ, pos}
 use Prim.Native.Nat.{ℕ}
@@ -22,4 +23,4 @@ pub returns-in-Refused : goal.returns-in-Refused
 unfolding out
 returns-in-Refused c =
     let n = c.number in
-    ap out (to_z-of_z (sfits_of n.type_inv) ∙ n.ensures) ∙ sym (ap indexed_out c.in-Refused.is)
+    ap out (to_z-of_z {w = w32} (sfits_of n.type_inv) ∙ n.ensures) ∙ sym (ap indexed_out c.in-Refused.is)

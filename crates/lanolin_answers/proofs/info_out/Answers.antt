@@ -1,4 +1,5 @@
 -- `lanolin_answers::info_out` meets its contract: the info as it is, behind its number. Assumes nothing.
+use mir.Syntax.{w32}
 use mathlib.Core.Path.{ap, ◌∙◌}
 use lib.IntN.{ℤ}
 use mir.Facts.{to_z-of_z}
@@ -12,5 +13,5 @@ out i n = record { result = n; kind = i.kind; size = i.size; name = i.name }
 
 pub returns : goal.returns
 unfolding out
-returns c = ap (out c.args.i.info) (to_z-of_z (sfits_of c.altered_out.type_inv)
+returns c = ap (out c.args.i.info) (to_z-of_z {w = w32} (sfits_of c.altered_out.type_inv)
     ∙ c.altered_out.ensures)

@@ -13,4 +13,4 @@ pub returns-in-NotErased : goal.returns-in-NotErased
 returns-in-NotErased c = sym (ap refusal_index c.in-NotErased.is)
 
 pub returns-in_default : goal.returns-in_default
-returns-in_default c = unindexed c.args.r c.in_default.in_default-own.keys3
+returns-in_default c = unindexed c.args.r c.in_default.not-BadEntry c.in_default.not-NotErased

@@ -10,4 +10,4 @@ pub returns-in-TooMany : goal.returns-in-TooMany
 returns-in-TooMany c = sym (ap (refusal_seed c.args.seed) c.in-TooMany.is)
 
 pub returns-in_default : goal.returns-in_default
-returns-in_default c = (unread c.args.seed c.args.r c.in_default.in_default-own.keys2).1
+returns-in_default c = (unread c.args.seed c.args.r c.in_default.not-TooMany).1

@@ -1,5 +1,6 @@
 -- `lanolin_answers::stored_out` meets its contract: the number of stores with 0, or what comes back with a refusal.
 -- Assumes nothing.
+use mir.Syntax.{w32}
 use mathlib.Core.Path.{◌≡◌, sym, ap, ◌∙◌}
 use Prim.Native.Nat.{ℕ}
 use lib.IntN.{ℤ}
@@ -22,5 +23,5 @@ pub returns-in-Refused : goal.returns-in-Refused
 unfolding out
 returns-in-Refused c =
     let n = c.number in
-    same (to_z-of_z (sfits_of n.type_inv) ∙ n.ensures) c.refused_index.ensures
+    same (to_z-of_z {w = w32} (sfits_of n.type_inv) ∙ n.ensures) c.refused_index.ensures
     ∙ sym (ap stored_out c.in-Refused.is)

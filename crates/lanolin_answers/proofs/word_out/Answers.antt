@@ -1,4 +1,5 @@
 -- `lanolin_answers::word_out` meets its contract: the word with 0, or the refusal's number. Assumes nothing.
+use mir.Syntax.{w32}
 use mathlib.Core.Path.{sym, ap, ◌∙◌}
 use lib.IntN.{ℤ}
 use mir.Facts.{to_z-of_z}
@@ -15,5 +16,5 @@ returns-in-Is c = sym (ap word_out c.in-Is.is)
 
 pub returns-in-Refused : goal.returns-in-Refused
 unfolding refused
-returns-in-Refused c = ap refused (to_z-of_z (sfits_of c.number.type_inv) ∙ c.number.ensures)
+returns-in-Refused c = ap refused (to_z-of_z {w = w32} (sfits_of c.number.type_inv) ∙ c.number.ensures)
     ∙ sym (ap word_out c.in-Refused.is)

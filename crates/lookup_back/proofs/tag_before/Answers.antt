@@ -1,5 +1,4 @@
 -- `lookup_back::tag_before` meets its contract: the code's XOR is the definition's. Assumes nothing.
-use borrow.Author.Rules.{rules}
 use Rattle.lookup_back.proofs.Step.{before_is}
 use Rattle.lookup_back.proofs.tag_before.Goals as goal
 

@@ -1,5 +1,5 @@
 -- `lookup_search::create_at` meets its contract: of these fields LFS_MKTAG is their sum. Assumes nothing.
-use Rattle.std.proofs.Common.{◌∙◌, arith, rules}
+use Rattle.std.proofs.Common.{◌∙◌, arith}
 use Rattle.format.specs.Tag.{tag_id, tag_of}
 use Rattle.format.proofs.Words.{mk_tag_sum}
 use Rattle.lookup_search.proofs.create_at.Goals as goal

@@ -1,5 +1,4 @@
 -- `lookup_search::diff_after` meets its contract: the test decides the definition's case. Assumes nothing.
-use Rattle.std.proofs.Common.{rules}
 use Rattle.lookup_search.proofs.diff_after.Goals as goal
 
 pub returns-then-spliced : goal.returns-then-spliced

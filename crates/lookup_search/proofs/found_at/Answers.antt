@@ -1,5 +1,5 @@
 -- `lookup_search::found_at` meets its contract, word by word. Assumes nothing.
-use Rattle.std.proofs.Common.{◌≡◌, ℕ, ◌+◌, arith, rules}
+use Rattle.std.proofs.Common.{◌≡◌, ℕ, ◌+◌, arith}
 use Rattle.format.specs.Word.{plus32}
 use Rattle.format.specs.Tag.{tag_length}
 use Rattle.format.specs.Look.{found_at}

@@ -1,6 +1,6 @@
 -- `lookup_search::splice_as_ids` meets its contract: by how far the splice lies above -128 (`Splice.antt`). Assumes
 -- nothing.
-use Rattle.std.proofs.Common.{◌∙◌, arith, rules}
+use Rattle.std.proofs.Common.{◌∙◌, arith}
 use Rattle.format.proofs.Signed.{wraps}
 use Rattle.lookup_search.proofs.Splice.{ids_of}
 use Rattle.lookup_search.proofs.splice_as_ids.Goals as goal

@@ -1,6 +1,5 @@
 -- `lookup_search::splices` meets its contract: the fields that it compares are the definition's. Assumes nothing.
 use Rattle.format.specs.Look.{spliced_at}
-use Rattle.std.proofs.Common.{rules}
 use Rattle.lookup_search.proofs.splices.Goals as goal
 
 pub returns : goal.returns

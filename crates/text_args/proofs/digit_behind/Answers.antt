@@ -1,5 +1,4 @@
 -- `text_args::digit_behind` meets its contract: no digit, a number that is too great, or the number. Assumes nothing.
-use borrow.Author.Rules.{rules}
 use Rattle.text_args.proofs.Digits.{below_digits, above_digits, too_great, one_more}
 use Rattle.text_args.proofs.digit_behind.Goals as goal
 

@@ -1,12 +1,9 @@
 -- `text_args::number` meets its contract. The loop keeps the number so far, and the digits that are left. Assumes
 -- nothing.
-use borrow.Author.Rules.{rules}
-use mathlib.Core.Path.{◌≡◌, sym, ◌∙◌}
+use mathlib.Core.Path.{◌≡◌}
 use Prim.Native.Nat.{◌-◌, ◌^◌, ◌<◌}
-use native.Mathlib.Omega.{arith}
 use lib.ListN.{length, drop}
 use Rattle.text_args.specs.Number.{number_from, number_of}
-use Rattle.text_args.proofs.Digits.{number_none, number_some, number_on, number_done, more_fits}
 use Rattle.text_args.proofs.number.Given as goal
 
 abbrev pub invariant-loop-i : goal.invariant-loop-i

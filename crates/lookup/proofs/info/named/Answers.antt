@@ -1,6 +1,5 @@
 -- `lookup::info::named` meets its contract: the struct's lookup (`Infos.antt`). Assumes nothing.
 use Rattle.lookup.proofs.Infos.{named_refused, named_found_lem}
-use borrow.Author.Rules.{rules}
 use Rattle.lookup.proofs.info.named.Goals as goal
 
 pub returns-in-Refused : goal.returns-in-Refused
@@ -19,5 +18,5 @@ returns-in-Found c = let a = c.args in named_found_lem a.b.now a.dir a.gdisk a.i
     c.lfs_mktag-gtag.ensures _
     c.read.ensures.value _
     c.in-Found.is _
-    c.read.ensures.buffer_after _ _ c.before.type_size.ensures
+    c.read.ensures.buffer_after _ _ c.size_of-size.ensures
     c.lfs_tag_type3.ensures

@@ -6,7 +6,6 @@ use native.Mathlib.Omega.{arith}
 use lib.Seq.{length-take-le}
 use Rattle.format.specs.Lookup.{blank_buffer}
 use Rattle.lookup.proofs.Infos.{info_refused_lem, info_found}
-use borrow.Author.Rules.{rules}
 use Rattle.lookup.proofs.info.read.Goals as goal
 
 pub slice_bounds-read-end : goal.slice_bounds-read-end

@@ -7,7 +7,6 @@ use Rattle.format.specs.Word.{le32}
 use Rattle.format.specs.Tag.{tag_type3, tag_size}
 use Rattle.format.specs.Lookup.{info_size}
 use borrow.Author.Tests.{eq-eqb, ne_eqb}
-use borrow.Author.Rules.{rules}
 use Rattle.lookup.proofs.info.size_of.Goals as goal
 
 -- k is the type

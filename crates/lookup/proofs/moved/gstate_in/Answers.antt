@@ -2,7 +2,6 @@
 use mathlib.Core.Path.{sym, ap, ◌∙◌}
 use lib.Seq.{drop-drop}
 use Rattle.format.specs.Word.{le32}
-use borrow.Author.Rules.{rules}
 use Rattle.lookup.proofs.moved.gstate_in.Goals as goal
 
 pub returns : goal.returns

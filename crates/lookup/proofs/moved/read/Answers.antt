@@ -1,7 +1,6 @@
 -- `lookup::moved::read` meets its contract: what was found is what should be (`Moves.antt`). Assumes nothing.
 use Rattle.format.proofs.Searched.{hit_in}
 use Rattle.lookup.proofs.Moves.{move_none, move_some}
-use borrow.Author.Rules.{rules}
 use Rattle.lookup.proofs.moved.read.Goals as goal
 
 pub xored_at-requires : goal.xored_at-requires

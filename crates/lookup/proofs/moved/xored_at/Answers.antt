@@ -1,7 +1,6 @@
 -- `lookup::moved::xored_at` meets its contract: the slice's answer decides the definitions' case (`Moves.antt`).
 -- Assumes nothing.
 use Rattle.lookup.proofs.Moves.{move_refused, move_found}
-use borrow.Author.Rules.{rules}
 use Rattle.lookup.proofs.moved.xored_at.Goals as goal
 
 pub returns-in-Refused : goal.returns-in-Refused

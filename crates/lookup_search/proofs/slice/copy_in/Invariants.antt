@@ -1,7 +1,7 @@
 -- `lookup_search::slice::copy_in` meets its contract. The loop's invariant: the first i bytes are the block's, the rest
 -- the buffer's (`Fill.antt`). Assumes nothing.
-use Rattle.std.proofs.Common.{◌≡◌, ◌-◌, ◌≤◌, drop, refl, arith}
-use Rattle.lookup_search.proofs.Fill.{filled, copied_length, copied_more, copied_all}
+use Rattle.std.proofs.Common.{◌≡◌, ◌-◌, ◌≤◌, drop}
+use Rattle.lookup_search.proofs.Fill.{filled}
 use Rattle.lookup_search.proofs.slice.copy_in.Given as goal
 
 abbrev pub invariant-loop-i : goal.invariant-loop-i

@@ -1,7 +1,6 @@
 -- `lookup_search::slice::read_at` meets its contract: the test of the slice's end decides the definitions' case
 -- (`Slices.antt`). Assumes nothing.
 use Rattle.lookup_search.proofs.Slices.{slice_past, slice_in}
-use Rattle.std.proofs.Common.{rules}
 use Rattle.lookup_search.proofs.slice.read_at.Goals as goal
 
 pub returns-then-b-from : goal.returns-then-b-from

@@ -1,7 +1,7 @@
 -- `lookup_search::slice::zero_rest` meets its contract. The loop's invariant: up to i the buffer is what it will be,
 -- behind it as it was (`Fill.antt`). Assumes nothing.
-use Rattle.std.proofs.Common.{◌≡◌, ◌-◌, ◌≤◌, length, arith}
-use Rattle.lookup_search.proofs.Fill.{filled, zeroed, zeroed_start, zeroed_length, zeroed_more, zeroed_all}
+use Rattle.std.proofs.Common.{arith}
+use Rattle.lookup_search.proofs.Fill.{zeroed_start, zeroed_length, zeroed_more, zeroed_all}
 use Rattle.lookup_search.proofs.slice.zero_rest.Goals as goal
 
 pub loop-i-init : goal.loop-i-init
@@ -11,7 +11,7 @@ pub loop-i-smaller : goal.loop-i-smaller
 loop-i-smaller c = let a = c.args in let l =
     c.loop-i in omega (
       arith,
-      zeroed_length a.n a.buffer.now c.requires l.buffer l.i l.inv.1.1 l.inv.1.0,
+      zeroed_length a.n a.buffer.now c.requires l.buffer l.i l.invariant.1.1 l.invariant.1.0,
     )
 
 pub loop-i-preserved : goal.loop-i-preserved
@@ -24,18 +24,7 @@ loop-i-preserved c = let a = c.args in let p = c.requires in let l = c.loop-i in
       ),
     )
 
-pub shape_of-buffer : goal.shape_of-buffer
-shape_of-buffer c = let a = c.args in let l =
-    c.loop-i in zeroed_length a.n a.buffer.now c.requires l.buffer l.i l.inv.1.1
-    l.inv.1.0
-
 pub returns : goal.returns
 returns c = let a = c.args in let p = c.requires in let l =
-    c.loop-i in zeroed_all a.n a.buffer.now p l.buffer l.i l.inv.1.1
-    (omega (arith, zeroed_length a.n a.buffer.now p l.buffer l.i l.inv.1.1 l.inv.1.0))
-
-pub bounds-buffer-i : goal.bounds-buffer-i
-bounds-buffer-i c = omega arith
-
-pub overflow_add-i : goal.overflow_add-i
-overflow_add-i c = omega arith
+    c.loop-i in zeroed_all a.n a.buffer.now p l.buffer l.i l.invariant.1.1
+    (omega (arith, zeroed_length a.n a.buffer.now p l.buffer l.i l.invariant.1.1 l.invariant.1.0))
