@@ -4,8 +4,8 @@
 #![tactic(auto)]
 
 ghost use Rattle.std.specs.Prelude.{◌≡◌};
-ghost use Rattle.format.specs.Listing.{decimal_in, decimal, hex_digit, hex_byte, hex_bytes, hex_type, is_plain, name_byte};
-ghost use Rattle.format.specs.Listing.{name_bytes, number_line};
+ghost use Rattle.format.specs.Listing.{decimal_in, decimal, hex_digit, hex_byte, hex_bytes, hex_type, is_plain};
+ghost use Rattle.format.specs.Listing.{name_byte, name_bytes, number_line};
 ghost use Rattle.format.specs.RawLog.{hex_word};
 ghost use Rattle.text.specs.Put.{text, put_of, puts_of};
 

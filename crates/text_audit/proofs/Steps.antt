@@ -171,7 +171,8 @@ tally_next : (is : Slot → Bool) → ((s t : Slot) → Same s t → is s ≡ is
     → id < length D → Same s (get_or D id empty)
     → tally is (drop id D) ≡ cond (is s) 1 0 + tally is (drop (id + 1) D)
 unfolding tally
-tally_next is law D id s h same = rw (add-one id, law s (get_or D id empty) same) (ap (tally is) (drop-cons D id empty h))
+tally_next is law D id s h same = rw (add-one id, law s (get_or D id empty) same)
+    (ap (tally is) (drop-cons D id empty h))
 
 module _ (out : List ℕ) (D : List Slot) (id : ℕ) (a : Audit) (now : List ℕ) (w : Running out D id a now) where
   pub run_next : (r : Audit) (after : List ℕ) (s : Slot) → id < length D → Same s (get_or D id empty)

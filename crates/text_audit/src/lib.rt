@@ -104,8 +104,8 @@ fn lack_line(out: &mut [u8], at: u32, b: &[u8], id: u32, name: Hit, what: &[u8])
 
 // "A deadline that can't be read is told apart from a missing one": by its length.
 fn deadline_line(out: &mut [u8], at: u32, b: &[u8], id: u32, name: Hit, attribute: Hit) -> u32
-    requires hit_in { HitIn (length b.now) name }
-    requires hit_in_2 { HitIn (length b.now) attribute }
+    requires name_in { HitIn (length b.now) name }
+    requires attribute_in { HitIn (length b.now) attribute }
     ensures { text result out.new ≡ puts_of (text at out.old)
         (deadline_line id (holds b.now name) (holds b.now attribute)) }
 {

@@ -18,8 +18,8 @@ use Rattle.format.specs.declared.Rules.{Rules}
 use Rattle.format.specs.declared.Rules.TheVariants.{Littlefs}
 use Rattle.format.proofs.Growing.{widest}
 use Rattle.format.specs.Writer.{block_at, is_second}
-use Rattle.format.specs.Listing.{ascii, number_line}
-use Rattle.format.specs.Listing.{refused_line, ruled_text, input_geometry, fetch_input, fetched_text}
+use Rattle.format.specs.Listing.{ascii, number_line, refused_line, ruled_text, input_geometry, fetch_input}
+use Rattle.format.specs.Listing.{fetched_text}
 use Rattle.format.specs.declared.LfsPair.{LfsPair}
 use Rattle.format.specs.declared.LfsMdir.{LfsMdir}
 use Rattle.format.specs.declared.Refusal.{Refusal}

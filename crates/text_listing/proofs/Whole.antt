@@ -8,8 +8,8 @@ use Rattle.format.specs.Regular.{Regular, rules_of}
 use Rattle.format.specs.declared.Rules.{Rules}
 use Rattle.format.specs.Directory.{dir_of}
 use Rattle.format.specs.Compaction.{is_no_tail}
-use Rattle.format.specs.Listing.{ascii, decimal, number_line, tail_kind, tail_line, erased_line, record_lines, slot_lines}
-use Rattle.format.specs.Listing.{refused_line, dir_lines, block_text}
+use Rattle.format.specs.Listing.{ascii, decimal, number_line, tail_kind, tail_line, erased_line, record_lines}
+use Rattle.format.specs.Listing.{slot_lines, refused_line, dir_lines, block_text}
 use Rattle.format.specs.declared.LfsPair.{LfsPair}
 use Rattle.format.specs.declared.LfsMdir.{LfsMdir}
 use Rattle.format.specs.declared.Refusal.TheVariants.{Irregular}
@@ -25,7 +25,8 @@ pub kind_soft : (s r : Text) (split : Bool) → split ≡ false → r ≡ puts_o
     → r ≡ puts_of s (tail_kind split)
 kind_soft s r split h er = rw h er
 
-pub tail_none : (s r : Text) (split : Bool) (p : LfsPair) → is_no_tail split p ≡ true → r ≡ puts_of s (ascii "tail none\n")
+pub tail_none : (s r : Text) (split : Bool) (p : LfsPair) → is_no_tail split p ≡ true
+    → r ≡ puts_of s (ascii "tail none\n")
     → r ≡ puts_of s (tail_line split p)
 unfolding tail_line
 tail_none s r split p h er = rw h er
@@ -39,11 +40,13 @@ tail_shown s t u r split p h et eu er =
     (join s t r (tail_kind split) (decimal p.n0 ++ number_line (ascii " ") p.n1) et
     (join t u r (decimal p.n0) (number_line (ascii " ") p.n1) eu er))
 
-pub erased_yes : (s r : Text) (e : Bool) → e ≡ true → r ≡ puts_of s (ascii "erased yes\n") → r ≡ puts_of s (erased_line e)
+pub erased_yes : (s r : Text) (e : Bool) → e ≡ true → r ≡ puts_of s (ascii "erased yes\n")
+    → r ≡ puts_of s (erased_line e)
 unfolding erased_line
 erased_yes s r e h er = rw h er
 
-pub erased_no : (s r : Text) (e : Bool) → e ≡ false → r ≡ puts_of s (ascii "erased no\n") → r ≡ puts_of s (erased_line e)
+pub erased_no : (s r : Text) (e : Bool) → e ≡ false → r ≡ puts_of s (ascii "erased no\n")
+    → r ≡ puts_of s (erased_line e)
 unfolding erased_line
 erased_no s r e h er = rw h er
 

@@ -5,8 +5,8 @@
 
 ghost use Rattle.std.specs.Prelude.{◌≡◌, cond, [], length, drop};
 ghost use Rattle.format.specs.Listing.{written_to};
-ghost use Rattle.format.specs.RawLog.{entry_text, check_text, committed_line, block_log, answers_line, is_shown, block_logs};
-ghost use Rattle.format.specs.RawLog.{raw_log_of};
+ghost use Rattle.format.specs.RawLog.{entry_text, check_text, committed_line, block_log, answers_line, is_shown};
+ghost use Rattle.format.specs.RawLog.{block_logs, raw_log_of};
 ghost use Rattle.text.specs.Put.{text, puts_of};
 ghost use Rattle.text_log.specs.Part.{Placed, Reached};
 ghost use Rattle.text_log.specs.Events.{texts_from};

@@ -13,4 +13,5 @@ pub slice_bounds-attr_data-end : goal.slice_bounds-attr_data-end
 slice_bounds-attr_data-end c = (hit_in _ _ c.requires c.in-Found.is).inside
 
 pub returns : goal.returns
-returns c = attr_shown _ _ _ c.in-Found.is _ c.lfs_tag_type3.ensures _ _ _ _ _ _ _ _ c.puts-n.ensures c.decimal-n.ensures c.puts-n-2.ensures c.hex_type-n.ensures c.puts-n-3.ensures c.attr_data-n.ensures c.puts.ensures
+returns c = attr_shown _ _ _ c.in-Found.is _ c.lfs_tag_type3.ensures _ _ _ _ _ _ _ _ c.puts-n.ensures
+    c.decimal-n.ensures c.puts-n-2.ensures c.hex_type-n.ensures c.puts-n-3.ensures c.attr_data-n.ensures c.puts.ensures

@@ -13,4 +13,5 @@ pub slice_bounds-name_bytes-end : goal.slice_bounds-name_bytes-end
 slice_bounds-name_bytes-end c = (hit_in _ _ c.requires c.in-Found.is).inside
 
 pub returns : goal.returns
-returns c = name_shown_lem _ _ _ c.in-Found.is _ c.lfs_tag_type3.ensures _ _ _ _ c.puts-n.ensures c.hex_type-n.ensures c.puts-n-2.ensures c.name_bytes.ensures
+returns c = name_shown_lem _ _ _ c.in-Found.is _ c.lfs_tag_type3.ensures _ _ _ _ c.puts-n.ensures c.hex_type-n.ensures
+    c.puts-n-2.ensures c.name_bytes.ensures

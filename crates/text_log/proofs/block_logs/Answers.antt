@@ -12,4 +12,5 @@ pub block_log-requires : goal.block_log-requires
 block_log-requires c = back_reached c.args.input.now _ c.is_shown.ensures c.if-not-is_shown.false
 
 pub returns : goal.returns
-returns c = shown_both c.args.input.now _ c.is_shown.ensures c.if-not-is_shown.false _ _ _ _ _ c.block_log-n.ensures c.block_log.ensures
+returns c = shown_both c.args.input.now _ c.is_shown.ensures c.if-not-is_shown.false _ _ _ _ _ c.block_log-n.ensures
+    c.block_log.ensures

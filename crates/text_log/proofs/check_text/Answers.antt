@@ -28,4 +28,6 @@ full_data-requires c = record {
 pub returns : goal.returns
 unfolding check_text
 returns c = join _ _ _ _ _ c.tag_columns-n.ensures (join _ _ _
-    _ _ c.puts-n.ensures (join _ _ _ _ _ c.hex_word-n.ensures (join _ _ _ _ _ c.puts-n-2.ensures (same_part _ _ _ _ (ap (full_data _ _) (data_cut _ _ _ _ c.lfs_tag_dsize.ensures)) c.full_data.ensures))))
+    _ _ c.puts-n.ensures (join _ _ _ _ _ c.hex_word-n.ensures
+    (join _ _ _ _ _ c.puts-n-2.ensures (same_part _ _ _ _
+    (ap (full_data _ _) (data_cut _ _ _ _ c.lfs_tag_dsize.ensures)) c.full_data.ensures))))

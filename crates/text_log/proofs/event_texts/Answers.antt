@@ -1,5 +1,5 @@
--- `text_log::event_texts` meets its contract. The loop keeps where the text of the whole walk ends, from here; the block's
--- rest shrinks. Assumes nothing.
+-- `text_log::event_texts` meets its contract. The loop keeps where the text of the whole walk ends, from here; the
+-- block's rest shrinks. Assumes nothing.
 use mathlib.Core.Path.{refl, sym}
 use native.Mathlib.Omega.{arith}
 use borrow.Author.Rules.{rules}

@@ -33,4 +33,5 @@ unfolding class_name name_in
 returns-in-1792 c = rw c.in-1792.is
 
 pub returns-in_default : goal.returns-in_default
-returns-in_default c = class_unknown _ (omega arith) (omega arith) (omega arith) (omega arith) (omega arith) (omega arith) (omega arith)
+returns-in_default c = class_unknown _ (omega arith) (omega arith) (omega arith) (omega arith) (omega arith)
+    (omega arith) (omega arith)

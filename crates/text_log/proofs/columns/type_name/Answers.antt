@@ -53,4 +53,5 @@ unfolding name_in
 returns-in-2047 c = rw c.in-2047.is
 
 pub returns-in_default : goal.returns-in_default
-returns-in_default c = type_other _ _ _ c.class_name.ensures (omega arith) (omega arith) (omega arith) (omega arith) (omega arith) (omega arith) (omega arith) (omega arith) (omega arith) (omega arith) (omega arith) (omega arith)
+returns-in_default c = type_other _ _ _ c.class_name.ensures (omega arith) (omega arith) (omega arith) (omega arith)
+    (omega arith) (omega arith) (omega arith) (omega arith) (omega arith) (omega arith) (omega arith) (omega arith)

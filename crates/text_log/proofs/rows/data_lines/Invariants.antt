@@ -8,7 +8,8 @@ use Rattle.text_log.proofs.rows.data_lines.Given as goal
 
 abbrev pub invariant-loop-line : goal.invariant-loop-line
 invariant-loop-line l = (l.line ≤ 64) × (length l.out ≡ length l.initial.out) × (puts_of (text l.at l.initial.out)
-    (data_lines 64 l.place l.bytes) ≡ puts_of (text l.n l.out) (data_lines (64 - l.line) (l.place + l.line * 16) (drop (l.line * 16)
+    (data_lines 64 l.place l.bytes) ≡ puts_of (text l.n l.out)
+    (data_lines (64 - l.line) (l.place + l.line * 16) (drop (l.line * 16)
     l.bytes)))
 
 abbrev pub decreases-loop-line : goal.decreases-loop-line

@@ -19,7 +19,8 @@ pub loop-i-preserved : goal.loop-i-preserved
 loop-i-preserved c = (
   omega arith,
   search rules,
-  each_more letters (λ b. letter b ∷ []) _ letters_each _ _ _ _ c.loop-i-test.true c.loop-i.invariant.2 (puts_one _ _ _ (c.put-n.ensures ∙ ap (put_of _) c.letter.ensures)),
+  each_more letters (λ b. letter b ∷ []) _ letters_each _ _ _ _ c.loop-i-test.true c.loop-i.invariant.2
+      (puts_one _ _ _ (c.put-n.ensures ∙ ap (put_of _) c.letter.ensures)),
 )
 
 pub shape_of-out : goal.shape_of-out

@@ -7,4 +7,5 @@ use Rattle.text_log.proofs.stop.invalid_stop.Goals as goal
 
 pub returns : goal.returns
 unfolding invalid_stop
-returns c = stop_more _ _ _ _ _ _ c.stop_line-n.ensures (join _ _ _ _ _ (same_part _ _ _ _ (ap hex_word c.be32-word.ensures) c.hex_word-n.ensures) c.puts.ensures)
+returns c = stop_more _ _ _ _ _ _ c.stop_line-n.ensures (join _ _ _ _ _
+    (same_part _ _ _ _ (ap hex_word c.be32-word.ensures) c.hex_word-n.ensures) c.puts.ensures)

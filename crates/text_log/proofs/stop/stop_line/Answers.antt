@@ -5,4 +5,5 @@ use Rattle.text_log.proofs.stop.stop_line.Goals as goal
 
 pub returns : goal.returns
 unfolding stop_line
-returns c = join _ _ _ _ _ c.puts-n.ensures (join _ _ _ _ _ c.hex_word-n.ensures (join _ _ _ _ _ c.puts-n-2.ensures c.puts.ensures))
+returns c = join _ _ _ _ _ c.puts-n.ensures (join _ _ _ _ _ c.hex_word-n.ensures
+    (join _ _ _ _ _ c.puts-n-2.ensures c.puts.ensures))
