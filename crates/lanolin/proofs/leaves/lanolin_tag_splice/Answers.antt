@@ -8,10 +8,10 @@ use borrow.Author.Rules.{rules, sfits_of}
 use Rattle.lanolin.proofs.leaves.lanolin_tag_splice.Goals as goal
 
 fits : (z : ℤ) → SFits w8 z → SFits w32 (to_z w8 (of_z w8 z))
-fits z h = rw (to_z-of_z {w = w32} {w = w8} {z = z} h) (sfits_widen tt h)
+fits z h = rw (to_z-of_z {w = w8} {z = z} h) (sfits_widen tt h)
 
 same : (z : ℤ) → SFits w8 z → to_z w32 (of_z w32 (to_z w8 (of_z w8 z))) ≡ z
-same z h = to_z-of_z {w = w32} (fits z h) ∙ to_z-of_z {w = w32} h
+same z h = to_z-of_z (fits z h) ∙ to_z-of_z h
 
 pub overflow_cast-result : goal.overflow_cast-result
 overflow_cast-result c = fits c.lfs_tag_splice.result (sfits_of c.lfs_tag_splice.type_inv)
