@@ -30,6 +30,9 @@ loop-done-preserved g c =
     let part = slice_range-put_mid from room n c.loop-done.buf c.read.new.buf within c.in_ok-n.ensures.bound.0 in
     let front = take-put_mid_below _ _ _ _ _ (le_refl _) within in
     let joined = take_split from (from + n) c.loop-done.buf (put_mid from room c.loop-done.buf c.read.new.buf)
-        (omega arith) front in
-    (search rules, search rules, subst (Consumes _ _) (ap (λ l. take from c.loop-done.buf ++ l) (sym part) ∙ joined)
-        (Consumes-trans _ _ _ _ _ c.loop-done.invariant.2 c.in_ok-n.ensures.bytes.0))
+    (omega arith) front in (
+      search rules,
+      search rules,
+      subst (Consumes _ _) (ap (λ l. take from c.loop-done.buf ++ l) (sym part) ∙ joined)
+          (Consumes-trans _ _ _ _ _ c.loop-done.invariant.2 c.in_ok-n.ensures.bytes.0),
+    )
