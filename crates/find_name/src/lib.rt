@@ -1,13 +1,15 @@
 // Document 02, L4: a slot by its name. The block that fetch chooses is passed over once, forward; the answer is what
 // asking slot by slot gives. Any geometry, images, numbers, block count, seed, name and type, and any number for the
 // rule by which the log must be regular: 0 or 1, "any other -22".
+#![tactic(auto)]
+
 ghost use Rattle.std.specs.Prelude.{◌≡◌};
 ghost use Rattle.format.specs.Find.{find_of};
 
 use format::{Fetched, Geometry, Named, Refusal};
 
-// "the lowest id whose live name has the given bytes and type, or none. .. An empty name is -22, and an irregular log is
-// -202." A type that no name has, and a name longer than any, are asked for in vain.
+// "the lowest id whose live name has the given bytes and type, or none. .. An empty name is -22, and an irregular log
+// is -202." A type that no name has, and a name longer than any, are asked for in vain.
 pub fn lfs_dir_find(
     g: Geometry,
     b0: &[u8],

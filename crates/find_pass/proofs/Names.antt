@@ -29,7 +29,8 @@ pub lengths_differ : (a b : List ℕ) → length a ≢ length b → false ≡ sa
 lengths_differ a b h = sym (other_length a b h)
 
 one_more : (a b : List ℕ) (i : ℕ) → i < length a → i < length b
-    → same_bytes (drop i a) (drop i b) ≡ eqb (get_or a i 0) (get_or b i 0) && same_bytes (drop (suc i) a) (drop (suc i) b)
+    → same_bytes (drop i a) (drop i b)
+    ≡ eqb (get_or a i 0) (get_or b i 0) && same_bytes (drop (suc i) a) (drop (suc i) b)
 unfolding same_bytes
 one_more a b i la lb = rw (drop-cons a i 0 la, drop-cons b i 0 lb)
 

@@ -1,4 +1,5 @@
--- The digits of a number, lowest first, and what a digit assigned in or taken out at a place makes of them. Assumes nothing.
+-- The digits of a number, lowest first, and what a digit assigned in or taken out at a place makes of them. Assumes
+-- nothing.
 use mathlib.Core.Path.{◌≡◌, refl, sym, ap, ◌∙◌}
 use Prim.Native.Nat.{ℕ, zero, suc, ◌+◌, ◌-◌, ◌*◌, ◌/◌, ◌%◌, ◌^◌, ◌<◌, ◌≤◌}
 use native.Mathlib.Nat.{mod-lt, div-one, one-mul, not-suc-le-zero, le_of_suc-le-suc, zero-lt-suc, pow-suc, add-zero}

@@ -83,7 +83,8 @@ module _ (a : List ℕ) (id i k c : ℕ) (few : c < 2) (lo : (n : ℕ) → n < k
           let less = ltb-true n 31 q in
           let more = ltb-false n k l in
           let up : i * 32 + suc n ≡ i * 32 + n + 1 = omega arith in
-          same_on (closed_above k (c * 2 ^ 32 + get_or a i 0) n more ∙ wide_below c (get_or a i 0) (suc n) (omega arith))
+          same_on (closed_above k (c * 2 ^ 32 + get_or a i 0) n more
+          ∙ wide_below c (get_or a i 0) (suc n) (omega arith))
           ∙ sym (has_at a i (suc n) (omega arith)) ∙ ap (has a) up
           ∙ sym (removed_above id (has a) (i * 32 + n) (omega arith))
       go false l false q =

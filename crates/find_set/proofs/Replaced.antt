@@ -1,5 +1,5 @@
--- A digit taken out of a word and another assigned in at its place: the word has the new one there, and its others. Assumes
--- nothing.
+-- A digit taken out of a word and another assigned in at its place: the word has the new one there, and its others.
+-- Assumes nothing.
 use mathlib.Core.Path.{◌≡◌, refl, sym, ap, ◌∙◌}
 use mathlib.Core.Bool.{Bool, true, false}
 use mathlib.Core.List.{List}

@@ -5,7 +5,8 @@
 #![tactic(auto)]
 
 ghost use Rattle.std.specs.Prelude.{◌≡◌};
-ghost use Rattle.format.specs.Gstate.{gstate_xor, gstate_zero, gstate_has_orphans, gstate_orphans, gstate_needs_superblock};
+ghost use Rattle.format.specs.Gstate.{gstate_xor, gstate_zero, gstate_has_orphans, gstate_orphans};
+ghost use Rattle.format.specs.Gstate.{gstate_needs_superblock};
 ghost use Rattle.format.specs.Gstate.{gstate_has_move, gstate_has_move_here};
 
 use format::{LfsGstate, LfsPair};

@@ -1,3 +1,2 @@
--- The laws that the walks cite.
-pub mod Handed
+-- The laws that the answers of the two exports with entries cite.
 pub mod Rules

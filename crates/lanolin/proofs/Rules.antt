@@ -1,4 +1,4 @@
--- The laws that the walks of the two exports with entries cite: what the call below answers, as C gets it. Assumes
+-- The laws that the two exports with entries cite: what the call below answers, as C gets it. Assumes
 -- nothing.
 use mathlib.Core.Path.{◌≡◌, ap, ◌∙◌}
 use mathlib.Core.List.{List}

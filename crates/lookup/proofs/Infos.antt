@@ -8,7 +8,8 @@ use lib.Dec.{leb}
 use lib.ListN.{length, take, drop, length-replicate}
 use borrow.Author.Tests.{leb-true, eq-eqb, ne_eqb}
 use Rattle.format.specs.Tag.{tag_type3, mk_tag}
-use Rattle.format.specs.Lookup.{record_fits, block_of, searched, slice_answer, slice_buffer, blank_buffer, name_mask, name_key}
+use Rattle.format.specs.Lookup.{record_fits, block_of, searched, slice_answer, slice_buffer, blank_buffer, name_mask}
+use Rattle.format.specs.Lookup.{name_key}
 use Rattle.format.specs.Lookup.{struct_mask, struct_key, info_refused, info_root, info_size, info_from, read_answer}
 use Rattle.format.specs.Lookup.{read_buffer, info_of, getinfo_fits, getinfo_of}
 use Rattle.format.specs.declared.Geometry.{Geometry}
@@ -105,8 +106,10 @@ module _ (b : List ℕ) (dir : LfsMdir) (gdisk : LfsGstate) (nameMax id : ℕ) (
   name_answer_lem = e ∙ ap (λ f. slice_answer b 0 (length (blank nameMax)) f) name_search
       ∙ ap (λ (k : ℕ). slice_answer b 0 k u) (ap length lent ∙ length-replicate {A = ℕ} (nameMax + 1) 0)
 
-  pub info_refused_lem : (r : Refusal) → a ≡ got.Refused r → (x : Informed) → x ≡ info_refused r → x ≡ info_of b nameMax u v
-  info_refused_lem r q x ex = ex ∙ ap (λ y. info_from y (read_buffer b (nameMax + 1) u) (read_answer b 8 v) (read_buffer b 8 v))
+  pub info_refused_lem : (r : Refusal) → a ≡ got.Refused r → (x : Informed) → x ≡ info_refused r
+      → x ≡ info_of b nameMax u v
+  info_refused_lem r q x ex = ex
+      ∙ ap (λ y. info_from y (read_buffer b (nameMax + 1) u) (read_answer b 8 v) (read_buffer b 8 v))
       (sym q ∙ name_answer_lem)
 
   -- l is the part that was lent, x the info with the buffer of which it is the front

@@ -1,6 +1,9 @@
 -- A list that is filled from another, element by element: what the loops that copy and that zero leave, and the two
 -- together. Assumes nothing.
-use Rattle.std.proofs.Common.{◌≡◌, ℕ, suc, ◌+◌, ◌-◌, ◌<◌, ◌≤◌, List, ◌++◌, length, get_or, take, drop, set, replicate, sym, ap, ◌∙◌, append-nil, add-one, arith, length-append, length-drop, take-append-drop, drop_of_length-le, length-take-le, get_or-drop, take_all, drop-cons, take-suc, take_at, get_or-append-add}
+use Rattle.std.proofs.Common.{◌≡◌, ℕ, suc, ◌+◌, ◌-◌, ◌<◌, ◌≤◌, List, ◌++◌, length, get_or, take, drop, set, replicate}
+use Rattle.std.proofs.Common.{sym, ap, ◌∙◌, append-nil, add-one, arith, length-append, length-drop, take-append-drop}
+use Rattle.std.proofs.Common.{drop_of_length-le, length-take-le, get_or-drop, take_all, drop-cons, take-suc, take_at}
+use Rattle.std.proofs.Common.{get_or-append-add}
 use lib.ListN.{length-replicate, get_or-replicate}
 use lib.Seq.{append_snoc, set_at}
 

@@ -1,5 +1,7 @@
 -- The slice of what was found: each way out of the code decides the definition's cases. Assumes nothing.
-use Rattle.std.proofs.Common.{◌≡◌, ℕ, ◌+◌, ◌-◌, ◌<◌, ◌≤◌, min, Bool, true, false, cond, leb, List, ◌++◌, length, take, drop, replicate, sym, refl, ap, ◌∙◌, arith, length-append, length-drop, length-take-le, take_at, le-leb, leb-true}
+use Rattle.std.proofs.Common.{◌≡◌, ℕ, ◌+◌, ◌-◌, ◌<◌, ◌≤◌, min, Bool, true, false, cond, leb, List, ◌++◌, length, take}
+use Rattle.std.proofs.Common.{drop, replicate, sym, refl, ap, ◌∙◌, arith, length-append, length-drop, length-take-le}
+use Rattle.std.proofs.Common.{take_at, le-leb, leb-true}
 use lib.ListN.{length-replicate}
 use borrow.Author.Tests.{lt-leb}
 use Rattle.format.specs.Look.{data_size}

@@ -1,6 +1,7 @@
 -- A turn of the walk back, in each of the ways that the code leaves it; and where a pending move lets it start. Assumes
 -- nothing.
-use Rattle.std.proofs.Common.{◌≡◌, ℕ, ◌+◌, ◌^◌, ◌<◌, ◌≤◌, Bool, true, false, cond, not, ◌&&◌, eqb, ltb, List, ◌∷◌, sym, refl, ap, ◌∙◌, arith, eq-eqb, ne_eqb}
+use Rattle.std.proofs.Common.{◌≡◌, ℕ, ◌+◌, ◌^◌, ◌<◌, ◌≤◌, Bool, true, false, cond, not, ◌&&◌, eqb, ltb, List, ◌∷◌, sym}
+use Rattle.std.proofs.Common.{refl, ap, ◌∙◌, arith, eq-eqb, ne_eqb}
 use lib.Bits.{bit_and}
 use Rattle.format.specs.Word.{plus32, minus32}
 use Rattle.format.specs.Tag.{tag_splice, tag_length, tag_delete, tag_id}

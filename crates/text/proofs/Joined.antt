@@ -1,6 +1,7 @@
 -- What is put joins: a byte, parts one behind the other, and a loop over bytes of which each is shown in its own way.
 -- Assumes nothing.
-use Rattle.std.proofs.Common.{◌≡◌, ℕ, ◌+◌, ◌%◌, ◌^◌, ◌<◌, ◌≤◌, List, [], ◌∷◌, ◌++◌, length, get_or, drop, set, sym, refl, ap, ◌∙◌, add-one, drop_of_length-le, drop-cons}
+use Rattle.std.proofs.Common.{◌≡◌, ℕ, ◌+◌, ◌%◌, ◌^◌, ◌<◌, ◌≤◌, List, [], ◌∷◌, ◌++◌, length, get_or, drop, set, sym}
+use Rattle.std.proofs.Common.{refl, ap, ◌∙◌, add-one, drop_of_length-le, drop-cons}
 use lib.Seq.{set_out}
 use Rattle.text.specs.Put.{Text, text, put_of, puts_of}
 

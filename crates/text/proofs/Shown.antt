@@ -1,7 +1,8 @@
 -- What each function shows: digits, a number, a byte of a name. Assumes nothing.
-use Rattle.std.proofs.Common.{◌≡◌, ℕ, zero, suc, ◌+◌, ◌-◌, ◌/◌, ◌%◌, ◌^◌, ◌<◌, ◌≤◌, Bool, true, false, not, ◌&&◌, eqb, leb, List, [], ◌∷◌, ◌++◌, sym, refl, ap, ◌∙◌, arith, le-ltb, lt-ltb}
-use Rattle.format.specs.Listing.{ascii, decimal_digit, hex_digit, decimal_in, decimal, hex_byte, hex_bytes, hex_type, is_plain}
-use Rattle.format.specs.Listing.{name_byte, name_bytes, number_line}
+use Rattle.std.proofs.Common.{◌≡◌, ℕ, zero, suc, ◌+◌, ◌-◌, ◌/◌, ◌%◌, ◌^◌, ◌<◌, ◌≤◌, Bool, true, false, not, ◌&&◌, eqb}
+use Rattle.std.proofs.Common.{leb, List, [], ◌∷◌, ◌++◌, sym, refl, ap, ◌∙◌, arith, le-ltb, lt-ltb}
+use Rattle.format.specs.Listing.{ascii, decimal_digit, hex_digit, decimal_in, decimal, hex_byte, hex_bytes, hex_type}
+use Rattle.format.specs.Listing.{is_plain, name_byte, name_bytes, number_line}
 use Rattle.text.specs.Put.{Text, put_of, puts_of}
 use Rattle.text.proofs.Joined.{puts_none, puts_one, join}
 
@@ -61,7 +62,8 @@ pub plain_is : (b : ℕ) → leb 0x21 b && leb b 0x7e && not (eqb b 0x5c) ≡ is
 unfolding is_plain
 plain_is b = refl
 
-pub name_plain : (s r : Text) (b : ℕ) (x : Bool) → x ≡ is_plain b → x ≡ true → r ≡ put_of s b → r ≡ puts_of s (name_byte b)
+pub name_plain : (s r : Text) (b : ℕ) (x : Bool) → x ≡ is_plain b → x ≡ true → r ≡ put_of s b
+    → r ≡ puts_of s (name_byte b)
 unfolding name_byte
 name_plain s r b x ex h er = rw (sym ex ∙ h) (puts_one s r b er)
 

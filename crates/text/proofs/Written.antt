@@ -1,6 +1,7 @@
 -- A whole text from the start of a buffer: what is put is the text as far as there is room, and behind it what was
 -- there. Assumes nothing.
-use Rattle.std.proofs.Common.{◌≡◌, ℕ, suc, ◌+◌, ◌%◌, ◌^◌, ◌<◌, List, [], ◌∷◌, ◌++◌, length, set, sym, refl, ap, ◌∙◌, add-zero, arith}
+use Rattle.std.proofs.Common.{◌≡◌, ℕ, suc, ◌+◌, ◌%◌, ◌^◌, ◌<◌, List, [], ◌∷◌, ◌++◌, length, set, sym, refl, ap, ◌∙◌}
+use Rattle.std.proofs.Common.{add-zero, arith}
 use lib.Seq.{sets, take-nil}
 use Rattle.format.specs.Listing.{written_to}
 use Rattle.text.specs.Put.{Text, text, puts_of, put_of}

@@ -1,9 +1,11 @@
 // Text put into a lent buffer, byte by byte, as far as there is room: bytes, numbers in decimal and in hex, names with
 // their escapes. Each function takes the length of the text so far and answers the length with its own part, also where
 // the buffer is full. The length wraps at 2^32; no listing is so long (crate `text_listing` proves it).
+#![tactic(auto)]
+
 ghost use Rattle.std.specs.Prelude.{◌≡◌};
-ghost use Rattle.format.specs.Listing.{decimal_in, decimal, hex_digit, hex_byte, hex_bytes, hex_type, is_plain, name_byte};
-ghost use Rattle.format.specs.Listing.{name_bytes, number_line};
+ghost use Rattle.format.specs.Listing.{decimal_in, decimal, hex_digit, hex_byte, hex_bytes, hex_type, is_plain};
+ghost use Rattle.format.specs.Listing.{name_byte, name_bytes, number_line};
 ghost use Rattle.format.specs.RawLog.{hex_word};
 ghost use Rattle.text.specs.Put.{text, put_of, puts_of};
 

@@ -107,7 +107,8 @@ block_short : (r : Rules) (m : LfsMdir) (b : List ℕ) → length (block_audit r
 unfolding block_audit
 block_short r m b = go (Regular r (log b)) refl
   where
-    go : (x : Bool) → Regular r (log b) ≡ x → length (cond x (slots_audit (dir_of (log b))) (refused_line Irregular)) < 2 ^
+    go : (x : Bool) → Regular r (log b) ≡ x → length (cond x (slots_audit (dir_of (log b)))
+        (refused_line Irregular)) < 2 ^
         32
     go true e = omega (
       arith,

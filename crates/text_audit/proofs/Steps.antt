@@ -8,7 +8,6 @@ use native.Mathlib.Numerals.{add-one}
 use native.Mathlib.Omega.{arith}
 use lib.ListN.{length, drop, get_or, drop_of_length-le}
 use lib.Seq.{drop-cons}
-use borrow.Author.Tests.{not-true, not-false}
 use Rattle.format.specs.Log.{log}
 use Rattle.format.specs.Regular.{Regular, rules_of}
 use Rattle.format.specs.declared.Rules.{Rules}
@@ -172,7 +171,8 @@ tally_next : (is : Slot → Bool) → ((s t : Slot) → Same s t → is s ≡ is
     → id < length D → Same s (get_or D id empty)
     → tally is (drop id D) ≡ cond (is s) 1 0 + tally is (drop (id + 1) D)
 unfolding tally
-tally_next is law D id s h same = rw (add-one id, law s (get_or D id empty) same) (ap (tally is) (drop-cons D id empty h))
+tally_next is law D id s h same = rw (add-one id, law s (get_or D id empty) same)
+    (ap (tally is) (drop-cons D id empty h))
 
 module _ (out : List ℕ) (D : List Slot) (id : ℕ) (a : Audit) (now : List ℕ) (w : Running out D id a now) where
   pub run_next : (r : Audit) (after : List ℕ) (s : Slot) → id < length D → Same s (get_or D id empty)
@@ -215,12 +215,12 @@ totals_done d p n s t u r et eu er =
 -- ---- a block; q is the rule that was asked for, x what the test of regularity answers
 module _ (b : List ℕ) (m : LfsMdir) (r : Text) (rules : ℕ) (q : Rules) (asked : q ≡ rules_of rules) (x : Bool)
     (ex : x ≡ Regular q (log b)) where
-  pub block_irregular : (s : Text) → not x ≡ true → r ≡ puts_of s (refused_line Irregular)
+  pub block_irregular : (s : Text) → x ≡ false → r ≡ puts_of s (refused_line Irregular)
       → r ≡ puts_of s (block_audit (rules_of rules) m b)
   unfolding block_audit
-  block_irregular s h er = rw (← asked, sym ex ∙ not-true x h) er
+  block_irregular s h er = rw (← asked, sym ex ∙ h) er
 
-  pub block_audited : (out : List ℕ) (a : Audit) (now : List ℕ) → not x ≡ false → Slots b m.off m.etag m.count
+  pub block_audited : (out : List ℕ) (a : Audit) (now : List ℕ) → x ≡ true → Slots b m.off m.etag m.count
       → SlotsAudited out a now (dir_of (log b))
       → r ≡ puts_of (text a.at now) (total_lines a.no_deadline a.no_payload m.count)
       → r ≡ puts_of (text 0 out) (block_audit (rules_of rules) m b)
@@ -230,5 +230,5 @@ module _ (b : List ℕ) (m : LfsMdir) (r : Text) (rules : ℕ) (q : Rules) (aske
       let T : List ℕ = total_lines (tally lacks_deadline D) (tally lacks_payload D) (length D) in
       let same : total_lines a.no_deadline a.no_payload m.count ≡ T =
       rw (z.deadline, z.payload, w.count') in
-      rw (← asked, sym ex ∙ not-false x h) (join (text 0 out) (text a.at now) r (audit_lines 0 D) T z.lines
+      rw (← asked, sym ex ∙ h) (join (text 0 out) (text a.at now) r (audit_lines 0 D) T z.lines
       (er ∙ ap (puts_of (text a.at now)) same))

@@ -13,7 +13,8 @@ use Rattle.format.specs.Tag.{tag_type3}
 use Rattle.format.specs.Look.{bytes_of, FoundIn, HitIn}
 use Rattle.format.specs.Directory.{Load}
 use Rattle.format.specs.Listing.{ascii, decimal, name_bytes}
-use Rattle.format.specs.Audit.{is_instruction, is_payload, is_deadline, is_there, name_or_dash, lack_line, deadline_line}
+use Rattle.format.specs.Audit.{is_instruction, is_payload, is_deadline, is_there, name_or_dash, lack_line}
+use Rattle.format.specs.Audit.{deadline_line}
 use Rattle.format.specs.declared.Found.{Found}
 use Rattle.format.specs.declared.Hit.{Hit}
 use Rattle.format.specs.declared.Hit.TheVariants as hit

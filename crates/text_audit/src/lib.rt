@@ -1,6 +1,8 @@
 // The audit of a pair's instructions: each slot with a payload and no deadline, or a deadline and no payload, and how
 // many there are of both; or the refusal. The text is written to a lent buffer as far as there is room; the answer is
 // the length of the whole text. Any bytes may be audited.
+#![tactic(auto)]
+
 ghost use Rattle.std.specs.Prelude.{◌≡◌, ◌<◌, length};
 ghost use Rattle.format.specs.Log.{log};
 ghost use Rattle.format.specs.Regular.{rules_of};
@@ -102,8 +104,8 @@ fn lack_line(out: &mut [u8], at: u32, b: &[u8], id: u32, name: Hit, what: &[u8])
 
 // "A deadline that can't be read is told apart from a missing one": by its length.
 fn deadline_line(out: &mut [u8], at: u32, b: &[u8], id: u32, name: Hit, attribute: Hit) -> u32
-    requires hit_in { HitIn (length b.now) name }
-    requires hit_in_2 { HitIn (length b.now) attribute }
+    requires name_in { HitIn (length b.now) name }
+    requires attribute_in { HitIn (length b.now) attribute }
     ensures { text result out.new ≡ puts_of (text at out.old)
         (deadline_line id (holds b.now name) (holds b.now attribute)) }
 {

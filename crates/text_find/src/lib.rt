@@ -1,5 +1,7 @@
 // What a slot of a given name holds, as the listing shows it; or that there is none, or the refusal. It is written to a
 // lent buffer as far as there is room; the answer is the length of the whole text. Any bytes may be asked about.
+#![tactic(auto)]
+
 ghost use Rattle.std.specs.Prelude.{◌≡◌, length};
 ghost use Rattle.format.specs.Regular.{rules_of};
 ghost use Rattle.format.specs.Listing.{written_to};

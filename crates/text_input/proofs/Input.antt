@@ -9,7 +9,7 @@ use lib.IntN.{pos, neg_ℤ}
 use lib.ListN.{length, take, drop, length-drop}
 use lib.Dec.{eqb, ltb}
 use lib.Seq.{take_all}
-use borrow.Author.Tests.{not-false, eq-eqb, ne_eqb, lt-ltb, le-ltb, lt-leb, le-leb}
+use borrow.Author.Tests.{eq-eqb, ne_eqb, lt-ltb, le-ltb, lt-leb, le-leb}
 use Rattle.format.specs.Log.{log}
 use Rattle.format.specs.Answer.{refusal_number}
 use Rattle.format.specs.Fetch.{fetch_of}
@@ -18,8 +18,8 @@ use Rattle.format.specs.declared.Rules.{Rules}
 use Rattle.format.specs.declared.Rules.TheVariants.{Littlefs}
 use Rattle.format.proofs.Growing.{widest}
 use Rattle.format.specs.Writer.{block_at, is_second}
-use Rattle.format.specs.Listing.{ascii, number_line}
-use Rattle.format.specs.Listing.{refused_line, ruled_text, input_geometry, fetch_input, fetched_text}
+use Rattle.format.specs.Listing.{ascii, number_line, refused_line, ruled_text, input_geometry, fetch_input}
+use Rattle.format.specs.Listing.{fetched_text}
 use Rattle.format.specs.declared.LfsPair.{LfsPair}
 use Rattle.format.specs.declared.LfsMdir.{LfsMdir}
 use Rattle.format.specs.declared.Refusal.{Refusal}
@@ -51,9 +51,9 @@ block_ends b m w = record { word = w.word; ends = w.ends }
 
 -- x is what the test of regularity answers, by the rule q
 pub block_slots : (b : List ℕ) (m : LfsMdir) (q : Rules) (x : Bool) → Listable b m → x ≡ Regular q (log b)
-    → not x ≡ false → Slots b m.off m.etag m.count
+    → x ≡ true → Slots b m.off m.etag m.count
 block_slots b m q x w ex h =
-    let regular : Regular Littlefs (log b) ≡ true = widest q (log b) (sym ex ∙ not-false x h) in
+    let regular : Regular Littlefs (log b) ≡ true = widest q (log b) (sym ex ∙ h) in
     record {
       word = w.word;
       most = w.most;

@@ -11,10 +11,8 @@ use lib.Dec.{ltb}
 use Rattle.format.specs.Answer.{refusal_number}
 use Rattle.format.specs.Directory.{Load, Slot}
 use Rattle.format.specs.Writer.{block_at, is_second}
-use Rattle.format.specs.Listing.{ascii, decimal_digit, decimal_in, decimal, hex_byte, is_plain, name_byte}
-use Rattle.format.specs.Listing.{name_bytes, number_line}
-use Rattle.format.specs.Listing.{integer, refused_line}
-use Rattle.format.specs.Listing.{ruled_text, fetched_text}
+use Rattle.format.specs.Listing.{ascii, decimal_digit, decimal_in, decimal, hex_byte, is_plain, name_byte, name_bytes}
+use Rattle.format.specs.Listing.{number_line, integer, refused_line, ruled_text, fetched_text}
 use Rattle.format.specs.Regular.{rules_fit}
 use Rattle.format.specs.declared.Refusal.TheVariants.{Invalid}
 use Rattle.format.specs.declared.LfsPair.{LfsPair}
@@ -65,7 +63,12 @@ integer_short (negsuc n) = omega (arith, decimal_short 10 (suc n))
 
 pub refused_short : (r : Refusal) → length (refused_line r) ≤ 20
 unfolding refused_line
-refused_short r = omega (arith, length-append (integer (refusal_number r)) (ascii "\n"), integer_short (refusal_number r))
+refused_short r = omega (
+  arith,
+  length-append (integer (refusal_number r)) (ascii "\n"),
+  integer_short
+      (refusal_number r),
+)
 
 -- ---- what a slot holds
 abbrev pub Short : Option Load → Type 0

@@ -1,5 +1,7 @@
 // A pair as the programs take it, both images one behind the other, and a refusal as they show it: what every text of a
 // pair begins with. Any bytes may be given.
+#![tactic(auto)]
+
 ghost use Rattle.std.specs.Prelude.{◌≡◌};
 ghost use Rattle.format.specs.Listing.{refused_line, fetch_input};
 ghost use Rattle.text.specs.Put.{text, puts_of};

@@ -8,8 +8,8 @@ use lib.ListN.{length}
 use Rattle.format.specs.Tag.{tag_type3}
 use Rattle.format.specs.Look.{bytes_of, HitIn}
 use Rattle.format.specs.Directory.{Load}
-use Rattle.format.specs.Listing.{ascii, decimal, hex_type, hex_bytes, name_bytes, number_line, name_fields, struct_fields}
-use Rattle.format.specs.Listing.{attr_data, attr_line}
+use Rattle.format.specs.Listing.{ascii, decimal, hex_type, hex_bytes, name_bytes, number_line, name_fields}
+use Rattle.format.specs.Listing.{struct_fields, attr_data, attr_line}
 use Rattle.format.specs.declared.Found.{Found}
 use Rattle.format.specs.declared.Hit.{Hit}
 use Rattle.format.specs.declared.Hit.TheVariants as hit
@@ -20,7 +20,8 @@ use Rattle.text.proofs.Joined.{puts_none, join}
 
 -- ---- the fields that show what was found, h
 module _ (b : List ℕ) (h : Hit) (s : Text) where
-  pub name_missing : h ≡ hit.Nothing → (r : Text) → r ≡ puts_of s (ascii " - -") → r ≡ puts_of s (name_fields (holds b h))
+  pub name_missing : h ≡ hit.Nothing → (r : Text) → r ≡ puts_of s (ascii " - -")
+      → r ≡ puts_of s (name_fields (holds b h))
   unfolding name_fields
   name_missing q r er = er ∙ ap (λ (l : Option Load). puts_of s (name_fields l)) (missing b h q)
 
@@ -58,10 +59,12 @@ module _ (b : List ℕ) (h : Hit) (s : Text) where
         join s t1 r (ascii " ") (hex_type K ++ number_line (ascii " ") (length (bytes_of b e))) e1
         (join t1 t2 r (hex_type K) (number_line (ascii " ") (length (bytes_of b e)))
         (e2 ∙ ap (λ (n : ℕ). puts_of t1 (hex_type n)) ek)
-        (er ∙ ap (λ (n : ℕ). puts_of t2 (number_line (ascii " ") n)) (sym (bytes_length b e (hit_in (length b) h i q)))))
+        (er ∙ ap (λ (n : ℕ). puts_of t2 (number_line (ascii " ") n))
+        (sym (bytes_length b e (hit_in (length b) h i q)))))
         ∙ ap (λ (l : Option Load). puts_of s (struct_fields l)) (there b h q)
 
-    pub attr_shown : (id : ℕ) (t1 t2 t3 t4 t5 t6 r : Text) → t1 ≡ puts_of s (ascii "attr ") → t2 ≡ puts_of t1 (decimal id)
+    pub attr_shown : (id : ℕ) (t1 t2 t3 t4 t5 t6 r : Text) → t1 ≡ puts_of s (ascii "attr ")
+        → t2 ≡ puts_of t1 (decimal id)
         → t3 ≡ puts_of t2 (ascii " ")
         → t4 ≡ puts_of t3 (hex_type k) → t5 ≡ puts_of t4 (ascii " ") → t6 ≡ puts_of t5 (attr_data (part b e))
         → r ≡ puts_of t6 (ascii "\n")
@@ -84,6 +87,7 @@ pub data_empty : (l : List ℕ) (s r : Text) → length l ≡ 0 → r ≡ puts_o
 data_empty [] s r h er = er
 data_empty (x ∷ l) s r h er = absurd (omega arith)
 
-pub data_shown : (l : List ℕ) (s r : Text) → (length l ≡ 0 → ⊥) → r ≡ puts_of s (hex_bytes l) → r ≡ puts_of s (attr_data l)
+pub data_shown : (l : List ℕ) (s r : Text) → (length l ≡ 0 → ⊥) → r ≡ puts_of s (hex_bytes l)
+    → r ≡ puts_of s (attr_data l)
 data_shown [] s r h er = absurd (h refl)
 data_shown (x ∷ l) s r h er = er

@@ -4,7 +4,7 @@ use mathlib.Core.Path.{◌≡◌, refl}
 use mathlib.Core.Bool.{Bool, true, false, cond}
 use mathlib.Core.Option.{Option, none, some}
 use mathlib.Core.List.{List, [], ◌∷◌, ◌++◌}
-use Prim.Native.Nat.{ℕ, zero, suc, ◌+◌, ◌*◌, ◌^◌, ◌≤◌, ◌<◌}
+use Prim.Native.Nat.{ℕ, zero, suc, ◌*◌, ◌^◌, ◌≤◌, ◌<◌}
 use native.Mathlib.Omega.{arith}
 use lib.ListN.{length, length-append}
 use Rattle.format.specs.Log.{log}
@@ -13,11 +13,10 @@ use Rattle.format.specs.declared.Rules.{Rules}
 use Rattle.format.proofs.Growing.{widest}
 use Rattle.format.specs.Directory.{Load, Slot, dir_of}
 use Rattle.format.specs.Compaction.{is_no_tail}
-use Rattle.format.specs.Listing.{ascii, decimal, hex_byte, hex_bytes, hex_type}
-use Rattle.format.specs.Listing.{number_line, tail_kind, tail_line, erased_line, record_lines, name_fields}
-use Rattle.format.specs.Listing.{struct_fields, slot_line, attr_data, attr_line, attr_lines, slot_text, slot_lines}
-use Rattle.format.specs.Listing.{refused_line}
-use Rattle.format.specs.Listing.{dir_lines, block_text, fetch_input, fetched_text, listing_as}
+use Rattle.format.specs.Listing.{ascii, decimal, hex_byte, hex_bytes, hex_type, number_line, tail_kind, tail_line}
+use Rattle.format.specs.Listing.{erased_line, record_lines, name_fields, struct_fields, slot_line, attr_data, attr_line}
+use Rattle.format.specs.Listing.{attr_lines, slot_text, slot_lines, refused_line, dir_lines, block_text, fetch_input}
+use Rattle.format.specs.Listing.{fetched_text, listing_as}
 use Rattle.format.specs.declared.LfsPair.{LfsPair}
 use Rattle.format.specs.declared.LfsMdir.{LfsMdir}
 use Rattle.format.specs.declared.Refusal.TheVariants.{Irregular}

@@ -7,8 +7,8 @@ use Prim.Native.Nat.{ℕ, zero, suc, ◌+◌, ◌-◌, ◌^◌, ◌≤◌, ◌<�
 use native.Mathlib.Numerals.{add-one}
 use native.Mathlib.Omega.{arith}
 use Rattle.format.specs.Directory.{classes, Load, Slot}
-use Rattle.format.specs.Listing.{ascii, decimal, name_fields, struct_fields, slot_line, attr_line, attr_lines, slot_text}
-use Rattle.format.specs.Listing.{slot_lines}
+use Rattle.format.specs.Listing.{ascii, decimal, name_fields, struct_fields, slot_line, attr_line, attr_lines}
+use Rattle.format.specs.Listing.{slot_text, slot_lines}
 use Rattle.text.specs.Put.{Text, puts_of}
 use Rattle.text.proofs.Joined.{puts_app, puts_none, join}
 use Rattle.text_input.proofs.Slots.{Shown}
@@ -30,7 +30,8 @@ attrs_more a s r c id slot h ea v ev er =
     ea ∙ ap (puts_of s) (class_next c id slot h) ∙ sym (puts_app (attr_line id (slot c)) R s)
     ∙ ap (λ (z : Text). puts_of z R) (sym (er ∙ ap (λ (x : Option Load). puts_of s (attr_line id x)) ev))
 
-pub attrs_done : (a s : Text) (c id : ℕ) (slot : Slot) → classes ≤ c → a ≡ puts_of s (attr_lines (classes - c) c id slot)
+pub attrs_done : (a s : Text) (c id : ℕ) (slot : Slot) → classes ≤ c
+    → a ≡ puts_of s (attr_lines (classes - c) c id slot)
     → s ≡ a
 unfolding attr_lines
 attrs_done a s c id slot h ea =

@@ -1,13 +1,15 @@
 // The listing of a metadata pair: document 01's text of the record, the slots and their user attributes, or of the
 // refusal. It is written to a lent buffer as far as there is room; the answer is the length of the whole text. Any
 // bytes may be listed.
+#![tactic(auto)]
+
 ghost use Rattle.std.specs.Prelude.{◌≡◌, ◌^◌, length};
 ghost use Rattle.format.specs.Log.{log};
 ghost use Rattle.format.specs.Regular.{rules_of};
 ghost use Rattle.format.specs.Directory.{dir_of};
-ghost use Rattle.format.specs.Listing.{tail_kind, tail_line, erased_line, record_lines, name_fields, struct_fields, attr_data};
-ghost use Rattle.format.specs.Listing.{attr_line, attr_lines, slot_text, slot_lines, block_text, listing_of, listing_as};
-ghost use Rattle.format.specs.Listing.{written_to};
+ghost use Rattle.format.specs.Listing.{tail_kind, tail_line, erased_line, record_lines, name_fields, struct_fields};
+ghost use Rattle.format.specs.Listing.{attr_data, attr_line, attr_lines, slot_text, slot_lines, block_text, listing_of};
+ghost use Rattle.format.specs.Listing.{listing_as, written_to};
 ghost use Rattle.text.specs.Put.{text, puts_of};
 ghost use Rattle.format.specs.Look.{HitIn};
 ghost use Rattle.theory.specs.Lookup.ByMask.{holds};

@@ -1,13 +1,12 @@
 -- Data in hex and as letters: a place for a byte, a row of places, the lines of it. Assumes nothing.
 use mathlib.Core.Path.{◌≡◌, refl, sym, ap, ap₂, ◌∙◌}
-use mathlib.Core.Bool.{Bool, true, false, not, ◌&&◌, ◌||◌}
+use mathlib.Core.Bool.{Bool, true, false, ◌&&◌, ◌||◌}
 use mathlib.Core.List.{List, [], ◌∷◌, ◌++◌}
 use Prim.Native.Nat.{ℕ, zero, suc, ◌+◌, ◌*◌, ◌-◌, ◌≤◌, ◌<◌}
 use native.Mathlib.Omega.{arith}
 use lib.ListN.{length, get_or, take, drop, length-drop, drop_of_length-le}
 use lib.Seq.{drop-cons, drop-drop, take_all}
 use lib.Dec.{leb, eqb}
-use borrow.Author.Tests.{not-true}
 use Rattle.format.specs.Listing.{ascii, hex_byte}
 use Rattle.format.specs.RawLog.{cell, hex_cells, letter, letters, cells, cut_data, data_line, data_lines, full_data}
 use Rattle.text.specs.Put.{Text, puts_of}
@@ -155,9 +154,9 @@ lines_start place d s =
     rw e
 
 -- ---- below the tag
-pub full_none : (s : Text) (full : Bool) (at : ℕ) (d : List ℕ) → not full ≡ true → s ≡ puts_of s (full_data full at d)
+pub full_none : (s : Text) (full : Bool) (at : ℕ) (d : List ℕ) → full ≡ false → s ≡ puts_of s (full_data full at d)
 unfolding full_data
-full_none s full at d h = rw (not-true full h) (puts_none s)
+full_none s full at d h = rw h (puts_none s)
 
 pub full_shown : (s r : Text) (full : Bool) (at : ℕ) (d : List ℕ) → full ≡ true → r ≡ puts_of s (data_lines 64 at d)
     → r ≡ puts_of s (full_data full at d)

@@ -1,9 +1,9 @@
 -- No raw log is as long as 2^32 bytes: a walk over n bytes meets at most n + 1 events, and the text of each is short.
 -- Assumes nothing.
 use mathlib.Core.Path.{◌≡◌, refl}
-use mathlib.Core.Bool.{Bool, true, false, not, cond, ◌||◌}
+use mathlib.Core.Bool.{Bool, true, false, cond, ◌||◌}
 use mathlib.Core.List.{List, [], ◌∷◌, ◌++◌}
-use Prim.Native.Nat.{ℕ, zero, suc, ◌+◌, ◌*◌, ◌-◌, ◌/◌, ◌^◌, ◌≤◌, ◌<◌}
+use Prim.Native.Nat.{ℕ, zero, suc, ◌+◌, ◌*◌, ◌/◌, ◌^◌, ◌≤◌, ◌<◌}
 use native.Mathlib.Omega.{arith}
 use lib.ListN.{length, take, drop, length-append, length-take, length-drop}
 use lib.Dec.{ltb, eqb}
@@ -15,11 +15,11 @@ use Rattle.format.specs.Walk.{Event, ent, chk, inv, Class, past, invalid, check,
 use Rattle.format.specs.Walk.{walk_in, walk_from, walk}
 use Rattle.format.specs.Log.{log, log_end}
 use Rattle.format.specs.Listing.{ascii, decimal, hex_bytes, hex_type, number_line, fetch_input}
-use Rattle.format.specs.RawLog.{hex_word, margin, column, id_column, size_column, Named, name_in, type_names, class_names}
-use Rattle.format.specs.RawLog.{class_name, tag_name, heading, type_columns, tag_columns, cell, hex_cells, letters}
-use Rattle.format.specs.RawLog.{cells, cut_data, data_line, data_lines, full_data, data_of, entry_text, check_text, stop_line}
-use Rattle.format.specs.RawLog.{invalid_stop, check_stop, past_stop, stop_text, event_texts, committed_line}
-use Rattle.format.specs.RawLog.{block_log, answers_line, answer_line, is_shown, block_logs, raw_log_of}
+use Rattle.format.specs.RawLog.{hex_word, margin, column, id_column, size_column, Named, name_in, type_names}
+use Rattle.format.specs.RawLog.{class_names, class_name, tag_name, heading, type_columns, tag_columns, cell, hex_cells}
+use Rattle.format.specs.RawLog.{letters, cells, cut_data, data_line, data_lines, full_data, data_of, entry_text}
+use Rattle.format.specs.RawLog.{check_text, stop_line, invalid_stop, check_stop, past_stop, stop_text, event_texts}
+use Rattle.format.specs.RawLog.{committed_line, block_log, answers_line, answer_line, is_shown, block_logs, raw_log_of}
 use Rattle.format.specs.declared.LfsPair.{LfsPair}
 use Rattle.format.specs.declared.Fetched.{Fetched}
 use Rattle.format.specs.declared.Fetched.TheVariants as fetched
@@ -88,7 +88,8 @@ class_short t = name_short class_names t (ascii "unknown     ") (
 
 tag_name_short : (t : ℕ) → length (tag_name t) ≤ 12
 unfolding tag_name
-tag_name_short t = either (is_check t) (ascii "ccrc        ") (name_in type_names (tag_type3 t) (class_name (tag_type1 t))) 12
+tag_name_short t = either (is_check t) (ascii "ccrc        ")
+    (name_in type_names (tag_type3 t) (class_name (tag_type1 t))) 12
     (omega arith)
     (name_short type_names (tag_type3 t) (class_name (tag_type1 t)) (
       omega arith,
@@ -130,7 +131,8 @@ tag_name_short t = either (is_check t) (ascii "ccrc        ") (name_in type_name
 type_short : (t : ℕ) → length (type_columns t) ≤ 44
 unfolding type_columns
 type_short t =
-    both (hex_type (tag_type3 t)) (ascii "  " ++ (tag_name t ++ (id_column t ++ (ascii " " ++ size_column t)))) 3 41 (omega
+    both (hex_type (tag_type3 t)) (ascii "  " ++ (tag_name t ++ (id_column t ++ (ascii " " ++ size_column t)))) 3 41
+    (omega
     arith)
     (both (ascii "  ") (tag_name t ++ (id_column t ++ (ascii " " ++ size_column t))) 2 39 (omega arith)
     (both (tag_name t) (id_column t ++ (ascii " " ++ size_column t)) 12 27 (tag_name_short t)
@@ -259,7 +261,8 @@ check_stop_short at t sum rest =
           121 (tag_short at t)
           (both (ascii "  checksum ")
           (hex_word x ++ (ascii " does not fit, computed " ++ (hex_word y ++ (ascii "\n" ++ S)))) 11 110 (omega arith)
-          (both (hex_word x) (ascii " does not fit, computed " ++ (hex_word y ++ (ascii "\n" ++ S))) 8 102 (word_eight x)
+          (both (hex_word x) (ascii " does not fit, computed " ++ (hex_word y ++ (ascii "\n" ++ S))) 8 102
+          (word_eight x)
           (both (ascii " does not fit, computed ") (hex_word y ++ (ascii "\n" ++ S)) 24 78 (omega arith)
           (both (hex_word y) (ascii "\n" ++ S) 8 70 (word_eight y)
           (both (ascii "\n") S 1 69 (omega arith)

@@ -1,12 +1,12 @@
 -- A block, both blocks, the whole text. Assumes nothing.
 use mathlib.Core.Path.{◌≡◌, refl, sym, ap, ◌∙◌}
-use mathlib.Core.Bool.{Bool, true, false, not, cond, ◌&&◌}
+use mathlib.Core.Bool.{Bool, true, false, cond, ◌&&◌}
 use mathlib.Core.List.{List, [], ◌++◌}
-use Prim.Native.Nat.{ℕ, ◌+◌, ◌-◌, ◌/◌, ◌%◌, ◌≤◌}
+use Prim.Native.Nat.{ℕ, ◌-◌, ◌/◌, ◌%◌, ◌≤◌}
 use native.Mathlib.Omega.{arith}
 use lib.Dec.{eqb, leb}
 use lib.ListN.{length, take, drop, length-take, length-drop}
-use borrow.Author.Tests.{not-true, not-false, eq-eqb, ne_eqb, leb-true}
+use borrow.Author.Tests.{eq-eqb, ne_eqb, leb-true}
 use Rattle.format.specs.Log.{log, log_end}
 use Rattle.format.specs.Listing.{ascii}
 use Rattle.format.specs.RawLog.{hex_word, committed_line, block_log, is_shown, block_logs}
@@ -60,13 +60,13 @@ shown_long n h = go (eqb (n % 2) 0) (leb 256 n) (leb n 65_536) h (leb-true 256 n
     go false v w e f g = apart e
 
 module _ (input : List ℕ) (x : Bool) (ex : x ≡ is_shown (length input)) where
-  pub shown_none : (full : Bool) (p : LfsPair) (s : Text) → not x ≡ true
+  pub shown_none : (full : Bool) (p : LfsPair) (s : Text) → x ≡ false
       → s ≡ puts_of s (cond (is_shown (length input)) (block_logs full p input) [])
-  shown_none full p s h = rw (sym ex ∙ not-true x h) (puts_none s)
+  shown_none full p s h = rw (sym ex ∙ h) (puts_none s)
 
-  module _ (h : not x ≡ false) where
+  module _ (h : x ≡ true) where
     shown : is_shown (length input) ≡ true
-    shown = sym ex ∙ not-false x h
+    shown = sym ex ∙ h
 
     long : (256 ≤ length input) × (length input ≤ 65_536)
     long = shown_long (length input) shown

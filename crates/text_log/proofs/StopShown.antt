@@ -24,7 +24,8 @@ use Rattle.text.proofs.Joined.{join}
 use Rattle.text_log.specs.Part.{Reached, check_whole}
 
 -- what is put behind a stop's line is a part of its reason
-pub stop_more : (s t u : Text) (place : ℕ) (why more : List ℕ) → t ≡ puts_of s (stop_line place why) → u ≡ puts_of t more
+pub stop_more : (s t u : Text) (place : ℕ) (why more : List ℕ) → t ≡ puts_of s (stop_line place why)
+    → u ≡ puts_of t more
     → u ≡ puts_of s (stop_line place (why ++ more))
 unfolding stop_line
 stop_more s t u place why more et eu =
@@ -51,7 +52,8 @@ whole_is t left n x ex en = λ i. ex i && leb (en i) left && leb 8 left
 
 module _ (t left : ℕ) where
   pub whole_says : check_whole t left ≡ true → (is_check t ≡ true) × (tag_length t ≤ left) × (8 ≤ left)
-  whole_says h = go (is_check t) (leb (tag_length t) left) (leb 8 left) h (leb-true (tag_length t) left) (leb-true 8 left)
+  whole_says h = go (is_check t) (leb (tag_length t) left) (leb 8 left) h (leb-true (tag_length t) left)
+      (leb-true 8 left)
     where
       go : (x y z : Bool) → x && y && z ≡ true → (y ≡ true → tag_length t ≤ left) → (z ≡ true → 8 ≤ left)
           → (x ≡ true) × (tag_length t ≤ left) × (8 ≤ left)
@@ -64,7 +66,8 @@ module _ (t left : ℕ) where
       → past_stop at t ≡ stop_text (class_of t left) at t sum rest
   unfolding stop_text class_of
   whole_not l v h at sum rest e =
-      rw (le-leb 4 left l, lt-ltb t (2 ^ 31) v) (go (leb (tag_length t) left) (leb (4 + read_behind t) left) (is_check t)
+      rw (le-leb 4 left l, lt-ltb t (2 ^ 31) v) (go (leb (tag_length t) left) (leb (4 + read_behind t) left)
+      (is_check t)
       reads h)
     where
       -- eight bytes are read of a check

@@ -1,7 +1,7 @@
 // A tag in columns: its offset, itself after the XOR, its type, the type's name, id and size.
 ghost use Rattle.std.specs.Prelude.{◌≡◌};
-ghost use Rattle.format.specs.RawLog.{margin, column, id_column, size_column, name_in, type_names, class_name, tag_name};
-ghost use Rattle.format.specs.RawLog.{type_columns, tag_columns};
+ghost use Rattle.format.specs.RawLog.{margin, column, id_column, size_column, name_in, type_names, class_name};
+ghost use Rattle.format.specs.RawLog.{tag_name, type_columns, tag_columns};
 ghost use Rattle.text.specs.Put.{text, puts_of};
 
 use format::types::*;

@@ -1,10 +1,12 @@
 // The raw log of a metadata pair as text: of each block every tag that its walk meets, where the walk stops and why,
 // and how far the block is committed; at last which block answers. It is written to a lent buffer as far as there is
 // room; the answer is the length of the whole text. Any bytes may be shown: irregular, torn and foreign pairs too.
+#![tactic(auto)]
+
 ghost use Rattle.std.specs.Prelude.{◌≡◌, cond, [], length, drop};
 ghost use Rattle.format.specs.Listing.{written_to};
-ghost use Rattle.format.specs.RawLog.{entry_text, check_text, committed_line, block_log, answers_line, is_shown, block_logs};
-ghost use Rattle.format.specs.RawLog.{raw_log_of};
+ghost use Rattle.format.specs.RawLog.{entry_text, check_text, committed_line, block_log, answers_line, is_shown};
+ghost use Rattle.format.specs.RawLog.{block_logs, raw_log_of};
 ghost use Rattle.text.specs.Put.{text, puts_of};
 ghost use Rattle.text_log.specs.Part.{Placed, Reached};
 ghost use Rattle.text_log.specs.Events.{texts_from};

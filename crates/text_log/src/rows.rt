@@ -1,6 +1,7 @@
 // Data in hex, and as letters where they are letters: its first bytes beside the tag, or all of it in lines below.
 ghost use Rattle.std.specs.Prelude.{◌≡◌, ◌+◌, ◌*◌, ◌^◌, ◌≤◌, length, take, drop};
-ghost use Rattle.format.specs.RawLog.{cell, hex_cells, letter, letters, cells, cut_data, data_line, data_lines, full_data};
+ghost use Rattle.format.specs.RawLog.{cell, hex_cells, letter, letters, cells, cut_data, data_line, data_lines};
+ghost use Rattle.format.specs.RawLog.{full_data};
 ghost use Rattle.text.specs.Put.{text, puts_of};
 ghost use Rattle.text_log.specs.Part.{PartEnds};
 

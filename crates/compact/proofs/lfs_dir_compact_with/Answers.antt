@@ -16,7 +16,7 @@ returns-in-Refused c =
     (λ i. omega (
       arith,
       c.slice_known-2-1.given i,
-    )) stored.1 _ (sym c.in-Refused.is ∙ stored.0) in record { value = all.0; compact_leaves = all.1.0; table_after = all.1.1 }
+    )) (stored.compact_stores_leaves, stored.table_after) _ (sym c.in-Refused.is ∙ stored.value) in record { value = all.0; compact_leaves = all.1.0; table_after = all.1.1 }
 
 pub returns-in-Found : goal.returns-in-Found
 returns-in-Found c =
@@ -27,8 +27,8 @@ returns-in-Found c =
     (λ i. omega (
       arith,
       c.slice_known-2-1.given i,
-    )) stored.1
-    _ (sym c.in-Made.is ∙ stored.0)
+    )) (stored.compact_stores_leaves, stored.table_after)
+    _ (sym c.in-Made.is ∙ stored.value)
     (Found _ _) (sym c.in-Found.is ∙ c.lfs_dir_fetch.ensures) in record { value = all.0; compact_leaves = all.1.0; table_after = all.1.1 }
 
 pub returns-in-Refused-lfs_dir_fetch : goal.returns-in-Refused-lfs_dir_fetch
@@ -40,6 +40,6 @@ returns-in-Refused-lfs_dir_fetch c =
     (λ i. omega (
       arith,
       c.slice_known-2-1.given i,
-    )) stored.1
-    _ (sym c.in-Made.is ∙ stored.0)
+    )) (stored.compact_stores_leaves, stored.table_after)
+    _ (sym c.in-Made.is ∙ stored.value)
     (Refused _) (sym c.in-Refused-lfs_dir_fetch.is ∙ c.lfs_dir_fetch.ensures) in record { value = all.0; compact_leaves = all.1.0; table_after = all.1.1 }

@@ -52,7 +52,7 @@ returns-then-pair-n0 c =
     (called_first _ _ _ _ _ _ _ _ _ _ c.writes_fit.ensures
     (ap not c.if-not-writes_fit.false) _ _
     (sym c.in-Found.is ∙ c.lfs_dir_fetch.ensures) c.if-pair-n0.true _ _ _
-    renewed.0 renewed.1.0 _ _ renewed.1.1) in record { value = all.0; compact_stores_leaves = all.1.0; table_after = all.1.1 }
+    renewed.value renewed.after _ _ renewed.table_after) in record { value = all.0; compact_stores_leaves = all.1.0; table_after = all.1.1 }
 
 pub returns-else-pair-n0 : goal.returns-else-pair-n0
 returns-else-pair-n0 c =
@@ -67,4 +67,4 @@ returns-else-pair-n0 c =
     (called_second _ _ _ _ _ _ _ _ _ _ c.writes_fit.ensures
     (ap not c.if-not-writes_fit.false) _ _
     (sym c.in-Found.is ∙ c.lfs_dir_fetch.ensures) c.if-pair-n0.false _ _ _
-    renewed.0 renewed.1.0 _ _ renewed.1.1) in record { value = all.0; compact_stores_leaves = all.1.0; table_after = all.1.1 }
+    renewed.value renewed.after _ _ renewed.table_after) in record { value = all.0; compact_stores_leaves = all.1.0; table_after = all.1.1 }

@@ -1,7 +1,6 @@
 -- `find_name::lfs_dir_find` meets its contract: a rule or a name that is none, what fetch refuses, and either block's
 -- pass. Assumes nothing.
 use mathlib.Core.Path.{sym, ◌∙◌}
-use borrow.Author.Rules.{rules}
 use Rattle.commit_regular.proofs.Found.{ends_first, ends_second}
 use Rattle.find_name.proofs.Called.{called_invalid, called_refused, called_first, called_second}
 use Rattle.find_name.proofs.lfs_dir_find.Goals as goal

@@ -71,18 +71,24 @@ returns-in_default c = refused _ _ _ _ (turn_bad _ _ _ _ _ _ _
 
 pub follow-any-requires : goal.follow-any-requires
 follow-any-requires c = entry_followable _ _ _ (none_named _ _) _ _ _ _ _ _ _
-    c.loop-at.invariant _ _
-    _ _ (turn_entry _ _ _ _ _ _ _ c.loop-at.invariant.ahead c.loop-at-test.true _ c.be32.ensures _ c.lfs_tag_dsize.ensures _ c.is_check.ensures
-    c.if-is_check.false _ c.lfs_tag_type3.ensures _ c.rule_of-rule.ensures _ c.entered.ensures _ (sym c.in-To.is))
+    c.loop-at.invariant _ _ _ _
+    (turn_entry _ _ _ _ _ _ _ c.loop-at.invariant.ahead c.loop-at-test.true _ c.be32.ensures _
+    c.lfs_tag_dsize.ensures _ c.is_check.ensures c.if-is_check.false _ c.lfs_tag_type3.ensures _
+    c.rule_of-rule.ensures _ c.entered.ensures _ (sym c.in-To.is))
 
 pub loop-at-smaller : goal.loop-at-smaller
 loop-at-smaller c =
-    let t = tag_inside _ _ _ _ _ _ _ c.loop-at.invariant.ahead c.loop-at-test.true _ c.be32.ensures _ c.lfs_tag_dsize.ensures in
+    let t = tag_inside _ _ _ _ _ _ _ c.loop-at.invariant.ahead c.loop-at-test.true _ c.be32.ensures _
+    c.lfs_tag_dsize.ensures in
     omega (arith, t.1)
 
 pub loop-at-preserved : goal.loop-at-preserved
 loop-at-preserved c = entry_goes _ _ _ (none_named _ _) _ _ _ _ _ _ _
-    c.loop-at.invariant _ _ _ _ (turn_entry _ _ _ _ _ _ _ c.loop-at.invariant.ahead c.loop-at-test.true _ c.be32.ensures _ c.lfs_tag_dsize.ensures _ c.is_check.ensures c.if-is_check.false _ c.lfs_tag_type3.ensures _ c.rule_of-rule.ensures _ c.entered.ensures _ (sym c.in-To.is)) _ _ _ c.follow-any.ensures c.grows_after-grows.ensures
+    c.loop-at.invariant _ _ _ _
+    (turn_entry _ _ _ _ _ _ _ c.loop-at.invariant.ahead c.loop-at-test.true _ c.be32.ensures _
+    c.lfs_tag_dsize.ensures _ c.is_check.ensures c.if-is_check.false _ c.lfs_tag_type3.ensures _
+    c.rule_of-rule.ensures _ c.entered.ensures _ (sym c.in-To.is)) _ _ _ c.follow-any.ensures
+    c.grows_after-grows.ensures
 
 pub returns : goal.returns
 returns c = ends _ _ _ _ _ _ _ _ _ _ _ c.loop-at.invariant c.loop-at-test.false _

@@ -2,6 +2,7 @@
 -- goes down. Assumes nothing.
 use Prim.Native.Nat.{◌-◌}
 use native.Mathlib.Omega.{arith}
+use borrow.Author.Rules.{rules}
 use Rattle.find_set.proofs.Words.{moved_start}
 use Rattle.find_set.proofs.Moves.{up_turn, up_end}
 use Rattle.find_set.proofs.insert.Goals as goal
@@ -9,21 +10,13 @@ use Rattle.find_set.proofs.insert.Goals as goal
 pub loop-i-init : goal.loop-i-init
 loop-i-init c = (omega arith, omega arith, moved_start _ _ c.requires.0)
 
-pub open_word-requires : goal.open_word-requires
-open_word-requires c =
-    let loop = c.loop-i in (
-      omega (arith, loop.invariant.2.full),
-      omega arith,
-      omega (arith, c.slice_known-in-loop-i-1.given (loop.i - 1)),
-    )
-
 pub loop-i-preserved : goal.loop-i-preserved
 loop-i-preserved c =
     let loop = c.loop-i in (
       omega arith,
       omega arith,
       up_turn _ _ _ _ loop.invariant.2 _ (omega arith) (omega arith) (omega arith)
-          (omega (arith, c.slice_known-in-loop-i-1.given (loop.i - 1))) _
+          (search rules) _
           c.open_word.ensures,
     )
 

@@ -6,7 +6,8 @@ use Rattle.find_set.proofs.Words.{Moved}
 use Rattle.find_set.proofs.insert.Given as goal
 
 abbrev pub invariant-loop-i : goal.invariant-loop-i
-invariant-loop-i l = (l.at ≤ l.i) × (l.i < 32) × Moved (made l.id (has l.initial.words)) l.initial.words l.words (l.i + 1)
+invariant-loop-i l =
+    (l.at ≤ l.i) × (l.i < 32) × Moved (made l.id (has l.initial.words)) l.initial.words l.words (l.i + 1)
 
 abbrev pub decreases-loop-i : goal.decreases-loop-i
 decreases-loop-i l = l.i

@@ -1,6 +1,9 @@
 -- `find_set::remove` meets its contract. The words above the loop's are moved, and the others as at entry; the carry
 -- is the lowest digit of the word above, as it was. The loop goes down. Assumes nothing.
+use Prim.Native.Nat.{◌<◌, ◌^◌}
 use native.Mathlib.Omega.{arith}
+use lib.ListN.{get_or}
+use borrow.Author.Rules.{rules}
 use Rattle.find_set.proofs.Words.{moved_start}
 use Rattle.find_set.proofs.Moves.{down_start, down_turn, down_carry, down_end}
 use Rattle.find_set.proofs.remove.Goals as goal
@@ -16,7 +19,7 @@ close_word-requires c =
 pub loop-i-preserved : goal.loop-i-preserved
 loop-i-preserved c =
     let loop = c.loop-i in
-    let fits = c.slice_known-1.given loop.i in (
+    let fits : get_or c.args.words.now loop.i 0 < 2 ^ 32 = search rules in (
       omega arith,
       omega arith,
       omega arith,
@@ -32,7 +35,7 @@ close_word-requires-2 c = (omega (arith, c.loop-i.invariant.4.full), omega arith
 pub returns : goal.returns
 returns c =
     let loop = c.loop-i in
-    let fits = c.slice_known-1.given loop.i in
+    let fits : get_or c.args.words.now loop.i 0 < 2 ^ 32 = search rules in
     down_end _ _ _ _ _ loop.invariant.4 loop.invariant.2 loop.invariant.3 (omega arith) (omega arith) (omega arith) _
     c.close_word-2.ensures
 

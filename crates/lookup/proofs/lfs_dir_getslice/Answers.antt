@@ -7,7 +7,8 @@ use Rattle.lookup.proofs.lfs_dir_getslice.Goals as goal
 pub returns-then-not-fits-buffer : goal.returns-then-not-fits-buffer
 returns-then-not-fits-buffer c = let a = c.args in let all = getslice_refused a.g a.b0.now a.b1.now
     a.n0 a.n1 a.dir a.gdisk a.gmask a.gtag a.goff a.buffer.now _
-    c.record_fits-fits.ensures c.if-not-fits-buffer.true in record { value = all.0; buffer_after = all.1 }
+    c.record_fits-fits.ensures c.if-not-fits-buffer.true in
+    record { value = all.0; buffer_after = all.1 }
 
 pub read-requires : goal.read-requires
 read-requires c = let a = c.args in
@@ -22,13 +23,17 @@ read-requires-else-pair-n0 c = let a = c.args in
     c.if-not-fits-buffer.false).1
 
 pub returns-then-pair-n0 : goal.returns-then-pair-n0
-returns-then-pair-n0 c = let a = c.args in let all = getslice_read a.g a.b0.now a.b1.now a.n0 a.n1 a.dir a.gdisk a.gmask a.gtag
+returns-then-pair-n0 c =
+    let a = c.args in let all = getslice_read a.g a.b0.now a.b1.now a.n0 a.n1 a.dir a.gdisk a.gmask a.gtag
     a.goff a.buffer.now _ c.record_fits-fits.ensures c.if-not-fits-buffer.false a.b0.now
     (block_first a.b0.now a.b1.now a.n0 a.dir c.if-pair-n0.true) _ _
-    c.read.ensures.value c.read.ensures.buffer_after in record { value = all.0; buffer_after = all.1 }
+    c.read.ensures.value c.read.ensures.buffer_after in
+    record { value = all.0; buffer_after = all.1 }
 
 pub returns-else-pair-n0 : goal.returns-else-pair-n0
-returns-else-pair-n0 c = let a = c.args in let all = getslice_read a.g a.b0.now a.b1.now a.n0 a.n1 a.dir a.gdisk a.gmask a.gtag
+returns-else-pair-n0 c =
+    let a = c.args in let all = getslice_read a.g a.b0.now a.b1.now a.n0 a.n1 a.dir a.gdisk a.gmask a.gtag
     a.goff a.buffer.now _ c.record_fits-fits.ensures c.if-not-fits-buffer.false a.b1.now
     (block_second a.b0.now a.b1.now a.n0 a.dir c.if-pair-n0.false) _ _
-    c.read-else-pair-n0.ensures.value c.read-else-pair-n0.ensures.buffer_after in record { value = all.0; buffer_after = all.1 }
+    c.read-else-pair-n0.ensures.value c.read-else-pair-n0.ensures.buffer_after in
+    record { value = all.0; buffer_after = all.1 }

@@ -9,7 +9,8 @@ use Rattle.lookup_search.proofs.find_back.Given as goal
 
 abbrev pub invariant-loop-at : goal.invariant-loop-at
 invariant-loop-at l = (l.off ≤ l.end)
-    × (wlook (has_ids l.gmask) l.gmask l.gtag l.diff (back l.b l.end l.etag) ≡ wlook l.ids l.gmask l.gtag l.gdiff (back l.b l.off l.tag))
+    × (wlook (has_ids l.gmask) l.gmask l.gtag l.diff (back l.b l.end l.etag)
+    ≡ wlook l.ids l.gmask l.gtag l.gdiff (back l.b l.off l.tag))
 
 abbrev pub decreases-loop-at : goal.decreases-loop-at
 decreases-loop-at l = l.off

@@ -5,8 +5,8 @@ use Rattle.lookup_search.proofs.newest.Goals as goal
 
 pub returns-then-moves-moved : goal.returns-then-moves-moved
 returns-then-moves-moved c = (
-  start_moved _ _ _ _ _ _ _ _ _ c.lfs_tag_id.ensures c.has_move_here.ensures c.lfs_tag_id-moved.ensures c.lfs_tag_id-id.ensures
-      c.if-moves-moved.true,
+  start_moved _ _ _ _ _ _ _ _ _ c.lfs_tag_id.ensures c.has_move_here.ensures c.lfs_tag_id-moved.ensures
+      c.lfs_tag_id-id.ensures c.if-moves-moved.true,
   tt,
 )
 

@@ -1,5 +1,4 @@
 -- `text::decimal` meets its contract: at most ten digits. Assumes nothing.
-use Rattle.std.proofs.Common.{rules}
 use Rattle.text.proofs.decimal.Goals as goal
 
 pub returns : goal.returns

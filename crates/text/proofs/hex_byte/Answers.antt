@@ -1,5 +1,4 @@
 -- `text::hex_byte` meets its contract: two digits. Assumes nothing.
-use Rattle.std.proofs.Common.{rules}
 use Rattle.text.proofs.Shown.{hex_two}
 use Rattle.text.proofs.hex_byte.Goals as goal
 

@@ -1,9 +1,7 @@
 -- `text::hex_bytes` meets its contract. The loop keeps where all bytes end, from here. Assumes nothing.
-use Rattle.std.proofs.Common.{◌≡◌, ◌-◌, ◌≤◌, length, drop, refl, arith, rules}
-use Rattle.format.specs.Listing.{hex_byte, hex_bytes}
+use Rattle.std.proofs.Common.{◌≡◌, ◌-◌, ◌≤◌, length, drop}
+use Rattle.format.specs.Listing.{hex_bytes}
 use Rattle.text.specs.Put.{text, puts_of}
-use Rattle.text.proofs.Joined.{each_more, each_done}
-use Rattle.text.proofs.Shown.{hex_each, hex_no}
 use Rattle.text.proofs.hex_bytes.Given as goal
 
 abbrev pub invariant-loop-i : goal.invariant-loop-i

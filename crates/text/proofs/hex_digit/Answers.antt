@@ -1,5 +1,4 @@
 -- `text::hex_digit` meets its contract: 0 to 9, or a to f. Assumes nothing.
-use Rattle.std.proofs.Common.{rules}
 use Rattle.text.proofs.Shown.{hex_low, hex_high}
 use Rattle.text.proofs.hex_digit.Goals as goal
 

@@ -1,5 +1,4 @@
 -- `text::hex_type` meets its contract: three digits. Assumes nothing.
-use Rattle.std.proofs.Common.{rules}
 use Rattle.text.proofs.Shown.{hex_three}
 use Rattle.text.proofs.hex_type.Goals as goal
 

@@ -1,5 +1,4 @@
 -- `text::hex_word` meets its contract: its four bytes, the highest first. Assumes nothing.
-use Rattle.std.proofs.Common.{rules}
 use Rattle.text.proofs.hex_word.Goals as goal
 
 pub returns : goal.returns

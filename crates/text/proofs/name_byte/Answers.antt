@@ -1,5 +1,4 @@
 -- `text::name_byte` meets its contract: the byte, or its escape. Assumes nothing.
-use Rattle.std.proofs.Common.{rules}
 use Rattle.text.proofs.Shown.{name_plain, name_escaped}
 use Rattle.text.proofs.name_byte.Goals as goal
 

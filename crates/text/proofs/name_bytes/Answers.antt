@@ -1,7 +1,6 @@
 -- `text::name_bytes` meets its contract. The loop keeps where all bytes end, from here. Assumes nothing.
-use Rattle.std.proofs.Common.{◌≡◌, ◌-◌, ◌≤◌, length, drop, refl, arith, rules}
+use Rattle.std.proofs.Common.{refl, arith, rules}
 use Rattle.format.specs.Listing.{name_byte, name_bytes}
-use Rattle.text.specs.Put.{text, puts_of}
 use Rattle.text.proofs.Joined.{each_more, each_done}
 use Rattle.text.proofs.Shown.{name_each, name_no}
 use Rattle.text.proofs.name_bytes.Goals as goal

@@ -1,5 +1,4 @@
 -- `text::number_line` meets its contract: three parts, one behind the other. Assumes nothing.
-use Rattle.std.proofs.Common.{rules}
 use Rattle.text.proofs.Shown.{number_done}
 use Rattle.text.proofs.number_line.Goals as goal
 

@@ -1,5 +1,4 @@
 -- `text::put` meets its contract: behind the buffer nothing is stored, else one byte. Assumes nothing.
-use Rattle.std.proofs.Common.{rules}
 use Rattle.text.proofs.Joined.{put_past, put_stored}
 use Rattle.text.proofs.put.Goals as goal
 

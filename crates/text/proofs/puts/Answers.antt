@@ -1,6 +1,5 @@
 -- `text::puts` meets its contract. The loop keeps where all bytes end, from here. Assumes nothing.
-use Rattle.std.proofs.Common.{◌≡◌, ◌-◌, ◌≤◌, [], ◌∷◌, length, drop, refl, arith, rules}
-use Rattle.text.specs.Put.{text, puts_of}
+use Rattle.std.proofs.Common.{[], ◌∷◌, refl, arith, rules}
 use Rattle.text.proofs.Joined.{puts_one, each_more, each_done}
 use Rattle.text.proofs.puts.Goals as goal
 

@@ -1,5 +1,4 @@
 -- `text_audit::deadline_line` meets its contract: none, or its length. Assumes nothing.
-use borrow.Author.Rules.{rules}
 use Rattle.format.proofs.Searched.{hit_in}
 use Rattle.text_audit.proofs.Told.{deadline_none, deadline_unread}
 use Rattle.text_audit.proofs.deadline_line.Goals as goal
@@ -8,8 +7,9 @@ pub returns-in_default : goal.returns-in_default
 returns-in_default c = deadline_none _ _ _ _ _ c.in_default.is _ c.lack_line.ensures
 
 pub overflow_sub-e : goal.overflow_sub-e
-overflow_sub-e c = (hit_in _ _ c.requires.hit_in_2 c.in-Found.is).counted
+overflow_sub-e c = (hit_in _ _ c.requires.attribute_in c.in-Found.is).counted
 
 pub returns : goal.returns
-returns c = deadline_unread _ _ _ _ _ c.in-Found.is c.requires.hit_in_2 _ _ _ c.lack_line-n.ensures c.decimal-n.ensures
+returns c = deadline_unread _ _ _ _ _ c.in-Found.is c.requires.attribute_in _ _ _ c.lack_line-n.ensures
+    c.decimal-n.ensures
     c.puts.ensures

@@ -1,5 +1,4 @@
 -- `text_audit::is_deadline` meets its contract: none, or one of four bytes. Assumes nothing.
-use borrow.Author.Rules.{rules}
 use Rattle.text_audit.proofs.Told.{deadline_missing, deadline_there}
 use Rattle.text_audit.proofs.is_deadline.Goals as goal
 

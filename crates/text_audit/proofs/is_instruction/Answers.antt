@@ -1,5 +1,4 @@
 -- `text_audit::is_instruction` meets its contract: no name, or one of another type. Assumes nothing.
-use borrow.Author.Rules.{rules}
 use Rattle.text_audit.proofs.Told.{instruction_nameless, instruction_named}
 use Rattle.text_audit.proofs.is_instruction.Goals as goal
 

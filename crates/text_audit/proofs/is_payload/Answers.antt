@@ -1,5 +1,4 @@
 -- `text_audit::is_payload` meets its contract: no struct, or one of the two types. Assumes nothing.
-use borrow.Author.Rules.{rules}
 use Rattle.text_audit.proofs.Told.{payload_missing, payload_there}
 use Rattle.text_audit.proofs.is_payload.Goals as goal
 

@@ -1,5 +1,4 @@
 -- `text_audit::is_there` meets its contract. Assumes nothing.
-use borrow.Author.Rules.{rules}
 use Rattle.text_audit.proofs.Told.{not_there, is_there_lem}
 use Rattle.text_audit.proofs.is_there.Goals as goal
 

@@ -1,5 +1,4 @@
 -- `text_audit::lack_line` meets its contract: its parts, one behind the other. Assumes nothing.
-use borrow.Author.Rules.{rules}
 use Rattle.text_audit.proofs.Told.{lack_done}
 use Rattle.text_audit.proofs.lack_line.Goals as goal
 

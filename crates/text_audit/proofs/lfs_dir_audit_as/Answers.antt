@@ -1,7 +1,6 @@
 -- `text_audit::lfs_dir_audit_as` meets its contract: the text is put from the start, and is shorter than 2^32. Assumes
 -- nothing.
 use mathlib.Core.Path.{sym, ◌∙◌}
-use borrow.Author.Rules.{rules}
 use Rattle.format.specs.Audit.{block_audit}
 use Rattle.format.specs.Regular.{rules_of}
 use Rattle.text.proofs.Written.{puts_written}

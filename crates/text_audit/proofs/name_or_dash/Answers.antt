@@ -1,5 +1,4 @@
 -- `text_audit::name_or_dash` meets its contract: a dash, or the name. Assumes nothing.
-use borrow.Author.Rules.{rules}
 use Rattle.format.proofs.Searched.{hit_in}
 use Rattle.text_audit.proofs.Told.{dash_shown, name_shown_lem}
 use Rattle.text_audit.proofs.name_or_dash.Goals as goal
@@ -11,8 +10,8 @@ returns-in_default c = dash_shown _ c.in_default.is _ _ _
 pub overflow_sub-to : goal.overflow_sub-to
 overflow_sub-to c = (hit_in _ _ c.requires c.in-Found.is).counted
 
-part_name_bytes_end : goal.slice-bounds-name-bytes-end
-part_name_bytes_end c = (hit_in _ _ c.before.before.before.before.before.before.before.before.requires c.before.before.before.before.name.given.1).inside
+pub slice_bounds-name_bytes-end : goal.slice_bounds-name_bytes-end
+slice_bounds-name_bytes-end c = (hit_in _ _ c.requires c.in-Found.is).inside
 
 pub returns : goal.returns
 returns c = name_shown_lem _ c.in-Found.is _ _ _ c.name_bytes.ensures

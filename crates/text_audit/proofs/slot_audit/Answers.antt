@@ -3,19 +3,19 @@ use mathlib.Core.Path.{ap}
 use native.Mathlib.Omega.{arith}
 use Rattle.format.specs.Audit.{deadline_class}
 use Rattle.theory.specs.Lookup.ByMask.{holds}
-use borrow.Author.Rules.{rules}
-use Rattle.text_audit.proofs.Steps.{Asked, tells_deadline, tells_payload, slot_no_deadline, slot_no_payload}
-use Rattle.text_audit.proofs.Steps.{slot_whole}
+use Rattle.text_audit.proofs.Steps.{Asked, tells_deadline, tells_payload, slot_no_deadline, slot_no_payload, slot_whole}
 use Rattle.text_audit.proofs.slot_audit.Goals as goal
 
 pub deadline_line-n-requires : goal.deadline_line-n-requires
-deadline_line-n-requires c = record { hit_in = rw c.found-name.ensures (c.requires.all_inside 0 (omega arith)); hit_in_2 = rw c.found-attribute.ensures (c.requires.all_inside deadline_class (omega arith)) }
+deadline_line-n-requires c = record {
+  name_in = rw c.found-name.ensures
+      (c.requires.all_inside 0 (omega arith));
+  attribute_in = rw c.found-attribute.ensures
+      (c.requires.all_inside deadline_class (omega arith));
+}
 
-add_t23 : goal.overflow-add-t23
-add_t23 c = omega (
-  arith,
-  c.before.before.before.before.before.before.before.before.before.before.before.before.before.requires.1.deadline,
-)
+pub overflow_add-result : goal.overflow_add-result
+overflow_add-result c = omega (arith, c.requires.few.deadline)
 
 pub returns-then-instruction-payload : goal.returns-then-instruction-payload
 returns-then-instruction-payload c =
@@ -28,17 +28,15 @@ returns-then-instruction-payload c =
       instruction = c.is_instruction-instruction.ensures;
       payload = c.is_payload-payload.ensures;
     } in
-    slot_no_deadline a.a _ _ _ _ _ _ (ap (holds a.b.now) k.name) _ (tells_deadline _ _ _ _ _ _ _ k _ c.is_deadline.ensures)
+    slot_no_deadline a.a _ _ _ _ _ _ (ap (holds a.b.now) k.name) _
+    (tells_deadline _ _ _ _ _ _ _ k _ c.is_deadline.ensures)
     c.if-instruction-payload.true _ (ap (holds a.b.now) k.attribute) c.deadline_line-n.ensures
 
 pub lack_line-n-requires : goal.lack_line-n-requires
 lack_line-n-requires c = rw c.found-name.ensures (c.requires.all_inside 0 (omega arith))
 
 pub overflow_add-result-then-instruction-is_there : goal.overflow_add-result-then-instruction-is_there
-overflow_add-result-then-instruction-is_there c = omega (
-  arith,
-  c.requires.few.payload,
-)
+overflow_add-result-then-instruction-is_there c = omega (arith, c.requires.few.payload)
 
 pub returns-then-instruction-is_there : goal.returns-then-instruction-is_there
 returns-then-instruction-is_there c =
@@ -51,7 +49,8 @@ returns-then-instruction-is_there c =
       instruction = c.is_instruction-instruction.ensures;
       payload = c.is_payload-payload.ensures;
     } in
-    slot_no_payload a.a _ _ _ _ _ _ (ap (holds a.b.now) k.name) _ (tells_deadline _ _ _ _ _ _ _ k _ c.is_deadline.ensures) _
+    slot_no_payload a.a _ _ _ _ _ _ (ap (holds a.b.now) k.name) _
+    (tells_deadline _ _ _ _ _ _ _ k _ c.is_deadline.ensures) _
     (tells_payload _ _ _ _ _ _ _ k _ c.is_there.ensures) c.if-instruction-payload.false c.if-instruction-is_there.true
     c.lack_line-n.ensures
 
@@ -66,5 +65,6 @@ returns c =
       instruction = c.is_instruction-instruction.ensures;
       payload = c.is_payload-payload.ensures;
     } in
-    slot_whole a.a _ a.out.now 0 _ _ _ (ap (holds a.b.now) k.name) _ (tells_deadline _ _ _ _ _ _ _ k _ c.is_deadline.ensures) _
+    slot_whole a.a _ a.out.now 0 _ _ _ (ap (holds a.b.now) k.name) _
+    (tells_deadline _ _ _ _ _ _ _ k _ c.is_deadline.ensures) _
     (tells_payload _ _ _ _ _ _ _ k _ c.is_there.ensures) c.if-instruction-payload.false c.if-instruction-is_there.false

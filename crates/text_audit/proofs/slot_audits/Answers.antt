@@ -1,14 +1,10 @@
 -- `text_audit::slot_audits` meets its contract. The loop keeps what is left to show and to count; the slots that are
 -- left fall. Assumes nothing.
-use mathlib.Core.Path.{◌≡◌, refl}
-use Prim.Native.Nat.{◌-◌, ◌≤◌}
+use mathlib.Core.Path.{refl}
 use native.Mathlib.Omega.{arith}
-use lib.ListN.{length}
 use borrow.Author.Rules.{rules}
-use Rattle.format.specs.Log.{log}
-use Rattle.format.specs.Directory.{dir_of}
 use Rattle.compact_slot.proofs.Slots.{slots_few, slot_gathers, slot_holds, slots_more, slots_end}
-use Rattle.text_audit.proofs.Steps.{Running, run_starts, run_few, run_next, run_done}
+use Rattle.text_audit.proofs.Steps.{run_starts, run_few, run_next, run_done}
 use Rattle.text_audit.proofs.slot_audits.Goals as goal
 
 pub loop-id-init : goal.loop-id-init
@@ -18,10 +14,13 @@ pub gather-seats-requires : goal.gather-seats-requires
 gather-seats-requires c = slot_gathers _ _ _ _ c.requires _ (omega arith)
 
 pub slot_audit-a-requires : goal.slot_audit-a-requires
-slot_audit-a-requires c = record { all_inside = c.gather-seats.ensures.inside; few = run_few _ _ _ _ _ (omega (
+slot_audit-a-requires c = record {
+  all_inside = c.gather-seats.ensures.inside;
+  few = run_few _ _ _ _ _ (omega (
     arith,
     slots_few _ _ _ _ c.requires,
-  )) c.loop-id.invariant.2 }
+  )) c.loop-id.invariant.2;
+}
 
 pub loop-id-preserved : goal.loop-id-preserved
 loop-id-preserved c = (

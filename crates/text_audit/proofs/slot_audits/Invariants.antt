@@ -1,14 +1,11 @@
 -- `text_audit::slot_audits` meets its contract. The loop keeps what is left to show and to count; the slots that are
 -- left fall. Assumes nothing.
-use mathlib.Core.Path.{◌≡◌, refl}
+use mathlib.Core.Path.{◌≡◌}
 use Prim.Native.Nat.{◌-◌, ◌≤◌}
-use native.Mathlib.Omega.{arith}
 use lib.ListN.{length}
-use borrow.Author.Rules.{rules}
 use Rattle.format.specs.Log.{log}
 use Rattle.format.specs.Directory.{dir_of}
-use Rattle.compact_slot.proofs.Slots.{slots_few, slot_gathers, slot_holds, slots_more, slots_end}
-use Rattle.text_audit.proofs.Steps.{Running, run_starts, run_few, run_next, run_done}
+use Rattle.text_audit.proofs.Steps.{Running}
 use Rattle.text_audit.proofs.slot_audits.Given as goal
 
 abbrev pub invariant-loop-id : goal.invariant-loop-id

@@ -1,5 +1,4 @@
 -- `text_audit::total_lines` meets its contract: three lines. Assumes nothing.
-use borrow.Author.Rules.{rules}
 use Rattle.text_audit.proofs.Steps.{totals_done}
 use Rattle.text_audit.proofs.total_lines.Goals as goal
 

@@ -1,6 +1,5 @@
 -- `text_find::found_text` meets its contract: the slot that was found, none, or the refusal. Assumes nothing.
 use mathlib.Core.Path.{sym, ◌∙◌}
-use borrow.Author.Rules.{rules}
 use Rattle.text_input.proofs.Input.{block_ends}
 use Rattle.text_find.proofs.Told.{found_gathers, shown_slot, shown_none, shown_refused}
 use Rattle.text_find.proofs.found_text.Goals as goal
@@ -9,16 +8,20 @@ pub find_in-requires : goal.find_in-requires
 find_in-requires c = block_ends _ _ c.requires
 
 pub gather-seats-requires : goal.gather-seats-requires
-gather-seats-requires c = found_gathers _ _ c.requires _ _ c.args.rules _ c.rules_of.ensures _ (sym c.in-At.is ∙ c.find_in.ensures)
+gather-seats-requires c = found_gathers _ _ c.requires _ _ c.args.rules _ c.rules_of.ensures _
+    (sym c.in-At.is ∙ c.find_in.ensures)
 
 pub slot_text-requires : goal.slot_text-requires
 slot_text-requires c = c.gather-seats.ensures.inside
 
 pub returns-in-At : goal.returns-in-At
-returns-in-At c = shown_slot _ _ c.requires _ _ c.args.rules _ c.rules_of.ensures _ (sym c.in-At.is ∙ c.find_in.ensures) _ c.gather-seats.ensures _ _ c.slot_text.ensures
+returns-in-At c = shown_slot _ _ c.requires _ _ c.args.rules _ c.rules_of.ensures _
+    (sym c.in-At.is ∙ c.find_in.ensures) _ c.gather-seats.ensures _ _ c.slot_text.ensures
 
 pub returns-in-Nothing : goal.returns-in-Nothing
-returns-in-Nothing c = shown_none _ _ c.requires _ _ c.args.rules _ c.rules_of.ensures (sym c.in-Nothing.is ∙ c.find_in.ensures) _ _ c.puts.ensures
+returns-in-Nothing c = shown_none _ _ c.requires _ _ c.args.rules _ c.rules_of.ensures
+    (sym c.in-Nothing.is ∙ c.find_in.ensures) _ _ c.puts.ensures
 
 pub returns-in-Refused : goal.returns-in-Refused
-returns-in-Refused c = shown_refused _ _ c.requires _ _ c.args.rules _ c.rules_of.ensures _ (sym c.in-Refused.is ∙ c.find_in.ensures) _ _ c.refused.ensures
+returns-in-Refused c = shown_refused _ _ c.requires _ _ c.args.rules _ c.rules_of.ensures _
+    (sym c.in-Refused.is ∙ c.find_in.ensures) _ _ c.refused.ensures

@@ -1,6 +1,5 @@
 -- `text_input::fetch_input` meets its contract: an odd length, one that is too long, or what fetch answers. Assumes
 -- nothing.
-use borrow.Author.Rules.{rules}
 use Rattle.text_input.proofs.Input.{input_odd, input_long, input_fetched}
 use Rattle.text_input.proofs.fetch_input.Goals as goal
 

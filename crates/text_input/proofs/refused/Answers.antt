@@ -1,5 +1,4 @@
 -- `text_input::refused` meets its contract: the number is below 0. Assumes nothing.
-use borrow.Author.Rules.{rules}
 use Rattle.text_input.proofs.Input.{refused_done}
 use Rattle.text_input.proofs.refused.Goals as goal
 

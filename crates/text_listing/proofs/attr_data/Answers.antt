@@ -1,5 +1,4 @@
 -- `text_listing::attr_data` meets its contract: a dash, or hex. Assumes nothing.
-use borrow.Author.Rules.{rules}
 use Rattle.text_listing.proofs.Fields.{data_empty, data_shown}
 use Rattle.text_listing.proofs.attr_data.Goals as goal
 

@@ -1,5 +1,4 @@
 -- `text_listing::attr_line` meets its contract: nothing, or a line. Assumes nothing.
-use borrow.Author.Rules.{rules}
 use Rattle.format.proofs.Searched.{hit_in}
 use Rattle.text_listing.proofs.Fields.{attr_missing, attr_shown}
 use Rattle.text_listing.proofs.attr_line.Goals as goal
@@ -10,8 +9,9 @@ returns-in_default c = attr_missing _ _ _ c.in_default.is _
 pub overflow_sub-to : goal.overflow_sub-to
 overflow_sub-to c = (hit_in _ _ c.requires c.in-Found.is).counted
 
-part_attr_data_end : goal.slice-bounds-attr-data-end
-part_attr_data_end c = (hit_in _ _ c.before.before.before.before.before.before.before.before.before.before.before.before.before.before.before.before.before.before.before.before.before.before.before.before.before.before.before.before.before.before.before.before.requires c.before.before.before.before.before.before.before.before.before.before.before.before.before.before.before.before.before.before.before.before.before.before.before.before.before.before.before.before.attribute.given.1).inside
+pub slice_bounds-attr_data-end : goal.slice_bounds-attr_data-end
+slice_bounds-attr_data-end c = (hit_in _ _ c.requires c.in-Found.is).inside
 
 pub returns : goal.returns
-returns c = attr_shown _ _ _ c.in-Found.is _ c.lfs_tag_type3.ensures _ _ _ _ _ _ _ _ c.puts-n.ensures c.decimal-n.ensures c.puts-n-2.ensures c.hex_type-n.ensures c.puts-n-3.ensures c.attr_data-n.ensures c.puts.ensures
+returns c = attr_shown _ _ _ c.in-Found.is _ c.lfs_tag_type3.ensures _ _ _ _ _ _ _ _ c.puts-n.ensures
+    c.decimal-n.ensures c.puts-n-2.ensures c.hex_type-n.ensures c.puts-n-3.ensures c.attr_data-n.ensures c.puts.ensures

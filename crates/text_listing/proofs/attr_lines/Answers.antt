@@ -1,15 +1,9 @@
 -- `text_listing::attr_lines` meets its contract. The loop keeps where all classes end, from here; the classes that are
 -- left fall. Assumes nothing.
-use mathlib.Core.Path.{◌≡◌, refl, ap}
-use Prim.Native.Nat.{◌-◌, ◌^◌, ◌≤◌}
+use mathlib.Core.Path.{refl, ap}
 use native.Mathlib.Omega.{arith}
-use lib.ListN.{length}
 use borrow.Author.Rules.{rules}
-use Rattle.format.specs.Directory.{classes}
-use Rattle.format.specs.Listing.{attr_lines}
-use Rattle.text.specs.Put.{text, puts_of}
 use Rattle.theory.specs.Lookup.ByMask.{holds}
-use Rattle.compact_slot.specs.Slots.{slot_in}
 use Rattle.text_listing.proofs.Loops.{attrs_more, attrs_done}
 use Rattle.text_listing.proofs.attr_lines.Goals as goal
 

@@ -1,5 +1,4 @@
 -- `text_listing::erased_line` meets its contract. Assumes nothing.
-use borrow.Author.Rules.{rules}
 use Rattle.text_listing.proofs.Whole.{erased_yes, erased_no}
 use Rattle.text_listing.proofs.erased_line.Goals as goal
 

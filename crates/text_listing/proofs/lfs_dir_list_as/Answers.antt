@@ -1,7 +1,6 @@
 -- `text_listing::lfs_dir_list_as` meets its contract: the text is put from the start, and is shorter than 2^32. Assumes
 -- nothing.
 use mathlib.Core.Path.{sym, ◌∙◌}
-use borrow.Author.Rules.{rules}
 use Rattle.format.specs.Listing.{block_text}
 use Rattle.format.specs.Regular.{rules_of}
 use Rattle.text.proofs.Written.{puts_written}

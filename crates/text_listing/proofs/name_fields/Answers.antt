@@ -1,5 +1,4 @@
 -- `text_listing::name_fields` meets its contract: two dashes, or type and name. Assumes nothing.
-use borrow.Author.Rules.{rules}
 use Rattle.format.proofs.Searched.{hit_in}
 use Rattle.text_listing.proofs.Fields.{name_missing, name_shown_lem}
 use Rattle.text_listing.proofs.name_fields.Goals as goal
@@ -10,8 +9,9 @@ returns-in_default c = name_missing _ _ _ c.in_default.is _ c.puts.ensures
 pub overflow_sub-to : goal.overflow_sub-to
 overflow_sub-to c = (hit_in _ _ c.requires c.in-Found.is).counted
 
-part_name_bytes_end : goal.slice-bounds-name-bytes-end
-part_name_bytes_end c = (hit_in _ _ c.before.before.before.before.before.before.before.before.before.before.before.before.before.before.before.before.before.before.before.before.before.before.before.requires c.before.before.before.before.before.before.before.before.before.before.before.before.before.before.before.before.before.before.before.name.given.1).inside
+pub slice_bounds-name_bytes-end : goal.slice_bounds-name_bytes-end
+slice_bounds-name_bytes-end c = (hit_in _ _ c.requires c.in-Found.is).inside
 
 pub returns : goal.returns
-returns c = name_shown_lem _ _ _ c.in-Found.is _ c.lfs_tag_type3.ensures _ _ _ _ c.puts-n.ensures c.hex_type-n.ensures c.puts-n-2.ensures c.name_bytes.ensures
+returns c = name_shown_lem _ _ _ c.in-Found.is _ c.lfs_tag_type3.ensures _ _ _ _ c.puts-n.ensures c.hex_type-n.ensures
+    c.puts-n-2.ensures c.name_bytes.ensures

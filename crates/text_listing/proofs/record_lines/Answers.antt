@@ -1,5 +1,4 @@
 -- `text_listing::record_lines` meets its contract: six lines, one behind the other. Assumes nothing.
-use borrow.Author.Rules.{rules}
 use Rattle.text_listing.proofs.Whole.{record_done}
 use Rattle.text_listing.proofs.record_lines.Goals as goal
 

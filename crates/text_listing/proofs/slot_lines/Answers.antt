@@ -1,14 +1,8 @@
 -- `text_listing::slot_lines` meets its contract. The loop keeps where all slots end, from here; the slots that are left
 -- fall. Assumes nothing.
-use mathlib.Core.Path.{◌≡◌, refl}
-use Prim.Native.Nat.{◌-◌, ◌≤◌}
+use mathlib.Core.Path.{refl}
 use native.Mathlib.Omega.{arith}
-use lib.ListN.{length, drop}
 use borrow.Author.Rules.{rules}
-use Rattle.format.specs.Log.{log}
-use Rattle.format.specs.Directory.{dir_of}
-use Rattle.format.specs.Listing.{slot_lines}
-use Rattle.text.specs.Put.{text, puts_of}
 use Rattle.compact_slot.proofs.Slots.{slot_gathers, slot_holds, slots_more, slots_end}
 use Rattle.text_listing.proofs.Loops.{slots_shown}
 use Rattle.text_input.proofs.Slots.{slots_next, slots_done}

@@ -2,7 +2,6 @@
 use mathlib.Core.Path.{ap}
 use native.Mathlib.Omega.{arith}
 use Rattle.theory.specs.Lookup.ByMask.{holds}
-use borrow.Author.Rules.{rules}
 use Rattle.text_listing.proofs.Loops.{slot_done}
 use Rattle.text_listing.proofs.slot_text.Goals as goal
 

@@ -1,5 +1,4 @@
 -- `text_listing::struct_fields` meets its contract: two dashes, or type and length. Assumes nothing.
-use borrow.Author.Rules.{rules}
 use Rattle.format.proofs.Searched.{hit_in}
 use Rattle.text_listing.proofs.Fields.{struct_missing, struct_shown}
 use Rattle.text_listing.proofs.struct_fields.Goals as goal
@@ -11,4 +10,5 @@ pub overflow_sub-e : goal.overflow_sub-e
 overflow_sub-e c = (hit_in _ _ c.requires c.in-Found.is).counted
 
 pub returns : goal.returns
-returns c = struct_shown _ _ _ c.in-Found.is _ c.lfs_tag_type3.ensures c.requires _ _ _ c.puts-n.ensures c.hex_type-n.ensures c.number_line.ensures
+returns c = struct_shown _ _ _ c.in-Found.is _ c.lfs_tag_type3.ensures c.requires _ _ _ c.puts-n.ensures
+    c.hex_type-n.ensures c.number_line.ensures

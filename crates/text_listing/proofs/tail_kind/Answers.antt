@@ -1,5 +1,4 @@
 -- `text_listing::tail_kind` meets its contract. Assumes nothing.
-use borrow.Author.Rules.{rules}
 use Rattle.text_listing.proofs.Whole.{kind_hard, kind_soft}
 use Rattle.text_listing.proofs.tail_kind.Goals as goal
 

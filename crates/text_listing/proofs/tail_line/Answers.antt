@@ -1,5 +1,4 @@
 -- `text_listing::tail_line` meets its contract: none, or kind and two numbers. Assumes nothing.
-use borrow.Author.Rules.{rules}
 use Rattle.text_listing.proofs.Whole.{tail_none, tail_shown}
 use Rattle.text_listing.proofs.tail_line.Goals as goal
 

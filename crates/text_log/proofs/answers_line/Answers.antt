@@ -1,7 +1,6 @@
 -- `text_log::answers_line` meets its contract: its parts, one behind the other. Assumes nothing.
 use Rattle.format.specs.RawLog.{answers_line}
 use Rattle.text.proofs.Joined.{join}
-use borrow.Author.Rules.{rules}
 use Rattle.text_log.proofs.answers_line.Goals as goal
 
 pub returns : goal.returns

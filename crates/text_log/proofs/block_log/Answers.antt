@@ -6,7 +6,6 @@ use Rattle.format.specs.RawLog.{committed_line, block_log}
 use Rattle.text.proofs.Joined.{join, same_part}
 use Rattle.text_log.proofs.WalkShown.{texts_start}
 use Rattle.text_log.proofs.PairShown.{taken_end, taken_within, start_reached}
-use borrow.Author.Rules.{rules}
 use Rattle.text_log.proofs.block_log.Goals as goal
 
 pub event_texts-n-requires : goal.event_texts-n-requires
@@ -25,5 +24,7 @@ overflow_cast-taken c = omega (
 pub returns : goal.returns
 unfolding block_log
 returns c = join _ _ _ _ _ c.puts-n.ensures (join _ _ _ _ _ c.decimal-n.ensures (join _
-    _ _ _ _ (same_part _ _ _ _ (ap (number_line _) c.le32-rev.ensures) c.number_line-n.ensures) (join _ _ _ _ _ c.puts-n-2.ensures (join _ _ _ _ _ (same_part _ _ _ _ (texts_start _ _ _ c.start-start.ensures) c.event_texts-n.ensures) (same_part _ _ _ _
+    _ _ _ _ (same_part _ _ _ _ (ap (number_line _) c.le32-rev.ensures) c.number_line-n.ensures)
+    (join _ _ _ _ _ c.puts-n-2.ensures (join _ _ _ _ _ (same_part _ _ _ _ (texts_start _ _ _ c.start-start.ensures)
+    c.event_texts-n.ensures) (same_part _ _ _ _
     (ap committed_line (taken_end _ _ c.walk_block-walked.ensures)) c.committed_line.ensures)))))

@@ -5,33 +5,29 @@ use native.Mathlib.Omega.{arith}
 use Rattle.format.proofs.Words.{tag_length_ge}
 use Rattle.text.proofs.Joined.{join, same_part}
 use Rattle.text_log.proofs.WalkShown.{data_cut, data_short}
-use borrow.Author.Rules.{rules}
 use Rattle.text_log.proofs.check_text.Goals as goal
 
 pub slice_bounds-full_data-count : goal.slice_bounds-full_data-count
-slice_bounds-full_data-count c = omega (
-  arith,
-  tag_length_ge c.args.tag,
-  c.lfs_tag_dsize.ensures,
-)
+slice_bounds-full_data-count c = omega (arith, tag_length_ge c.args.tag, c.lfs_tag_dsize.ensures)
 
-part_full_data_start : goal.slice-bounds-full-data-start
-part_full_data_start c = omega (
-  arith,
-  tag_length_ge c.before.before.before.before.before.before.before.before.before.before.before.before.before.before.before.before.before.before.before.before.before.before.args.tag,
-  c.before.before.before.before.before.before.before.before.before.before.before.before.before.before.before.before.before.before.before.lfs_tag_dsize.ensures,
-)
+pub slice_bounds-full_data-start : goal.slice_bounds-full_data-start
+slice_bounds-full_data-start c = omega (arith, tag_length_ge c.args.tag, c.lfs_tag_dsize.ensures)
 
 pub full_data-requires : goal.full_data-requires
-full_data-requires c = record { place_bound = omega (
+full_data-requires c = record {
+  place_bound = omega (
     arith,
     c.requires.most,
     c.requires.whole,
     tag_length_ge
         c.args.tag,
-  ); bytes_len_bound = data_short _ _ _ _ c.lfs_tag_dsize.ensures }
+  );
+  bytes_len_bound = data_short _ _ _ _ c.lfs_tag_dsize.ensures;
+}
 
 pub returns : goal.returns
 unfolding check_text
 returns c = join _ _ _ _ _ c.tag_columns-n.ensures (join _ _ _
-    _ _ c.puts-n.ensures (join _ _ _ _ _ c.hex_word-n.ensures (join _ _ _ _ _ c.puts-n-2.ensures (same_part _ _ _ _ (ap (full_data _ _) (data_cut _ _ _ _ c.lfs_tag_dsize.ensures)) c.full_data.ensures))))
+    _ _ c.puts-n.ensures (join _ _ _ _ _ c.hex_word-n.ensures
+    (join _ _ _ _ _ c.puts-n-2.ensures (same_part _ _ _ _
+    (ap (full_data _ _) (data_cut _ _ _ _ c.lfs_tag_dsize.ensures)) c.full_data.ensures))))

@@ -5,44 +5,30 @@ use native.Mathlib.Omega.{arith}
 use Rattle.format.proofs.Words.{tag_length_ge}
 use Rattle.text.proofs.Joined.{join, same_part}
 use Rattle.text_log.proofs.WalkShown.{data_cut, data_short}
-use borrow.Author.Rules.{rules}
 use Rattle.text_log.proofs.entry_text.Goals as goal
 
 pub slice_bounds-cut_data-count : goal.slice_bounds-cut_data-count
-slice_bounds-cut_data-count c = omega (
-  arith,
-  tag_length_ge c.args.tag,
-  c.lfs_tag_dsize.ensures,
-)
+slice_bounds-cut_data-count c = omega (arith, tag_length_ge c.args.tag, c.lfs_tag_dsize.ensures)
 
-part_cut_data_start : goal.slice-bounds-cut-data-start
-part_cut_data_start c = omega (
-  arith,
-  tag_length_ge c.before.before.before.before.before.before.before.before.args.tag,
-  c.before.before.before.before.before.lfs_tag_dsize.ensures,
-)
+pub slice_bounds-cut_data-start : goal.slice_bounds-cut_data-start
+slice_bounds-cut_data-start c = omega (arith, tag_length_ge c.args.tag, c.lfs_tag_dsize.ensures)
 
 pub slice_bounds-full_data-count : goal.slice_bounds-full_data-count
-slice_bounds-full_data-count c = omega (
-  arith,
-  tag_length_ge c.args.tag,
-  c.lfs_tag_dsize.ensures,
-)
+slice_bounds-full_data-count c = omega (arith, tag_length_ge c.args.tag, c.lfs_tag_dsize.ensures)
 
-part_full_data_start : goal.slice-bounds-full-data-start
-part_full_data_start c = omega (
-  arith,
-  tag_length_ge c.before.before.before.before.before.before.before.before.before.before.before.before.before.before.before.before.before.before.args.tag,
-  c.before.before.before.before.before.before.before.before.before.before.before.before.before.before.before.lfs_tag_dsize.ensures,
-)
+pub slice_bounds-full_data-start : goal.slice_bounds-full_data-start
+slice_bounds-full_data-start c = omega (arith, tag_length_ge c.args.tag, c.lfs_tag_dsize.ensures)
 
 pub full_data-requires : goal.full_data-requires
-full_data-requires c = record { place_bound = omega (
+full_data-requires c = record {
+  place_bound = omega (
     arith,
     c.requires.most,
     c.requires.whole,
     tag_length_ge c.args.tag,
-  ); bytes_len_bound = data_short _ _ _ _ c.lfs_tag_dsize.ensures }
+  );
+  bytes_len_bound = data_short _ _ _ _ c.lfs_tag_dsize.ensures;
+}
 
 pub returns : goal.returns
 unfolding entry_text

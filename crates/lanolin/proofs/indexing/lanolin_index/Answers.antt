@@ -6,4 +6,4 @@ use Rattle.lanolin.proofs.indexing.lanolin_index.Goals as goal
 
 pub returns : goal.returns
 returns c =
-    let made = c.lfs_dir_index in record { value = c.indexed_out.ensures ∙ ap indexed_out made.ensures.0; table_after = made.ensures.1 }
+    let made = c.lfs_dir_index in record { value = c.indexed_out.ensures ∙ ap indexed_out made.ensures.value; table_after = made.ensures.table_after }

@@ -6,4 +6,4 @@ use Rattle.lanolin.proofs.indexing.lanolin_index_get.Goals as goal
 
 pub returns : goal.returns
 returns c =
-    let made = c.lfs_dir_index_get in record { value = c.got_out.ensures ∙ ap got_out made.ensures.0; buffer_after = made.ensures.1 }
+    let made = c.lfs_dir_index_get in record { value = c.got_out.ensures ∙ ap got_out made.ensures.value; buffer_after = made.ensures.buffer_after }

@@ -1,4 +1,5 @@
 -- `lanolin::leaves::lanolin_put_be32` meets its contract: what the call below ensures, handed out. Assumes nothing.
+use mir.Syntax.{w32}
 use mathlib.Core.Path.{ap, ◌∙◌}
 use mir.Facts.{to_z-of_z}
 use borrow.Author.Rules.{rules, sfits_of}
@@ -7,4 +8,4 @@ use Rattle.lanolin.proofs.leaves.lanolin_put_be32.Goals as goal
 
 pub returns : goal.returns
 returns c =
-    let put = c.lfs_put_be32 in record { value = to_z-of_z (sfits_of c.altered_out.type_inv) ∙ c.altered_out.ensures ∙ ap altered_result put.ensures.0; bytes_after = put.ensures.1 }
+    let put = c.lfs_put_be32 in record { value = to_z-of_z {w = w32} (sfits_of c.altered_out.type_inv) ∙ c.altered_out.ensures ∙ ap altered_result put.ensures.value; bytes_after = put.ensures.s_after }

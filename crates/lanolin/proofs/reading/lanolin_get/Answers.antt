@@ -6,4 +6,4 @@ use Rattle.lanolin.proofs.reading.lanolin_get.Goals as goal
 
 pub returns : goal.returns
 returns c =
-    let got = c.lfs_dir_get in record { value = c.got_out.ensures ∙ ap got_out got.ensures.0; buffer_after = got.ensures.1 }
+    let got = c.lfs_dir_get in record { value = c.got_out.ensures ∙ ap got_out got.ensures.value; buffer_after = got.ensures.buffer_after }

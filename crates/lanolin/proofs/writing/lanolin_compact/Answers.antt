@@ -6,4 +6,4 @@ use Rattle.lanolin.proofs.writing.lanolin_compact.Goals as goal
 
 pub returns : goal.returns
 returns c =
-    let made = c.lfs_dir_compact.ensures in record { value = c.committed_out.ensures ∙ ap (committed_out c.args.seed) made.0; compact_leaves = made.1 }
+    let made = c.lfs_dir_compact.ensures in record { value = c.committed_out.ensures ∙ ap (committed_out c.args.seed) made.value; compact_leaves = made.compact_leaves }

@@ -7,4 +7,4 @@ use Rattle.lanolin.proofs.writing.lanolin_compact_stores.Goals as goal
 
 pub returns : goal.returns
 returns c =
-    let made = c.lfs_dir_compact_stores.ensures in record { value = c.stored_out.ensures ∙ ap stored_out made.0; compact_stores_leaves = made.1 }
+    let made = c.lfs_dir_compact_stores.ensures in record { value = c.stored_out.ensures ∙ ap stored_out made.value; compact_stores_leaves = made.compact_stores_leaves }

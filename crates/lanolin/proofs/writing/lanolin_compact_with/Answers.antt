@@ -7,7 +7,8 @@ use Rattle.lanolin.proofs.writing.lanolin_compact_with.Goals as goal
 
 pub returns : goal.returns
 returns c =
-    let made = c.lfs_dir_compact_with.ensures in let all = (
-      c.committed_out.ensures ∙ ap (committed_out c.args.seed) made.0,
-      made.1,
-    ) in record { value = all.0; compact_leaves = all.1.0; table_after = all.1.1 }
+    let made = c.lfs_dir_compact_with.ensures in record {
+      value = c.committed_out.ensures ∙ ap (committed_out c.args.seed) made.value;
+      compact_leaves = made.compact_leaves;
+      table_after = made.table_after;
+    }

@@ -18,7 +18,8 @@ pub loop-i-preserved : goal.loop-i-preserved
 loop-i-preserved c = let a = c.args in let l =
     c.loop-i in (
       omega arith,
-      copied_more a.b.now a.from a.n a.buffer.now c.requires.0 c.requires.1 l.buffer l.i l.invariant.1 c.loop-i-test.true,
+      copied_more a.b.now a.from a.n a.buffer.now c.requires.0 c.requires.1 l.buffer l.i l.invariant.1
+          c.loop-i-test.true,
     )
 
 pub returns : goal.returns

@@ -5,7 +5,9 @@ use Rattle.lookup_search.proofs.Fill.{filled, zeroed}
 use Rattle.lookup_search.proofs.slice.zero_rest.Given as goal
 
 abbrev pub invariant-loop-i : goal.invariant-loop-i
-invariant-loop-i l = (l.n ≤ l.i) × ((l.i ≤ length l.initial.buffer) × (l.buffer ≡ filled (zeroed l.n l.initial.buffer) l.initial.buffer l.i))
+invariant-loop-i l =
+    (l.n ≤ l.i) × ((l.i ≤ length l.initial.buffer)
+    × (l.buffer ≡ filled (zeroed l.n l.initial.buffer) l.initial.buffer l.i))
 
 abbrev pub decreases-loop-i : goal.decreases-loop-i
 decreases-loop-i l = length l.initial.buffer - l.i

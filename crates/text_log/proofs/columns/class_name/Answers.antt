@@ -1,6 +1,7 @@
 -- `text_log::columns::class_name` meets its contract, by the type's arm. Assumes nothing.
 use Rattle.format.specs.RawLog.{class_name, name_in}
 use Rattle.text_log.proofs.TagShown.{class_unknown}
+use Rattle.std.proofs.Common.{arith}
 use Rattle.text_log.proofs.columns.class_name.Goals as goal
 
 pub returns-in-0 : goal.returns-in-0
@@ -32,5 +33,5 @@ unfolding class_name name_in
 returns-in-1792 c = rw c.in-1792.is
 
 pub returns-in_default : goal.returns-in_default
-returns-in_default c = let n = c.in_default.in_default-own.rest in class_unknown _ n.0.0.0.0.0.0.1 n.0.0.0.0.0.1
-    n.0.0.0.0.1 n.0.0.0.1 n.0.0.1 n.0.1 n.1
+returns-in_default c = class_unknown _ (omega arith) (omega arith) (omega arith) (omega arith) (omega arith)
+    (omega arith) (omega arith)

@@ -1,7 +1,6 @@
 -- `text_log::columns::column` meets its contract: the margin, and the number behind it. Assumes nothing.
 use Rattle.format.specs.RawLog.{column}
 use Rattle.text.proofs.Joined.{join}
-use borrow.Author.Rules.{rules}
 use Rattle.text_log.proofs.columns.column.Goals as goal
 
 pub returns : goal.returns

@@ -1,6 +1,5 @@
 -- `text_log::columns::id_column` meets its contract: a dot, or the id. Assumes nothing.
 use Rattle.text_log.proofs.TagShown.{id_dot, id_shown}
-use borrow.Author.Rules.{rules}
 use Rattle.text_log.proofs.columns.id_column.Goals as goal
 
 pub returns-then-id-eq-NO_SLOT : goal.returns-then-id-eq-NO_SLOT

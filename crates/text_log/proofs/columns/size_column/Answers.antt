@@ -1,6 +1,5 @@
 -- `text_log::columns::size_column` meets its contract: an x, or the size. Assumes nothing.
 use Rattle.text_log.proofs.TagShown.{size_x, size_shown}
-use borrow.Author.Rules.{rules}
 use Rattle.text_log.proofs.columns.size_column.Goals as goal
 
 pub returns-then-size-eq-REMOVAL : goal.returns-then-size-eq-REMOVAL

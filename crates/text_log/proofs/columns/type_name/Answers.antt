@@ -1,7 +1,7 @@
 -- `text_log::columns::type_name` meets its contract, by the type's arm. Assumes nothing.
 use Rattle.format.specs.RawLog.{name_in}
 use Rattle.text_log.proofs.TagShown.{type_other}
-use borrow.Author.Rules.{rules}
+use Rattle.std.proofs.Common.{arith}
 use Rattle.text_log.proofs.columns.type_name.Goals as goal
 
 pub returns-in-1 : goal.returns-in-1
@@ -53,5 +53,5 @@ unfolding name_in
 returns-in-2047 c = rw c.in-2047.is
 
 pub returns-in_default : goal.returns-in_default
-returns-in_default c = let n = c.in_default.in_default-own.rest in type_other _ _ _ c.class_name.ensures n.0.0.0.0.0.0.0.0.0.0.0.1 n.0.0.0.0.0.0.0.0.0.0.1 n.0.0.0.0.0.0.0.0.0.1 n.0.0.0.0.0.0.0.0.1
-    n.0.0.0.0.0.0.0.1 n.0.0.0.0.0.0.1 n.0.0.0.0.0.1 n.0.0.0.0.1 n.0.0.0.1 n.0.0.1 n.0.1 n.1
+returns-in_default c = type_other _ _ _ c.class_name.ensures (omega arith) (omega arith) (omega arith) (omega arith)
+    (omega arith) (omega arith) (omega arith) (omega arith) (omega arith) (omega arith) (omega arith) (omega arith)

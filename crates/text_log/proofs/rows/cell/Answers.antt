@@ -1,7 +1,6 @@
 -- `text_log::rows::cell` meets its contract: blank, or the byte. Assumes nothing.
 use Rattle.text.proofs.Joined.{join, same_part}
 use Rattle.text_log.proofs.DataShown.{cell_none, cell_some}
-use borrow.Author.Rules.{rules}
 use Rattle.text_log.proofs.rows.cell.Goals as goal
 
 pub returns-then-bytes-i : goal.returns-then-bytes-i

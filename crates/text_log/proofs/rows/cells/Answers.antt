@@ -1,7 +1,6 @@
 -- `text_log::rows::cells` meets its contract: its parts, one behind the other. Assumes nothing.
 use Rattle.format.specs.RawLog.{cells}
 use Rattle.text.proofs.Joined.{join}
-use borrow.Author.Rules.{rules}
 use Rattle.text_log.proofs.rows.cells.Goals as goal
 
 pub returns : goal.returns

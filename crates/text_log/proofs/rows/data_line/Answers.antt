@@ -2,9 +2,10 @@
 use Rattle.format.specs.RawLog.{data_line}
 use Rattle.text.proofs.Joined.{join}
 use Rattle.text_log.proofs.DataShown.{line_cells}
-use borrow.Author.Rules.{rules}
 use Rattle.text_log.proofs.rows.data_line.Goals as goal
 
 pub returns : goal.returns
 unfolding data_line
-returns c = join _ _ _ _ _ c.puts-n.ensures (join _ _ _ _ _ c.hex_word-n.ensures (join _ _ _ _ _ c.puts-n-2.ensures (join _ _ _ _ _ (line_cells _ _ _ _ _ c.part_end-to.ensures c.cells-n.ensures) c.puts.ensures)))
+returns c = join _ _ _ _ _ c.puts-n.ensures (join _ _ _ _ _ c.hex_word-n.ensures
+    (join _ _ _ _ _ c.puts-n-2.ensures (join _ _ _ _ _ (line_cells _ _ _ _ _ c.part_end-to.ensures c.cells-n.ensures)
+    c.puts.ensures)))

@@ -1,11 +1,7 @@
 -- `text_log::rows::data_lines` meets its contract. The loop keeps where all lines end, from here. Assumes nothing.
-use mathlib.Core.Path.{◌≡◌, refl}
-use Prim.Native.Nat.{◌+◌, ◌*◌, ◌-◌, ◌≤◌}
+use mathlib.Core.Path.{refl}
 use native.Mathlib.Omega.{arith}
-use lib.ListN.{length, drop}
 use borrow.Author.Rules.{rules}
-use Rattle.format.specs.RawLog.{data_lines}
-use Rattle.text.specs.Put.{text, puts_of}
 use Rattle.text_log.proofs.DataShown.{lines_start, lines_more, lines_done}
 use Rattle.text_log.proofs.rows.data_lines.Goals as goal
 

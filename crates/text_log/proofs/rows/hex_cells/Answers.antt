@@ -1,11 +1,7 @@
 -- `text_log::rows::hex_cells` meets its contract. The loop keeps where all places end, from here. Assumes nothing.
-use mathlib.Core.Path.{◌≡◌, refl}
-use Prim.Native.Nat.{◌-◌, ◌≤◌}
+use mathlib.Core.Path.{refl}
 use native.Mathlib.Omega.{arith}
-use lib.ListN.{length, drop}
 use borrow.Author.Rules.{rules}
-use Rattle.format.specs.RawLog.{hex_cells}
-use Rattle.text.specs.Put.{text, puts_of}
 use Rattle.text_log.proofs.DataShown.{cells_start, cells_more, cells_done}
 use Rattle.text_log.proofs.rows.hex_cells.Goals as goal
 

@@ -1,12 +1,10 @@
 -- `text_log::rows::letters` meets its contract. The loop keeps where all bytes end, from here. Assumes nothing.
-use mathlib.Core.Path.{◌≡◌, refl, ap, ◌∙◌}
+use mathlib.Core.Path.{refl, ap, ◌∙◌}
 use mathlib.Core.List.{[], ◌∷◌}
-use Prim.Native.Nat.{◌-◌, ◌≤◌}
 use native.Mathlib.Omega.{arith}
-use lib.ListN.{length, drop}
 use borrow.Author.Rules.{rules}
 use Rattle.format.specs.RawLog.{letter, letters}
-use Rattle.text.specs.Put.{text, put_of, puts_of}
+use Rattle.text.specs.Put.{put_of}
 use Rattle.text.proofs.Joined.{puts_one, each_more, each_done}
 use Rattle.text_log.proofs.DataShown.{letters_each, letters_no}
 use Rattle.text_log.proofs.rows.letters.Goals as goal
@@ -21,7 +19,8 @@ pub loop-i-preserved : goal.loop-i-preserved
 loop-i-preserved c = (
   omega arith,
   search rules,
-  each_more letters (λ b. letter b ∷ []) _ letters_each _ _ _ _ c.loop-i-test.true c.loop-i.invariant.2 (puts_one _ _ _ (c.put-n.ensures ∙ ap (put_of _) c.letter.ensures)),
+  each_more letters (λ b. letter b ∷ []) _ letters_each _ _ _ _ c.loop-i-test.true c.loop-i.invariant.2
+      (puts_one _ _ _ (c.put-n.ensures ∙ ap (put_of _) c.letter.ensures)),
 )
 
 pub shape_of-out : goal.shape_of-out

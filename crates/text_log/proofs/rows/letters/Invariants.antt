@@ -1,14 +1,9 @@
 -- `text_log::rows::letters` meets its contract. The loop keeps where all bytes end, from here. Assumes nothing.
-use mathlib.Core.Path.{◌≡◌, refl, ap, ◌∙◌}
-use mathlib.Core.List.{[], ◌∷◌}
+use mathlib.Core.Path.{◌≡◌}
 use Prim.Native.Nat.{◌-◌, ◌≤◌}
-use native.Mathlib.Omega.{arith}
 use lib.ListN.{length, drop}
-use borrow.Author.Rules.{rules}
-use Rattle.format.specs.RawLog.{letter, letters}
-use Rattle.text.specs.Put.{text, put_of, puts_of}
-use Rattle.text.proofs.Joined.{puts_one, each_more, each_done}
-use Rattle.text_log.proofs.DataShown.{letters_each, letters_no}
+use Rattle.format.specs.RawLog.{letters}
+use Rattle.text.specs.Put.{text, puts_of}
 use Rattle.text_log.proofs.rows.letters.Given as goal
 
 abbrev pub invariant-loop-i : goal.invariant-loop-i

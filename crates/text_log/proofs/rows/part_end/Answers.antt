@@ -1,6 +1,5 @@
 -- `text_log::rows::part_end` meets its contract: the end of all, or of so many. Assumes nothing.
 use Rattle.text_log.proofs.DataShown.{part_short, part_long}
-use borrow.Author.Rules.{rules}
 use Rattle.text_log.proofs.rows.part_end.Goals as goal
 
 pub returns-then-len-from : goal.returns-then-len-from

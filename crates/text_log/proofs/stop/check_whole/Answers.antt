@@ -1,6 +1,5 @@
 -- `text_log::stop::check_whole` meets its contract: it is the test of the definition. Assumes nothing.
 use Rattle.text_log.proofs.StopShown.{whole_is}
-use borrow.Author.Rules.{rules}
 use Rattle.text_log.proofs.stop.check_whole.Goals as goal
 
 pub returns : goal.returns

@@ -1,7 +1,6 @@
 -- `text_log::stop::past_stop` meets its contract: its parts, one behind the other. Assumes nothing.
 use Rattle.format.specs.RawLog.{past_stop}
 use Rattle.text.proofs.Joined.{join}
-use borrow.Author.Rules.{rules}
 use Rattle.text_log.proofs.stop.past_stop.Goals as goal
 
 pub returns : goal.returns
