@@ -1,5 +1,7 @@
 // The binary log, the trailing zeros and the set digits of a word: util.rs, by the language's counts. Crate
 // `bits_shifts` has the Rust's own shifts, proved to give the same.
+#![tactic(auto)]
+
 ghost use Rattle.std.specs.Prelude.{◌≡◌};
 ghost use Rattle.format.specs.Arith.{npw2, ctz, popc};
 

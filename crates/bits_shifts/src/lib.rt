@@ -1,5 +1,7 @@
 // The Rust's own lfs_npw2, lfs_ctz and lfs_popc, by shifts, proved against the definitions that crate `bits` meets by
 // the language's counts; and that the two agree on every word. Nothing that is shipped stands on it.
+#![tactic(auto)]
+
 ghost use Rattle.std.specs.Prelude.{◌≡◌, true};
 ghost use Rattle.format.specs.Arith.{npw2, ctz, popc};
 

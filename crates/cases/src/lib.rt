@@ -1,1 +1,2 @@
 // Worked examples: theorems of specs/, by computation. No code.
+#![tactic(auto)]

@@ -2,6 +2,8 @@
 // a pair that answers. Any blocks, numbers, entries and bytes; a refused call changes nothing. The functions here hold
 // the list of entries and do no more than pass it on: `each` is the one loop over it, run twice, and hands an entry's
 // numbers to `commit_steps::step`. Their proofs are walks that tools/genwalk.py writes.
+#![tactic(auto)]
+
 ghost use Rattle.std.specs.Prelude.{◌≡◌, length};
 ghost use Rattle.format.specs.Writer.{commit_of, commit_stores_of};
 ghost use Rattle.format.specs.Stopped.{CommitLeaves, CommitStoresLeaves};

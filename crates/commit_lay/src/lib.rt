@@ -1,6 +1,8 @@
 // A commit's bytes: laid into a block by single stores, in rising order, as many as may still be made; and summed
 // without a store. Any numbers: what would pass the block is not stored, and a part that would pass the buffer is cut
 // there.
+#![tactic(auto)]
+
 ghost use Rattle.std.specs.Prelude.{◌≡◌, ◌++◌, min};
 ghost use Rattle.format.specs.Word.{to_be32, to_le32};
 ghost use Rattle.format.specs.Crc.{crc};

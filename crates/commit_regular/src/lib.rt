@@ -2,6 +2,8 @@
 // against the count that the entries leave. Fetch has verified the log and said where it ends, so nothing is summed
 // again. `log_regular` requires that the log is known to end there and is for the crates of this repository, which have
 // fetched from the block: littlefs has no such call, and none of ours to C is made of it alone.
+#![tactic(auto)]
+
 ghost use Rattle.std.specs.Prelude.{◌≡◌};
 ghost use Rattle.format.specs.Tag.{tag_id, tag_size};
 ghost use Rattle.format.specs.Log.{log};

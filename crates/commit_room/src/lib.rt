@@ -1,6 +1,8 @@
 // The room that a commit is written to: where it ends, whether it carries a forward check, what stands against an
 // append, and whether the check tag's checksums coincide. `erased` is the erased byte, 0xff or 0x00: that it is one of
 // them the calls test, and nothing here asks for it.
+#![tactic(auto)]
+
 ghost use Rattle.std.specs.Prelude.{◌≡◌, ◌+◌, ◌≤◌, ◌<◌, length};
 ghost use Rattle.format.specs.Erased.{validity_fits};
 ghost use Rattle.format.specs.Commit.{check_tag};

@@ -1,20 +1,15 @@
 -- The count behind an entry that passes its rule fits a word, and the answer by cases. Assumes nothing.
 use mathlib.Core.Path.{◌≡◌, refl, sym, ap, ◌∙◌}
 use mathlib.Core.Bool.{Bool, true, false, ◌&&◌}
-use mathlib.Core.List.{[], ◌∷◌}
-use Prim.{tt}
 use Prim.Native.Nat.{ℕ, ◌+◌, ◌^◌, ◌≤◌, ◌<◌}
 use native.Mathlib.Omega.{arith}
 use lib.Dec.{leb, eqb}
-
-
 use borrow.Author.Tests.{leb-true}
 use Rattle.format.specs.Regular.{Rule, rule_holds, count_after, grows_after, count_raised, create, delete, name, inlined}
 use Rattle.format.specs.Regular.{eight, attribute, tail, move, forward, bad}
 use Rattle.commit_rules.specs.Rules.{rule_as, passed_by}
 use Rattle.commit_rules.specs.declared.Rule as declared
 use Rattle.commit_rules.specs.declared.Rule.TheVariants as told
-use Rattle.commit_rules.specs.contracts.Rule.{the_type}
 use Rattle.commit_rules.specs.declared.Ruled.TheVariants as ruled
 
 both : (a b : Bool) → a && b ≡ true → (a ≡ true) × (b ≡ true)

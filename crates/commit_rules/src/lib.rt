@@ -1,5 +1,7 @@
 // The writer's rules for entries, as a count runs past them: the same functions for the entries of a commit and for
 // those of a log, where by littlefs's rule a name may make slots. Any numbers.
+#![tactic(auto)]
+
 ghost use Rattle.std.specs.Prelude.{◌≡◌, ◌^◌, ◌<◌};
 ghost use Rattle.format.specs.Regular.{rule_of, rule_holds, between, count_after, grows, grows_after, count_raised};
 ghost use Rattle.commit_rules.specs.Rules.{rule_as, passed_by, counted_by};

@@ -2,6 +2,8 @@
 // behind them. The entries come one by one as plain numbers, twice: in the first pass each is judged, summed and
 // counted, in the second it is laid. The state goes in and comes back by value, so no scratch memory is needed. Every
 // function takes any state and numbers.
+#![tactic(auto)]
+
 ghost use Rattle.std.specs.Prelude.{◌≡◌, ◌<◌, ◌≤◌, length};
 ghost use Rattle.commit_steps.specs.State.{trio, onto, refused_state, begun_of, started_of, judged_of, laid_of};
 ghost use Rattle.commit_lay.specs.Laid.{body_of};

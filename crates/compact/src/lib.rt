@@ -3,6 +3,8 @@
 // of all that the pair holds. Any geometry, images, numbers, block count and seed, and any number for the rule by which
 // the log must be regular (0 or 1, "any other -22") and for the erased byte ("0xff or 0x00", "Any other erased byte is
 // -22"). What is written is regular by document 01's rule, whichever was asked for.
+#![tactic(auto)]
+
 ghost use Rattle.std.specs.Prelude.{◌≡◌};
 ghost use Rattle.format.specs.Compaction.{compact_of, compact_stores_of};
 ghost use Rattle.format.specs.Index.{compact_table};

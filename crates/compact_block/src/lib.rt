@@ -1,6 +1,8 @@
 // One block compacted into another. Two passes run over the entries: the first makes no store and finds whether the
 // compaction is refused; the second erases the other block and writes "revision plus one (wrapping) and one commit". A
 // refusal alters nothing.
+#![tactic(auto)]
+
 ghost use Rattle.std.specs.Prelude.{◌≡◌, min, true, false, length};
 ghost use Rattle.format.specs.Word.{to_le32, all_ones};
 ghost use Rattle.format.specs.Crc.{crc};

@@ -2,6 +2,8 @@
 // tail ..; then move state", and the forward check behind them. Each is laid into the new block by as many single
 // stores as may still be made, and summed; with none left to make, this measures what would be written and alters
 // nothing.
+#![tactic(auto)]
+
 ghost use Rattle.std.specs.Prelude.{◌≡◌, cond, ◌∷◌, ◌++◌, ◌+◌, ◌^◌, ◌<◌, length, drop};
 ghost use Rattle.format.specs.Log.{log};
 ghost use Rattle.format.specs.Word.{xor, to_be32, to_le32};

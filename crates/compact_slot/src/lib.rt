@@ -1,6 +1,8 @@
 // What a slot holds, gathered in one walk back over a block's committed log: where the newest name, the newest struct
 // and the newest of each user attribute stand. A lookup for each of the 258 classes would walk as often. The functions
 // require that the end is inside the block, and are for the crates of this repository.
+#![tactic(auto)]
+
 ghost use Rattle.std.specs.Prelude.{◌≡◌, map, ◌+◌, ◌^◌, ◌<◌};
 ghost use Rattle.format.specs.Back.{back};
 ghost use Rattle.theory.specs.Back.BackActs.{seen};

@@ -1,5 +1,7 @@
 // The checksum: crc.rs, lfs_util.c's lfs_crc. CRC-32, polynomial 0x04c11db7 reflected, half a byte at a time, with no
 // inversion.
+#![tactic(auto)]
+
 ghost use Rattle.std.specs.Prelude.{◌≡◌};
 ghost use Rattle.format.specs.Crc.{crc_bits, crc_byte, crc};
 ghost use Rattle.crc.specs.Rtable.{Rtable};

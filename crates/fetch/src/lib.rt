@@ -1,5 +1,7 @@
 // Fetching a metadata pair: dir/fetch.rs, lfs.c's lfs_dir_fetch. Of two blocks, tried in rank, the first with a valid
 // commit answers. And fetching it again from the end of a record that is known: document 02, L6.
+#![tactic(auto)]
+
 ghost use Rattle.std.specs.Prelude.{◌≡◌, ◌<◌};
 ghost use Rattle.format.specs.Count.{second_first};
 ghost use Rattle.format.specs.Fetch.{fetch_of};

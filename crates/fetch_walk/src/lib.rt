@@ -1,6 +1,8 @@
 // The walk over one metadata block, from its revision to where it stops: what `lfs_dir_fetchmatch` learns of a block.
 // The state goes in and comes back by value, stepped by its own operations. A function with a `requires` is for the
 // crates of this repository, which test first.
+#![tactic(auto)]
+
 ghost use Rattle.std.specs.Prelude.{◌≡◌, ◌+◌, ◌≤◌, length};
 ghost use Rattle.format.specs.Word.{to_le32};
 ghost use Rattle.format.specs.Crc.{crc};

@@ -1,6 +1,7 @@
 // The plain types that the calls share: what goes in and what is answered. They hold numbers and no reference, so each
 // goes in and comes back by value. `specs/` says what they mean; `specs/Answer.antt` gives document 01's number and
 // values for each answer.
+#![tactic(auto)]
 
 pub mod types;
 

@@ -1,6 +1,8 @@
 // An index of a metadata pair in a lent table (document 02, L8): built in one forward pass, extended by what later
 // commits add, and asked in place of the walk back. Any geometry, images, numbers, records, rule and table. littlefs
 // has no such calls.
+#![tactic(auto)]
+
 ghost use Rattle.std.specs.Prelude.{◌≡◌, ◌≤◌, length};
 ghost use Rattle.format.specs.Index.{index_of, index_table, extend_of, extend_table};
 ghost use Rattle.index.specs.Blocks.{InBlock, indexed_in, tabled_in, extended_in, extended_table};

@@ -1,5 +1,7 @@
 // One forward pass over a part of a block's committed log: what each entry does to the table of an index. The log is
 // known to end where it is said to, so nothing is summed again. The functions are for the crates of this repository.
+#![tactic(auto)]
+
 ghost use Rattle.std.specs.Prelude.{◌≡◌, List, ℕ, ◌*◌, ◌^◌, ◌<◌, length, take};
 ghost use Rattle.format.specs.Log.{log};
 ghost use Rattle.format.specs.Index.{placed_act, places_after, indexed_as, table_as, built};

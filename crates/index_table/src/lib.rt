@@ -2,6 +2,8 @@
 // the offset of its first data byte, sorted by id and in a slot by class. A place is found by halving; what an entry of
 // a log does to the places moves those behind it, and none where it comes at the end. The functions take any words and
 // require only that what is in use stands inside the table; they are for the crates of this repository.
+#![tactic(auto)]
+
 ghost use Rattle.std.specs.Prelude.{◌≡◌, ◌-◌, ◌*◌, ◌/◌, ◌^◌, ◌<◌, ◌≤◌, ◌∷◌, ◌++◌, length, take, drop, replicate};
 ghost use Rattle.format.specs.Index.{rank_at, rank_of, seek_from, shifted, leading, slot_made, slot_removed, place_set};
 ghost use Rattle.format.specs.Index.{place_cleared, is_at};

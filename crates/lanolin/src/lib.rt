@@ -1,6 +1,8 @@
 // The C-callable layer: each public call on numbers, slices and one plain struct by value, under a flat name that
 // begins `lanolin_` (docs/DECISIONS.md has the shapes). It is thin: no logic of its own, no `requires`. Results are
 // document 01's numbers: 0, or the refusal.
+#![tactic(auto)]
+
 ghost use Rattle.std.specs.Prelude.{◌≡◌};
 ghost use Rattle.lanolin_answers.specs.Values.{committed_out, stored_out};
 ghost use Rattle.format.specs.Writer.{commit_of, commit_stores_of};

@@ -1,4 +1,6 @@
 // Answers as C gets them: document 01's numbers, and structs of plain fields.
+#![tactic(auto)]
+
 ghost use Rattle.std.specs.Prelude.{◌≡◌, min};
 ghost use Rattle.format.specs.Answer.{flag_of, refusal_number, refusal_mdir, refusal_seed, refusal_index, altered_result};
 ghost use Rattle.format.specs.Answer.{zero_mdir};

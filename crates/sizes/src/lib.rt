@@ -1,5 +1,7 @@
 // The calls' domain: which sizes, block numbers and records a call accepts, and which rule and erased byte. Fetch,
 // lookups and the writer make these tests before they read a block. Every function takes any numbers.
+#![tactic(auto)]
+
 ghost use Rattle.std.specs.Prelude.{◌≡◌};
 ghost use Rattle.format.specs.Fetch.{geometry_fits, images_fit, pair_fits, too_high};
 ghost use Rattle.format.specs.Lookup.{record_fits};

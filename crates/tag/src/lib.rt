@@ -1,5 +1,7 @@
 // The tag of a metadata log: tag.rs, lfs.c's LFS_MKTAG and lfs_tag_*. Every function takes any word.
 // Fields are taken by `/` and `%` of powers of two, which compile to the shifts and masks of the C.
+#![tactic(auto)]
+
 ghost use Rattle.std.specs.Prelude.{◌≡◌, ◌^◌, ◌<◌};
 ghost use Rattle.format.specs.Tag.{tag_valid, tag_type1, tag_type2, tag_type3, tag_chunk, tag_splice, tag_id, tag_size};
 ghost use Rattle.format.specs.Tag.{tag_delete, tag_length, mk_tag, mk_tag_if};

@@ -1,1 +1,2 @@
 // What follows from the definitions of `format` alone: see specs/. No code.
+#![tactic(auto)]

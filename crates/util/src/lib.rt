@@ -1,6 +1,8 @@
 // Small arithmetic and pairs: util.rs, lfs_util.h and lfs.c's lfs_pair_*. Every function takes any numbers. Of util.rs,
 // lfs_npw2, lfs_ctz and lfs_popc stand in crate `bits`, words in bytes (lfs_fromle32, ..) in crate `word`; the path
 // helpers are left out.
+#![tactic(auto)]
+
 ghost use Rattle.std.specs.Prelude.{◌≡◌, min, max};
 ghost use Rattle.format.specs.Count.{scmp};
 ghost use Rattle.format.specs.Arith.{align_down, align_up};

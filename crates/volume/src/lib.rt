@@ -1,5 +1,7 @@
 // A lent volume of equal blocks: whether it fits its geometry, its blocks, and a pair that is fetched in it. Document
 // 02 has it first in L9: "a lent volume of equal blocks (empty or not whole blocks is -22, here and below)".
+#![tactic(auto)]
+
 ghost use Rattle.std.specs.Prelude.{◌≡◌, true, ◌<◌};
 ghost use Rattle.format.specs.Volume.{volume_fits, blocks_in, block_in, fetch_in};
 

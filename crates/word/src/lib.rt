@@ -1,6 +1,8 @@
 // Words of 32 bits in bytes: what util.rs has as lfs_fromle32, lfs_tole32, lfs_frombe32 and lfs_tobe32 over a pointer
 // cast is here a read or a store of four bytes at an offset of a slice. Any slice and offset; what passes the end is
 // refused, and a refused store alters nothing.
+#![tactic(auto)]
+
 ghost use Rattle.std.specs.Prelude.{◌≡◌, ◌++◌};
 ghost use Rattle.format.specs.Word.{to_le32, to_be32};
 ghost use Rattle.format.specs.Bytes.{inside, le32_at, be32_at, put_answer, put_le32, put_be32};

@@ -1,4 +1,3 @@
-
 use Rattle.std.proofs.Common.{◌≡◌, ℕ, zero, suc, refl}
 use lib.Count.{count_trailing_zeros}
 use Rattle.format.specs.Arith.{ctz}

@@ -1,5 +1,4 @@
-
-use Rattle.std.proofs.Common.{◌≡◌, ℕ, ◌-◌, max, ap, ◌∙◌, arith, rules}
+use Rattle.std.proofs.Common.{◌≡◌, ℕ, ◌-◌, max, ap, ◌∙◌, arith}
 use lib.Count.{count_leading_zeros, leading_le}
 use Rattle.format.specs.Word.{minus32}
 use Rattle.format.specs.Arith.{npw2}

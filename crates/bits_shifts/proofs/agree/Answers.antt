@@ -1,5 +1,4 @@
-
-use Rattle.std.proofs.Common.{sym, ◌∙◌, rules, eq-eqb}
+use Rattle.std.proofs.Common.{sym, ◌∙◌, eq-eqb}
 use Rattle.bits_shifts.proofs.agree.Goals as goal
 
 pub returns : goal.returns

@@ -1,5 +1,4 @@
-
-use Rattle.std.proofs.Common.{ℕ, ◌-◌, ap, ◌∙◌, arith, rules}
+use Rattle.std.proofs.Common.{ℕ, ◌-◌, ap, ◌∙◌, arith}
 use Rattle.format.specs.Arith.{npw2}
 use Rattle.bits_shifts.proofs.Lowest.{ctz_is, npw2_pos}
 use Rattle.bits_shifts.proofs.lfs_ctz.Goals as goal

@@ -1,5 +1,4 @@
-
-use Rattle.std.proofs.Common.{◌≡◌, ◌+◌, ◌%◌, ◌^◌, arith, rules}
+use Rattle.std.proofs.Common.{◌≡◌, ◌+◌, ◌%◌, ◌^◌, arith}
 use Rattle.bits_shifts.proofs.Stairs.{next, place, in_reach, place_is, top_npw2}
 use Rattle.bits_shifts.proofs.lfs_npw2.Goals as goal
 

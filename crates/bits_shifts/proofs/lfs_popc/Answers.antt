@@ -1,5 +1,4 @@
-
-use Rattle.std.proofs.Common.{◌*◌, ◌/◌, ◌^◌, le_trans, arith, rules}
+use Rattle.std.proofs.Common.{◌*◌, ◌/◌, ◌^◌, le_trans, arith}
 use lib.Pow.{shr_le}
 use lib.Bits.{bit_and, and_le_l, and_le_r}
 use Rattle.bits_shifts.proofs.Fields.{twos_of, popc_is}

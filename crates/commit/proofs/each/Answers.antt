@@ -1,7 +1,6 @@
 -- `commit::each` meets its contract: a step takes the first i entries to the first i + 1. Assumes nothing.
-use Rattle.std.proofs.Common.{◌≡◌, ◌∙◌, ap, ℕ, ◌+◌, length, arith}
+use Rattle.std.proofs.Common.{◌∙◌, ap, ℕ, arith}
 use native.Mathlib.Numerals.{add-one}
-use Rattle.commit_steps.specs.State.{Trio, trio}
 use Rattle.commit.specs.Passes.{each_of}
 use Rattle.commit.proofs.Rules.{each_start, each_step}
 use Rattle.commit.proofs.each.Goals as goal

@@ -1,6 +1,5 @@
 -- `commit_lay::body` meets its contract: none for a removal, and else what there is of it. Assumes nothing.
 use Rattle.commit_lay.proofs.Parts.{removal_part, data_part}
-use borrow.Author.Rules.{rules}
 use Rattle.commit_lay.proofs.body.Goals as goal
 
 pub returns-then-len-eq-REMOVAL : goal.returns-then-len-eq-REMOVAL

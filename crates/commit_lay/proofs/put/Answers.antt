@@ -1,6 +1,5 @@
 -- `commit_lay::put` meets its contract: no store is left, no room is left, or one is made. Assumes nothing.
 use Rattle.commit_lay.proofs.Puts.{put_none, put_past, put_one}
-use borrow.Author.Rules.{rules}
 use Rattle.commit_lay.proofs.put.Goals as goal
 
 pub returns-then-left-eq0 : goal.returns-then-left-eq0

@@ -1,7 +1,6 @@
 -- `commit_lay::put_entry` meets its contract: the tag, and behind it the part that is the entry's data. Assumes
 -- nothing.
 use Rattle.commit_lay.proofs.Puts.{entry_put}
-use borrow.Author.Rules.{rules}
 use Rattle.commit_lay.proofs.put_entry.Goals as goal
 
 pub returns : goal.returns

@@ -1,5 +1,4 @@
 -- `commit_lay::put_le32` meets its contract: the array is the word's bytes. Assumes nothing.
-use borrow.Author.Rules.{rules}
 use Rattle.commit_lay.proofs.put_le32.Goals as goal
 
 pub returns : goal.returns

@@ -1,6 +1,5 @@
 -- `commit_regular::entered` meets its contract: what the rules answer, at the count that they raise. Assumes nothing.
 use mathlib.Core.Path.{◌∙◌}
-use borrow.Author.Rules.{rules}
 use Rattle.commit_regular.proofs.entered.Goals as goal
 
 pub returns : goal.returns

@@ -3,8 +3,7 @@
 use mathlib.Core.Path.{sym}
 use Prim.Native.Nat.{◌-◌}
 use native.Mathlib.Omega.{arith}
-use borrow.Author.Rules.{rules}
-use Rattle.commit_regular.proofs.Turn.{Ahead, starts_ahead, word_inside, tag_small, tag_inside}
+use Rattle.commit_regular.proofs.Turn.{starts_ahead, word_inside, tag_small, tag_inside}
 use Rattle.commit_regular.proofs.Turn.{turn_unchecked, turn_check, turn_bad, turn_entry, all_regular}
 use Rattle.std.proofs.Common.{ap, not}
 use Rattle.commit_regular.proofs.log_regular.Goals as goal

@@ -1,11 +1,7 @@
 -- `commit_regular::log_regular` meets its contract. The loop keeps that the log is regular if what is still to come is
 -- (`Ahead`); what is left of the block falls. Assumes nothing.
-use mathlib.Core.Path.{sym}
 use Prim.Native.Nat.{◌-◌}
-use native.Mathlib.Omega.{arith}
-use borrow.Author.Rules.{rules}
-use Rattle.commit_regular.proofs.Turn.{Ahead, starts_ahead, word_inside, tag_small, tag_inside}
-use Rattle.commit_regular.proofs.Turn.{turn_unchecked, turn_check, turn_bad, turn_entry, all_regular}
+use Rattle.commit_regular.proofs.Turn.{Ahead}
 use Rattle.commit_regular.proofs.log_regular.Given as goal
 
 abbrev pub invariant-loop-at : goal.invariant-loop-at

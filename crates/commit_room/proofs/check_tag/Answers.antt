@@ -2,7 +2,6 @@
 -- erased byte it is. Assumes nothing.
 use native.Mathlib.Omega.{arith}
 use Rattle.commit_room.proofs.Ends.{end_behind, tag_flips, tag_plain}
-use borrow.Author.Rules.{rules}
 use Rattle.commit_room.proofs.check_tag.Goals as goal
 
 pub rounded_end-requires : goal.rounded_end-requires

@@ -1,6 +1,5 @@
 -- `commit_room::coincides` meets its contract: the three lists are what is put of the tag, filled up. Assumes nothing.
 use native.Mathlib.Omega.{arith}
-use borrow.Author.Rules.{rules}
 use Rattle.commit_room.proofs.Cleared.{three}
 use Rattle.commit_room.proofs.coincides.Goals as goal
 

@@ -1,12 +1,9 @@
 -- `commit_room::first_unerased` meets its contract. The loop keeps which byte from here on is the first that isn't
 -- erased; the rest shrinks. Assumes nothing.
-use borrow.Author.Rules.{rules}
-use mathlib.Core.Path.{◌≡◌, sym, ◌∙◌}
+use mathlib.Core.Path.{◌≡◌}
 use Prim.Native.Nat.{◌-◌}
-use native.Mathlib.Omega.{arith}
 use lib.ListN.{length}
 use Rattle.format.specs.Room.{first_unerased}
-use Rattle.commit_room.proofs.Cleared.{unerased_end, unerased_on, unerased_here}
 use Rattle.commit_room.proofs.first_unerased.Given as goal
 
 abbrev pub invariant-loop-i : goal.invariant-loop-i

@@ -1,7 +1,6 @@
 -- `commit_room::forward` meets its contract: by where the commit would end with it. Assumes nothing.
 use Prim.Native.Nat.{◌+◌}
 use native.Mathlib.Omega.{arith}
-use borrow.Author.Rules.{rules}
 use Rattle.commit_room.proofs.Ends.{end_behind}
 use Rattle.commit_room.proofs.Units.{forward_none, forward_made}
 use Rattle.commit_room.proofs.forward.Goals as goal

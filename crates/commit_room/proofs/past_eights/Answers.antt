@@ -1,12 +1,9 @@
 -- `commit_room::past_eights` meets its contract. The loop keeps which byte from here on is the first that isn't erased;
 -- the rest shrinks. Assumes nothing.
-use borrow.Author.Rules.{rules}
-use mathlib.Core.Path.{◌≡◌, refl, sym, ap, ◌∙◌}
+use mathlib.Core.Path.{refl, sym, ap, ◌∙◌}
 use mathlib.Core.Bool.{not}
 use Prim.Native.Nat.{◌-◌}
 use native.Mathlib.Omega.{arith}
-use lib.ListN.{length}
-use Rattle.format.specs.Room.{first_unerased}
 use Rattle.commit_room.proofs.Cleared.{eight_on}
 use Rattle.commit_room.proofs.past_eights.Goals as goal
 

@@ -1,7 +1,6 @@
 -- `commit_room::rounded_end` meets its contract: what is above the multiple is the remainder. Assumes nothing.
 use native.Mathlib.Nat.{mod-le}
 use Rattle.commit_room.proofs.Ends.{end_is}
-use borrow.Author.Rules.{rules}
 use Rattle.commit_room.proofs.rounded_end.Goals as goal
 
 pub overflow_sub-result : goal.overflow_sub-result

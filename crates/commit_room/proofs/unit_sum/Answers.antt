@@ -3,8 +3,6 @@
 use mathlib.Core.Path.{◌≡◌, sym, ap, ◌∙◌}
 use Prim.Native.Nat.{ℕ, ◌+◌, ◌-◌}
 use native.Mathlib.Omega.{arith}
-use borrow.Author.Rules.{rules}
-use Rattle.format.specs.Word.{all_ones}
 use Rattle.format.specs.Crc.{crc}
 use Rattle.format.specs.Erased.{erased}
 use Rattle.commit_room.proofs.Units.{unit_on, unit_end}

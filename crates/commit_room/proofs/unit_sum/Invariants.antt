@@ -1,13 +1,10 @@
 -- `commit_room::unit_sum` meets its contract. The loop keeps what the rest of the unit makes of the checksum; the rest
 -- shrinks. Assumes nothing.
-use mathlib.Core.Path.{◌≡◌, sym, ap, ◌∙◌}
-use Prim.Native.Nat.{ℕ, ◌+◌, ◌-◌}
-use native.Mathlib.Omega.{arith}
-use borrow.Author.Rules.{rules}
+use mathlib.Core.Path.{◌≡◌}
+use Prim.Native.Nat.{◌-◌}
 use Rattle.format.specs.Word.{all_ones}
 use Rattle.format.specs.Crc.{crc}
 use Rattle.format.specs.Erased.{erased}
-use Rattle.commit_room.proofs.Units.{unit_on, unit_end}
 use Rattle.commit_room.proofs.unit_sum.Given as goal
 
 abbrev pub invariant-loop-n : goal.invariant-loop-n

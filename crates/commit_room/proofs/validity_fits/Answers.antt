@@ -1,6 +1,5 @@
 -- `commit_room::validity_fits` meets its contract: by which erased byte it is. Assumes nothing.
 use Rattle.commit_room.proofs.Cleared.{fits_set, fits_clear}
-use borrow.Author.Rules.{rules}
 use Rattle.commit_room.proofs.validity_fits.Goals as goal
 
 pub returns-then-erased-eq0 : goal.returns-then-erased-eq0

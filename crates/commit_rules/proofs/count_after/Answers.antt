@@ -2,7 +2,6 @@
 use native.Mathlib.Omega.{arith}
 use Rattle.format.specs.Regular.{count_after}
 use Rattle.commit_rules.proofs.Passed.{count_stays}
-use borrow.Author.Rules.{rules}
 use Rattle.commit_rules.proofs.count_after.Goals as goal
 
 pub overflow_add-result : goal.overflow_add-result
@@ -20,7 +19,6 @@ returns-then-count-eq0 c = rw c.in-Delete.is (omega arith)
 pub returns-else-count-eq0 : goal.returns-else-count-eq0
 unfolding count_after
 returns-else-count-eq0 c = rw c.in-Delete.is (omega arith)
-
 
 pub returns-in_default : goal.returns-in_default
 returns-in_default c = count_stays c.args.rule c.args.count c.in_default.not-Create c.in_default.not-Delete

@@ -3,7 +3,6 @@ use native.Mathlib.Omega.{arith}
 use mathlib.Core.Path.{sym, ◌∙◌}
 use Rattle.commit_rules.specs.Rules.{rule_as}
 use Rattle.commit_rules.proofs.Passed.{count_fits, passes, fails}
-use borrow.Author.Rules.{rules}
 use Rattle.commit_rules.proofs.count_behind.Goals as goal
 
 pub count_after-requires : goal.count_after-requires

@@ -1,6 +1,5 @@
 -- `commit_rules::counted` meets its contract: by the type's rule. Assumes nothing.
 use Rattle.commit_rules.specs.Rules.{counted_by}
-use borrow.Author.Rules.{rules}
 use Rattle.commit_rules.proofs.counted.Goals as goal
 
 pub returns : goal.returns

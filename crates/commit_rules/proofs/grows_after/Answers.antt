@@ -1,7 +1,6 @@
 -- `commit_rules::grows_after` meets its contract: no more behind a create or a delete, else as before. Assumes nothing.
 use Rattle.format.specs.Regular.{grows_after}
 use Rattle.commit_rules.proofs.Passed.{grows_on}
-use borrow.Author.Rules.{rules}
 use Rattle.commit_rules.proofs.grows_after.Goals as goal
 
 pub returns-in-Create : goal.returns-in-Create

@@ -1,7 +1,6 @@
 -- `commit_rules::raised` meets its contract: a name's one test, and any other rule leaves the count. Assumes nothing.
 use Rattle.commit_rules.proofs.Passed.{names_raise, names_stay, raises_none}
 use native.Mathlib.Omega.{arith}
-use borrow.Author.Rules.{rules}
 use Rattle.commit_rules.proofs.raised.Goals as goal
 
 pub overflow_add-result : goal.overflow_add-result

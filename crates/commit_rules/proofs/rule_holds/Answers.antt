@@ -1,6 +1,5 @@
 -- `commit_rules::rule_holds` meets its contract: each rule's tests stand as they are. Assumes nothing.
 use Rattle.format.specs.Regular.{rule_holds}
-use borrow.Author.Rules.{rules}
 use Rattle.commit_rules.proofs.rule_holds.Goals as goal
 
 pub returns-in-Create : goal.returns-in-Create

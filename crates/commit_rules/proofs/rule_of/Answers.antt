@@ -3,7 +3,6 @@ use mathlib.Core.Path.{refl}
 use Rattle.format.specs.Regular.{rule_of, inlined, move}
 use Rattle.commit_rules.proofs.Arms.{is_one, is_eight, is_name_lem, is_tail_lem, is_attribute}
 use Rattle.commit_rules.proofs.Arms.{bad_first, bad_second, bad_third, bad_last}
-use borrow.Author.Rules.{rules}
 use Rattle.commit_rules.proofs.rule_of.Goals as goal
 
 pub returns-in-1025 : goal.returns-in-1025

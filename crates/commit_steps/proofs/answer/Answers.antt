@@ -1,6 +1,5 @@
 -- `commit_steps::answer` meets its contract: the refusal, or what is fetched again. Assumes nothing.
 use Rattle.commit_steps.proofs.Ended.{answer_refused, answer_judge, answer_found, answer_lost}
-use Rattle.std.proofs.Common.{rules}
 use Rattle.commit_steps.proofs.answer.Goals as goal
 
 pub returns-in-Refused : goal.returns-in-Refused

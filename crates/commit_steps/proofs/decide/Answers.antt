@@ -1,6 +1,5 @@
 -- `commit_steps::decide` meets its contract: a state that judges is placed in the block that answers. Assumes nothing.
-use Rattle.std.proofs.Common.{sym, ◌∙◌, arith, rules}
-use borrow.Author.Tests.{not-false}
+use Rattle.std.proofs.Common.{sym, ◌∙◌, arith}
 use Rattle.sizes.proofs.Sized.{images_sized}
 use Rattle.commit_steps.proofs.Placed.{decide_refused, decide_laid, decide_broken, decide_first, decide_second}
 use Rattle.std.proofs.Common.{ap, not}

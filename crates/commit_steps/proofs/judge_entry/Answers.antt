@@ -1,6 +1,6 @@
 -- `commit_steps::judge_entry` meets its contract: by the rule, the buffer, and what the calls answer of a good entry.
 -- Assumes nothing.
-use Rattle.std.proofs.Common.{sym, ◌∙◌, rules}
+use Rattle.std.proofs.Common.{sym, ◌∙◌}
 use Rattle.commit_steps.proofs.Entered.{judged_bad, judged_outside, judged_good}
 use Rattle.std.proofs.Common.{ap, not}
 use Rattle.commit_steps.proofs.judge_entry.Goals as goal

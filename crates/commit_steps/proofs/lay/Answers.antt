@@ -1,6 +1,5 @@
 -- `commit_steps::lay` meets its contract: the stores that `put_entry` makes. Assumes nothing.
 use Rattle.commit_steps.proofs.Entered.{laid_any}
-use Rattle.std.proofs.Common.{rules}
 use Rattle.commit_steps.proofs.lay.Goals as goal
 
 pub returns : goal.returns

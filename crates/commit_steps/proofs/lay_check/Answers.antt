@@ -1,6 +1,5 @@
 -- `commit_steps::lay_check` meets its contract: tag and checksum, one behind the other. Assumes nothing.
 use Rattle.commit_steps.proofs.Entered.{laid_check}
-use Rattle.std.proofs.Common.{rules}
 use Rattle.commit_steps.proofs.lay_check.Goals as goal
 
 pub returns : goal.returns

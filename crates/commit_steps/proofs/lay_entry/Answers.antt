@@ -1,6 +1,5 @@
 -- `commit_steps::lay_entry` meets its contract: the tag is made, and what `lay` leaves. Assumes nothing.
 use Rattle.commit_steps.proofs.Entered.{laid_entry}
-use Rattle.std.proofs.Common.{rules}
 use Rattle.commit_steps.proofs.lay_entry.Goals as goal
 
 pub returns : goal.returns

@@ -1,6 +1,5 @@
 -- `commit_steps::lay_forward` meets its contract: nothing, or one entry of eight bytes. Assumes nothing.
 use Rattle.commit_steps.proofs.Entered.{forward_unlaid, forward_laid_lem}
-use Rattle.std.proofs.Common.{rules}
 use Rattle.commit_steps.proofs.lay_forward.Goals as goal
 
 pub returns-then-not-fcrc : goal.returns-then-not-fcrc

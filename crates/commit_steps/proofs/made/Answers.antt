@@ -1,6 +1,5 @@
 -- `commit_steps::made` meets its contract: the refusal, or what is not left of the limit. Assumes nothing.
 use Rattle.commit_steps.proofs.Ended.{made_refused, made_judge, made_none, made_some}
-use Rattle.std.proofs.Common.{rules}
 use Rattle.commit_steps.proofs.made.Goals as goal
 
 pub returns-then-stores-left : goal.returns-then-stores-left

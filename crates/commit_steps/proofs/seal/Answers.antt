@@ -1,7 +1,6 @@
 -- `commit_steps::seal` meets its contract: nothing, or the forward check and the check laid into the block that answers.
 -- Assumes nothing.
 use Rattle.commit_steps.proofs.Entered.{seal_refused, seal_judge, seal_first, seal_second}
-use Rattle.std.proofs.Common.{rules}
 use Rattle.commit_steps.proofs.seal.Goals as goal
 
 pub returns-then-second : goal.returns-then-second

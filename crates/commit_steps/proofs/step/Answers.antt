@@ -1,7 +1,6 @@
 -- `commit_steps::step` meets its contract: nothing, the entry judged, or laid into the block that answers. Assumes
 -- nothing.
 use Rattle.commit_steps.proofs.Entered.{step_refused, step_judge, step_first, step_second}
-use Rattle.std.proofs.Common.{rules}
 use Rattle.commit_steps.proofs.step.Goals as goal
 
 pub returns-then-second : goal.returns-then-second

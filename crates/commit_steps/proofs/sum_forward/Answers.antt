@@ -1,6 +1,5 @@
 -- `commit_steps::sum_forward` meets its contract: nothing, or one entry of eight bytes. Assumes nothing.
 use Rattle.commit_steps.proofs.Entered.{forward_unsummed, forward_summed_lem}
-use Rattle.std.proofs.Common.{rules}
 use Rattle.commit_steps.proofs.sum_forward.Goals as goal
 
 pub returns-then-not-fcrc : goal.returns-then-not-fcrc

@@ -1,6 +1,5 @@
 -- `commit_steps::sum_up` meets its contract: what the calls answer, field by field. Assumes nothing.
 use Rattle.commit_steps.proofs.Entered.{summed}
-use Rattle.std.proofs.Common.{rules}
 use Rattle.commit_steps.proofs.sum_up.Goals as goal
 
 pub returns : goal.returns

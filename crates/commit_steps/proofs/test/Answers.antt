@@ -1,5 +1,5 @@
 -- `commit_steps::test` meets its contract: by what the tests of the room answer. Assumes nothing.
-use Rattle.std.proofs.Common.{arith, rules}
+use Rattle.std.proofs.Common.{arith}
 use Rattle.commit_steps.proofs.Placed.{tested_full, tested_no_room, tested_coincides, tested_lays}
 use Rattle.commit_steps.proofs.test.Goals as goal
 

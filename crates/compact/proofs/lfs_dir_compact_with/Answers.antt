@@ -4,7 +4,6 @@ use mathlib.Core.Path.{sym, ◌∙◌}
 use native.Mathlib.Omega.{arith}
 use Rattle.format.specs.declared.Fetched.TheVariants.{Found, Refused}
 use Rattle.compact.proofs.Called.{answered_refused, answered_made}
-use borrow.Author.Rules.{rules}
 use Rattle.compact.proofs.lfs_dir_compact_with.Goals as goal
 
 pub returns-in-Refused : goal.returns-in-Refused

@@ -21,17 +21,17 @@ renew-requires-else-pair-n0 c =
 
 pub returns-then-not-writes_fit : goal.returns-then-not-writes_fit
 returns-then-not-writes_fit c = let all = kept _ _ _ _ _ _ _ _ _ _ _ _ _ _ _ (λ i. omega (
-      arith,
-      c.slice_known-1.given i,
-    ))
+  arith,
+  c.slice_known-1.given i,
+))
     (λ i. omega (arith, c.slice_known-2-1.given i))
     (called_invalid _ _ _ _ _ _ _ _ _ _ c.writes_fit.ensures _ _ (ap not c.if-not-writes_fit.true)) in record { value = all.0; compact_stores_leaves = all.1.0; table_after = all.1.1 }
 
 pub returns-in-Refused : goal.returns-in-Refused
 returns-in-Refused c = let all = kept _ _ _ _ _ _ _ _ _ _ _ _ _ _ _ (λ i. omega (
-      arith,
-      c.slice_known-1.given i,
-    ))
+  arith,
+  c.slice_known-1.given i,
+))
     (λ i. omega (
       arith,
       c.slice_known-2-1.given i,

@@ -1,7 +1,6 @@
 -- `compact_block::begin` meets its contract. Assumes nothing.
 use Rattle.format.specs.Word.{all_ones}
 use Rattle.compact_block.specs.Renewed.{begins}
-use Rattle.std.proofs.Common.{rules}
 use Rattle.compact_block.proofs.begin.Goals as goal
 
 pub returns : goal.returns

@@ -1,6 +1,6 @@
 -- `compact_block::erase` meets its contract. The loop keeps that the first i bytes are erased. Assumes nothing.
-use Rattle.std.proofs.Common.{◌≡◌, ◌-◌, ◌≤◌, length, refl, arith}
-use Rattle.compact_block.proofs.Erasing.{erased_to, erase_one, erase_length, erase_all}
+use Rattle.std.proofs.Common.{◌-◌, refl, arith}
+use Rattle.compact_block.proofs.Erasing.{erase_one, erase_length, erase_all}
 use Rattle.compact_block.proofs.erase.Goals as goal
 
 pub loop-i-init : goal.loop-i-init

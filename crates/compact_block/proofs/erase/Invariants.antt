@@ -1,6 +1,6 @@
 -- `compact_block::erase` meets its contract. The loop keeps that the first i bytes are erased. Assumes nothing.
-use Rattle.std.proofs.Common.{◌≡◌, ◌-◌, ◌≤◌, length, refl, arith}
-use Rattle.compact_block.proofs.Erasing.{erased_to, erase_one, erase_length, erase_all}
+use Rattle.std.proofs.Common.{◌≡◌, ◌-◌, ◌≤◌, length}
+use Rattle.compact_block.proofs.Erasing.{erased_to}
 use Rattle.compact_block.proofs.erase.Given as goal
 
 abbrev pub invariant-loop-i : goal.invariant-loop-i

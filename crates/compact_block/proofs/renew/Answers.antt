@@ -40,10 +40,10 @@ slice_bounds-places-end c =
     let t = c.build-built.ensures in
     let lent : Lends a.old.now _ m.used m.indexed
     = elim m.branch [
-      in-Places w ↦ lends_places _ a.rules _ c.rules_of.ensures _ c.log_regular.ensures
+      | in-Places w ↦ lends_places _ a.rules _ c.rules_of.ensures _ c.log_regular.ensures
           (ap not c.if-not-log_regular.false) _ _ t.value _ t.table_after c.build-built.auto.table _ w.in-Places.is _
           w.used-is _
-    | in_default w ↦ lends_none _ _ _ w.used-is _ w.indexed-is
+      | in_default w ↦ lends_none _ _ _ w.used-is _ w.indexed-is
     ] in
     lent.inside
 
@@ -54,10 +54,10 @@ rewrite-requires c =
     let t = c.build-built.ensures in
     let lent : Lends a.old.now _ m.used m.indexed
     = elim m.branch [
-      in-Places w ↦ lends_places _ a.rules _ c.rules_of.ensures _ c.log_regular.ensures
+      | in-Places w ↦ lends_places _ a.rules _ c.rules_of.ensures _ c.log_regular.ensures
           (ap not c.if-not-log_regular.false) _ _ t.value _ t.table_after c.build-built.auto.table _ w.in-Places.is _
           w.used-is _
-    | in_default w ↦ lends_none _ _ _ w.used-is _ w.indexed-is
+      | in_default w ↦ lends_none _ _ _ w.used-is _ w.indexed-is
     ] in (
       c.requires,
       renew_regular _ a.rules _ c.rules_of.ensures _ c.log_regular.ensures (ap not c.if-not-log_regular.false),

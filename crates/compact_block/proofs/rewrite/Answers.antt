@@ -3,7 +3,6 @@
 use Rattle.compact_block.proofs.Storing.{reads_all}
 use Rattle.compact_block.proofs.Measuring.{rewrite_prog, rewrite_full, rewrite_coincides, rewrite_writes}
 use Rattle.compact_block.proofs.Measuring.{rewrite_made}
-use Rattle.std.proofs.Common.{rules}
 use Rattle.compact_block.proofs.rewrite.Goals as goal
 
 pub entries-e-requires : goal.entries-e-requires

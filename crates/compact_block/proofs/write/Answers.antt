@@ -1,7 +1,7 @@
 -- `compact_block::write` meets its contract: all calls are one run of compaction's bytes over an erased block.
 -- Assumes
 -- nothing.
-use Rattle.std.proofs.Common.{arith, rules}
+use Rattle.std.proofs.Common.{arith}
 use Rattle.compact_block.proofs.Storing.{pass_none, reads_all, pass_made, pass_block}
 use Rattle.compact_block.proofs.write.Goals as goal
 
@@ -38,10 +38,13 @@ overflow_add-result c =
     )
 
 pub returns : goal.returns
-returns c = record { value = pass_made _ _ _ _ _ c.requires.0 _ _ _
+returns c = record {
+  value = pass_made _ _ _ _ _ c.requires.0 _ _ _
       c.if-stores-eq0.false _ c.erase.ensures _ c.put_le32-run.ensures _
       _
-      c.begin-begun.ensures _ c.entries-e.ensures _ c.check-last.ensures; after = pass_block _ _ _ _ _ c.requires.0 _ _ _
+      c.begin-begun.ensures _ c.entries-e.ensures _ c.check-last.ensures;
+  after = pass_block _ _ _ _ _ c.requires.0 _ _ _
       c.if-stores-eq0.false _ c.erase.ensures _ c.put_le32-run.ensures _
       _
-      c.begin-begun.ensures _ c.entries-e.ensures _ c.check-last.ensures }
+      c.begin-begun.ensures _ c.entries-e.ensures _ c.check-last.ensures;
+}

@@ -1,6 +1,5 @@
 -- `compact_entries::all_slots` meets its contract, either way. Assumes nothing.
 use Rattle.compact_entries.proofs.Placed.{indexed_placed}
-use borrow.Author.Rules.{rules}
 use Rattle.compact_entries.proofs.all_slots.Goals as goal
 
 pub placed_slots-requires : goal.placed_slots-requires

@@ -1,6 +1,5 @@
 -- `compact_entries::check` meets its contract: the tag's four bytes and then the checksum's. Assumes nothing.
 use Rattle.compact_entries.proofs.Written.{xor_is, check_done}
-use borrow.Author.Rules.{rules}
 use Rattle.compact_entries.proofs.check.Goals as goal
 
 pub returns : goal.returns

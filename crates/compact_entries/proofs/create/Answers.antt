@@ -1,6 +1,5 @@
 -- `compact_entries::create` meets its contract: an entry with no data. Assumes nothing.
 use Rattle.compact_entries.proofs.Written.{create_done}
-use borrow.Author.Rules.{rules}
 use Rattle.compact_entries.proofs.create.Goals as goal
 
 pub returns : goal.returns

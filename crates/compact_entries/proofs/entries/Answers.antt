@@ -2,7 +2,6 @@
 use mathlib.Core.Path.{refl}
 use native.Mathlib.Omega.{arith}
 use Rattle.compact_entries.proofs.Sourced.{held_within, forward_prog, all_done}
-use borrow.Author.Rules.{rules}
 use Rattle.compact_entries.proofs.entries.Goals as goal
 
 pub held-w-requires : goal.held-w-requires

@@ -2,7 +2,6 @@
 -- nothing.
 use Rattle.compact_entries.specs.Emitted.{standing}
 use Rattle.compact_entries.proofs.Written.{xor_is, entry_done}
-use borrow.Author.Rules.{rules}
 use Rattle.compact_entries.proofs.entry.Goals as goal
 
 pub returns : goal.returns

@@ -1,5 +1,4 @@
 -- `compact_entries::forward` meets its contract: nothing, or one entry of eight bytes. Assumes nothing.
-use borrow.Author.Rules.{rules}
 use Rattle.compact_entries.proofs.Written.{forward_none, forward_made}
 use Rattle.compact_entries.proofs.forward.Goals as goal
 

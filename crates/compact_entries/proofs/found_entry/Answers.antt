@@ -1,6 +1,5 @@
 -- `compact_entries::found_entry` meets its contract: nothing, or one entry. Assumes nothing.
 use Rattle.format.proofs.Searched.{hit_in}
-use borrow.Author.Rules.{rules}
 use Rattle.compact_entries.proofs.Written.{hit_missing, hit_made}
 use Rattle.compact_entries.proofs.found_entry.Goals as goal
 

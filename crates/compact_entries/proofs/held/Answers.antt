@@ -2,7 +2,6 @@
 use native.Mathlib.Omega.{arith}
 use Rattle.format.proofs.Searched.{hit_before}
 use Rattle.compact_entries.proofs.Sourced.{slots_within, read_inside, entries_within, entries_done}
-use borrow.Author.Rules.{rules}
 use Rattle.compact_entries.proofs.held.Goals as goal
 
 pub all_slots-w-requires : goal.all_slots-w-requires

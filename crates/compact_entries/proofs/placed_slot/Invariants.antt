@@ -1,13 +1,10 @@
 -- `compact_entries::placed_slot` meets its contract. The loop keeps where the slot's places end, from here
 -- (`Placing`); the words that are left fall. Assumes nothing.
-use mathlib.Core.Path.{◌≡◌, refl}
+use mathlib.Core.Path.{◌≡◌}
 use Prim.Native.Nat.{◌-◌}
-use native.Mathlib.Omega.{arith}
 use lib.ListN.{length}
 use Rattle.compact_entries.specs.Emitted.{standing}
-use Rattle.compact_entries.proofs.Placed.{Placing, starts, place_small, places_end, places_other, place_inside}
-use Rattle.compact_entries.proofs.Placed.{place_next}
-use borrow.Author.Rules.{rules}
+use Rattle.compact_entries.proofs.Placed.{Placing}
 use Rattle.compact_entries.proofs.placed_slot.Given as goal
 
 abbrev pub invariant-loop-at : goal.invariant-loop-at

@@ -1,13 +1,11 @@
 -- `compact_entries::placed_slots` meets its contract. The loop keeps where all slots end, from here, and that the
 -- places
 -- of the slots to come stand from `at` on (`Passing`); the slots that are left fall. Assumes nothing.
-use mathlib.Core.Path.{◌≡◌, refl}
+use mathlib.Core.Path.{◌≡◌}
 use Prim.Native.Nat.{◌+◌, ◌-◌, ◌*◌, ◌≤◌}
-use native.Mathlib.Omega.{arith}
 use lib.ListN.{length}
 use Rattle.compact_entries.specs.Emitted.{standing}
-use Rattle.compact_entries.proofs.Placed.{Passing, passes, all_passed, slot_placed, slot_end, slot_passed}
-use borrow.Author.Rules.{rules}
+use Rattle.compact_entries.proofs.Placed.{Passing}
 use Rattle.compact_entries.proofs.placed_slots.Given as goal
 
 abbrev pub invariant-loop-id : goal.invariant-loop-id

@@ -1,13 +1,9 @@
 -- `compact_entries::slot` meets its contract. The loop keeps where all classes end, from here; the classes that are
 -- left fall. Assumes nothing.
-use mathlib.Core.Path.{◌≡◌, refl, sym, ◌∙◌}
-use Prim.Native.Nat.{◌+◌, ◌-◌, ◌*◌, ◌^◌, ◌≤◌}
+use mathlib.Core.Path.{refl, sym, ◌∙◌}
+use Prim.Native.Nat.{◌-◌}
 use native.Mathlib.Omega.{arith}
-use lib.ListN.{length}
-use Rattle.format.specs.Directory.{classes}
-use Rattle.format.specs.Compaction.{slot_items}
 use Rattle.compact_slot.specs.Slots.{slot_in}
-use Rattle.compact_entries.specs.Emitted.{standing, emits}
 use Rattle.compact_entries.proofs.Joined.{entry_within, class_within}
 use Rattle.compact_entries.proofs.Written.{seat_laid, slot_created, slot_class, slot_done}
 use borrow.Author.Rules.{rules}

@@ -1,14 +1,9 @@
 -- `compact_entries::slots` meets its contract. The loop keeps where all slots end, from here; the slots that are left
 -- fall. Assumes nothing.
-use mathlib.Core.Path.{◌≡◌, refl}
-use Prim.Native.Nat.{◌+◌, ◌-◌, ◌*◌, ◌≤◌}
+use mathlib.Core.Path.{refl}
+use Prim.Native.Nat.{◌-◌}
 use native.Mathlib.Omega.{arith}
-use lib.ListN.{length, drop}
 use borrow.Author.Rules.{rules}
-use Rattle.format.specs.Log.{log}
-use Rattle.format.specs.Directory.{dir_of}
-use Rattle.format.specs.Compaction.{dir_items}
-use Rattle.compact_entries.specs.Emitted.{standing, emits}
 use Rattle.compact_entries.proofs.Joined.{slot_within}
 use Rattle.compact_entries.proofs.Written.{dir_slot, dir_done}
 use Rattle.compact_slot.proofs.Slots.{slots_few, slot_gathers, slot_holds, slots_more, slots_end}

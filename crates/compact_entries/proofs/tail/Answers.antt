@@ -1,5 +1,4 @@
 -- `compact_entries::tail` meets its contract: nothing, or one entry of eight bytes. Assumes nothing.
-use borrow.Author.Rules.{rules}
 use Rattle.compact_entries.proofs.Written.{tail_none, tail_made}
 use Rattle.compact_entries.proofs.tail.Goals as goal
 

@@ -1,6 +1,5 @@
 -- `compact_slot::class_of` meets its contract, type by type. Assumes nothing.
 use Rattle.compact_slot.proofs.Leaves.{class_name_lem, class_struct, class_attr, class_none}
-use borrow.Author.Rules.{rules}
 use Rattle.compact_slot.proofs.class_of.Goals as goal
 
 pub returns-then-type1-eq-LFS_TYPE_NAME : goal.returns-then-type1-eq-LFS_TYPE_NAME

@@ -1,6 +1,5 @@
 -- `compact_slot::created` meets its contract. Assumes nothing.
 use Rattle.compact_slot.proofs.Leaves.{created_is}
-use borrow.Author.Rules.{rules}
 use Rattle.compact_slot.proofs.created.Goals as goal
 
 pub returns : goal.returns

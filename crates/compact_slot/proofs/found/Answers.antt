@@ -1,6 +1,5 @@
 -- `compact_slot::found` meets its contract: nothing, nothing, or the entry. Assumes nothing.
 use native.Mathlib.Omega.{arith}
-use borrow.Author.Rules.{rules}
 use Rattle.compact_slot.proofs.Leaves.{found_free, found_removed, found_kept}
 use Rattle.compact_slot.proofs.found.Goals as goal
 

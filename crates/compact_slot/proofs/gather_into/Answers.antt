@@ -1,13 +1,8 @@
 -- `compact_slot::gather_into` meets its contract. The loop keeps what a free seat may still find (`Gathering`); the
 -- offset falls, and the slot's id grows by less than it. Assumes nothing.
-use mathlib.Core.List.{map}
-use Prim.Native.Nat.{◌+◌, ◌≤◌}
 use native.Mathlib.Omega.{arith}
-use Rattle.format.specs.Back.{back}
-use Rattle.theory.specs.Back.BackActs.{seen}
 use Rattle.lookup_back.proofs.Step.{back_word, placed_at_lem, placed_over}
-use Rattle.compact_slot.proofs.Turn.{Gathering, starts, id_before_most, walk_over, walk_created, walk_on}
-use borrow.Author.Rules.{rules}
+use Rattle.compact_slot.proofs.Turn.{starts, id_before_most, walk_over, walk_created, walk_on}
 use Rattle.compact_slot.proofs.gather_into.Goals as goal
 
 pub loop-at-init : goal.loop-at-init
@@ -50,30 +45,30 @@ loop-at-smaller c = omega (
 
 pub loop-at-preserved : goal.loop-at-preserved
 loop-at-preserved c = (
-      omega (
-        arith,
-        back_word _ _ _
-            (placed_at_lem _ _ _ _ c.place.ensures
-            c.in-At.is),
-      ),
-      omega (
-        arith,
-        back_word _ _ _
-            (placed_at_lem _ _ _ _ c.place.ensures
-            c.in-At.is),
-        c.id_before-slot.ensures,
-        id_before_most c.loop-at.tag
-            c.loop-at.slot,
-      ),
-      walk_on _ _ _ _
-          _ _ _ c.loop-at.invariant.2 _
-          (placed_at_lem _ _ _ _ c.place.ensures
-          c.in-At.is) _
-          c.created.ensures c.if-created.false
-          (omega arith) (omega arith) _ c.note.ensures _
-          c.id_before-slot.ensures _
-          c.tag_before-tag.ensures,
-    )
+  omega (
+    arith,
+    back_word _ _ _
+        (placed_at_lem _ _ _ _ c.place.ensures
+        c.in-At.is),
+  ),
+  omega (
+    arith,
+    back_word _ _ _
+        (placed_at_lem _ _ _ _ c.place.ensures
+        c.in-At.is),
+    c.id_before-slot.ensures,
+    id_before_most c.loop-at.tag
+        c.loop-at.slot,
+  ),
+  walk_on _ _ _ _
+      _ _ _ c.loop-at.invariant.2 _
+      (placed_at_lem _ _ _ _ c.place.ensures
+      c.in-At.is) _
+      c.created.ensures c.if-created.false
+      (omega arith) (omega arith) _ c.note.ensures _
+      c.id_before-slot.ensures _
+      c.tag_before-tag.ensures,
+)
 
 pub id_before-slot-requires : goal.id_before-slot-requires
 id_before-slot-requires c = omega arith

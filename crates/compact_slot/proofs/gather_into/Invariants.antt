@@ -2,12 +2,9 @@
 -- offset falls, and the slot's id grows by less than it. Assumes nothing.
 use mathlib.Core.List.{map}
 use Prim.Native.Nat.{◌+◌, ◌≤◌}
-use native.Mathlib.Omega.{arith}
 use Rattle.format.specs.Back.{back}
 use Rattle.theory.specs.Back.BackActs.{seen}
-use Rattle.lookup_back.proofs.Step.{back_word, placed_at_lem, placed_over}
-use Rattle.compact_slot.proofs.Turn.{Gathering, starts, id_before_most, walk_over, walk_created, walk_on}
-use borrow.Author.Rules.{rules}
+use Rattle.compact_slot.proofs.Turn.{Gathering}
 use Rattle.compact_slot.proofs.gather_into.Given as goal
 
 abbrev pub invariant-loop-at : goal.invariant-loop-at

@@ -1,7 +1,6 @@
 -- `compact_slot::id_before` meets its contract, by what the tag splices. Assumes nothing.
 use Rattle.compact_slot.proofs.Leaves.{before_create, before_create_above, before_delete, before_delete_above}
 use Rattle.compact_slot.proofs.Leaves.{before_other}
-use borrow.Author.Rules.{rules}
 use Rattle.compact_slot.proofs.id_before.Goals as goal
 
 pub returns-then-at-id : goal.returns-then-at-id

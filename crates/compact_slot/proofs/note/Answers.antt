@@ -2,7 +2,6 @@
 -- newest. Assumes nothing.
 use native.Mathlib.Omega.{arith}
 use Rattle.compact_slot.proofs.Leaves.{note_other, note_none, note_taken, note_free}
-use borrow.Author.Rules.{rules}
 use Rattle.compact_slot.proofs.note.Goals as goal
 
 pub returns-then-lfs_tag_id-slot : goal.returns-then-lfs_tag_id-slot

@@ -3,7 +3,6 @@ use mathlib.Core.Path.{sym, ap, ◌∙◌}
 use Prim.Native.Nat.{ℕ}
 use native.Mathlib.Nat.{mod-eq_of_lt}
 use lib.Bits.{bit_xor}
-use borrow.Author.Rules.{rules}
 use Rattle.format.specs.Crc.{crc_bits, crc_byte}
 use Rattle.format.proofs.Linear.{more}
 use Rattle.crc.proofs.byte_by.Goals as goal

@@ -1,13 +1,9 @@
 -- `crc::lfs_crc` meets its contract. The loop's invariant: what is left of the bytes takes the register to the checksum
 -- of all. The measure is what is left of the length. Assumes nothing.
-use mathlib.Core.Path.{◌≡◌, sym, ap, ap₂, ◌∙◌}
-use mathlib.Core.List.{List}
-use Prim.Native.Nat.{ℕ, ◌≤◌, ◌<◌, ◌-◌, ◌+◌}
-use native.Mathlib.Numerals.{add-one}
-use lib.ListN.{length, get_or, drop, drop_of_length-le}
-use lib.Seq.{drop-cons}
-use borrow.Author.Rules.{rules}
-use Rattle.format.specs.Crc.{crc_byte, crc}
+use mathlib.Core.Path.{◌≡◌}
+use Prim.Native.Nat.{◌≤◌, ◌-◌}
+use lib.ListN.{length, drop}
+use Rattle.format.specs.Crc.{crc}
 use Rattle.crc.specs.Rtable.{Rtable}
 use Rattle.crc.proofs.lfs_crc.Given as goal
 

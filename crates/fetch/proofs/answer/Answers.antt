@@ -1,6 +1,5 @@
 -- `fetch::answer` meets its contract: the count decides. Assumes nothing.
 use Rattle.fetch.proofs.FromWalk.{too_many, few}
-use borrow.Author.Rules.{rules}
 use Rattle.fetch.proofs.answer.Goals as goal
 
 pub returns-then-dir-gt1023 : goal.returns-then-dir-gt1023

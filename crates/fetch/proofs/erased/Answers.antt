@@ -2,7 +2,6 @@
 use native.Mathlib.Omega.{arith}
 use borrow.Author.Tests.{not-true, not-false}
 use Rattle.fetch.proofs.FromWalk.{not_straight, not_multiple, not_seen, no_room, with_room}
-use borrow.Author.Rules.{rules}
 use Rattle.fetch.proofs.erased.Goals as goal
 
 pub returns-then-not-w : goal.returns-then-not-w

@@ -1,5 +1,4 @@
 -- `fetch::go_on` meets its contract: what is read off the walk that goes on from the record. Assumes nothing.
-use borrow.Author.Rules.{rules}
 use Rattle.fetch.proofs.Again.{known_readable, known_answers}
 use Rattle.fetch.proofs.go_on.Goals as goal
 

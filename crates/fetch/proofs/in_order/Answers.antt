@@ -1,6 +1,5 @@
 -- `fetch::in_order` meets its contract: the first block with a commit, or none. Assumes nothing.
 use Rattle.fetch.proofs.Answers.{walked_first, walked_second, first_answers, second_answers, none_answers}
-use borrow.Author.Rules.{rules}
 use Rattle.fetch.proofs.in_order.Goals as goal
 
 pub answer-requires : goal.answer-requires

@@ -1,5 +1,4 @@
 -- `fetch::known` meets its contract: the record is the definition's. Assumes nothing.
-use borrow.Author.Rules.{rules}
 use Rattle.fetch.specs.Known.{known_by}
 use Rattle.fetch.proofs.known.Goals as goal
 

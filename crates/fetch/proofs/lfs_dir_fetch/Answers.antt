@@ -2,12 +2,10 @@
 use mathlib.Core.Path.{◌≡◌, sym, ◌∙◌}
 use mathlib.Core.Bool.{true, false}
 use lib.ListN.{length}
-use borrow.Author.Tests.{not-true, not-false}
 use Rattle.format.specs.Fetch.{pair_fits, too_high}
 use Rattle.fetch.specs.Read.{Readables}
 use Rattle.fetch.proofs.Answers.{readables, readables_swapped, fetch_invalid, fetch_high, fetch_high_2}
 use Rattle.fetch.proofs.Answers.{fetch_second, fetch_first}
-use borrow.Author.Rules.{rules}
 use Rattle.fetch.proofs.lfs_dir_fetch.Goals.{Else-not-pair_fits, Else-too_high, Else-too_high-2}
 use Rattle.fetch.proofs.lfs_dir_fetch.Goals as goal
 

@@ -1,6 +1,4 @@
 -- `fetch::lfs_dir_refetch` meets its contract, by the tests in order. Assumes nothing.
-use borrow.Author.Rules.{rules}
-use borrow.Author.Tests.{not-true, not-false}
 use Rattle.fetch.proofs.Again.{refetch_invalid, first_known, second_known, refetch_high, refetch_first}
 use Rattle.fetch.proofs.Again.{refetch_second}
 use Rattle.fetch.proofs.lfs_dir_refetch.Goals as goal

@@ -1,6 +1,5 @@
 -- `fetch::mdir` meets its contract: the record is the definition's. Assumes nothing.
 use Rattle.fetch.specs.Read.{mdir_by}
-use borrow.Author.Rules.{rules}
 use Rattle.fetch.proofs.mdir.Goals as goal
 
 pub returns : goal.returns

@@ -9,7 +9,6 @@ use mir.Val.{to_z, of_z}
 use mir.Facts.{to_z-of_z, sfits_to_z}
 use Rattle.format.specs.Word.{minus32}
 use Rattle.format.specs.Count.{scmp}
-use borrow.Author.Rules.{rules}
 use Rattle.fetch.proofs.second_first.Goals as goal
 
 -- the difference fits the word that holds it

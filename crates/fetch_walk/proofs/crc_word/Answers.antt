@@ -1,5 +1,4 @@
 -- `fetch_walk::crc_word` meets its contract: the array is the word's bytes. Assumes nothing.
-use borrow.Author.Rules.{rules}
 use Rattle.fetch_walk.proofs.crc_word.Goals as goal
 
 pub returns : goal.returns

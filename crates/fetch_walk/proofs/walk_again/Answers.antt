@@ -1,6 +1,5 @@
 -- `fetch_walk::walk_again` meets its contract: the walk from what is known leaves it, gone on. Assumes nothing.
 use mathlib.Core.Path.{refl, ◌∙◌}
-use borrow.Author.Rules.{rules}
 use Rattle.fetch_walk.proofs.Turns.{known_leaves}
 use Rattle.fetch_walk.proofs.walk_again.Goals as goal
 

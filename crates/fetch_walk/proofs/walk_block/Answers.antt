@@ -1,7 +1,6 @@
 -- `fetch_walk::walk_block` meets its contract: the walk from the start leaves the folds over the block's log. Assumes
 -- nothing.
 use mathlib.Core.Path.{◌∙◌}
-use borrow.Author.Rules.{rules}
 use Rattle.fetch_walk.proofs.Turns.{begun_leaves}
 use Rattle.fetch_walk.proofs.walk_block.Goals as goal
 

@@ -3,13 +3,10 @@
 use mathlib.Core.Path.{◌≡◌, refl, sym, ◌∙◌}
 use Prim.Native.Nat.{◌-◌}
 use native.Mathlib.Omega.{arith}
-use lib.ListN.{length}
 use Rattle.fetch_walk.specs.Next.{next_of}
-use Rattle.fetch_walk.specs.State.{leaves}
 use Rattle.fetch_walk.specs.declared.cursor.Seen.TheVariants.{Entry, Check}
 use Rattle.fetch_walk.proofs.Turns.{turn_entry, turn_check, turn_invalid, turn_past, entry_moved, entry_room}
 use Rattle.fetch_walk.proofs.Turns.{check_moved}
-use borrow.Author.Rules.{rules}
 use Rattle.fetch_walk.proofs.walk_on.Goals.{In-Check, In-Entry}
 use Rattle.fetch_walk.proofs.walk_on.Goals as goal
 

@@ -1,15 +1,9 @@
 -- `fetch_walk::walk_on` meets its contract. The loop keeps what the walk from here leaves on the state now; the block's
 -- rest shrinks. Assumes nothing.
-use mathlib.Core.Path.{◌≡◌, refl, sym, ◌∙◌}
+use mathlib.Core.Path.{◌≡◌}
 use Prim.Native.Nat.{◌-◌}
-use native.Mathlib.Omega.{arith}
 use lib.ListN.{length}
-use Rattle.fetch_walk.specs.Next.{next_of}
 use Rattle.fetch_walk.specs.State.{leaves}
-use Rattle.fetch_walk.specs.declared.cursor.Seen.TheVariants.{Entry, Check}
-use Rattle.fetch_walk.proofs.Turns.{turn_entry, turn_check, turn_invalid, turn_past, entry_moved, entry_room}
-use Rattle.fetch_walk.proofs.Turns.{check_moved}
-use borrow.Author.Rules.{rules}
 use Rattle.fetch_walk.proofs.walk_on.Given as goal
 
 abbrev pub invariant-loop-tag : goal.invariant-loop-tag

@@ -1,6 +1,5 @@
 -- `index_pass::build` meets its contract: the run on a table that is cleared. Assumes nothing.
 use Rattle.index_pass.proofs.Built.{build_starts, build_done}
-use borrow.Author.Rules.{rules}
 use Rattle.index_pass.proofs.build.Goals as goal
 
 pub run_on-requires : goal.run_on-requires

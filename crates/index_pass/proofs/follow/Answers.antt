@@ -1,7 +1,6 @@
 -- `index_pass::follow` meets its contract, by what the entry is. Assumes nothing.
 use mathlib.Core.Path.{sym, ◌∙◌}
 use Rattle.index_pass.proofs.Entry.{unset_follows, set_follows, make_follows, remove_follows, other_follows}
-use borrow.Author.Rules.{rules}
 use Rattle.index_pass.proofs.follow.Goals as goal
 
 pub returns-then-lfs_tag_isdelete : goal.returns-then-lfs_tag_isdelete

@@ -1,13 +1,10 @@
 -- `index_pass::run_on` meets its contract. The loop keeps the entries that are still to come, run on the places that
 -- stand in the table (`Going`); what is left of the block falls. Assumes nothing.
-use mathlib.Core.Path.{◌≡◌, refl, sym}
+use mathlib.Core.Path.{◌≡◌}
 use Prim.Native.Nat.{◌-◌, ◌*◌}
-use native.Mathlib.Omega.{arith}
 use lib.ListN.{length, take}
 use Rattle.index_pass.specs.Run.{Onwards}
-use Rattle.index_pass.proofs.Turn.{Going, starts_going, ends_there, word_inside, used_inside, tag_small, tag_inside}
-use Rattle.index_pass.proofs.Turn.{check_goes, entry_goes, entry_full}
-use borrow.Author.Rules.{rules}
+use Rattle.index_pass.proofs.Turn.{Going}
 use Rattle.index_pass.proofs.run_on.Given as goal
 
 abbrev pub invariant-loop-at : goal.invariant-loop-at

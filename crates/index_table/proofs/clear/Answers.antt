@@ -1,6 +1,6 @@
 -- `index_table::clear` meets its contract. The loop keeps what is still to be zero. Assumes nothing.
-use Rattle.std.proofs.Common.{◌-◌, length, arith}
-use Rattle.index_table.proofs.Moves.{Doing, to_clear, starts, clear_turn, clear_end}
+use Rattle.std.proofs.Common.{◌-◌, arith}
+use Rattle.index_table.proofs.Moves.{to_clear, starts, clear_turn, clear_end}
 use Rattle.index_table.proofs.clear.Goals as goal
 
 pub loop-i-init : goal.loop-i-init

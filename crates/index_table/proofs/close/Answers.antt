@@ -1,6 +1,6 @@
 -- `index_table::close` meets its contract. The loop keeps what is still to come nearer. Assumes nothing.
-use Rattle.std.proofs.Common.{◌-◌, drop, ◌∙◌, arith, rules}
-use Rattle.index_table.proofs.Moves.{Doing, to_close, close_start, close_turn, close_end}
+use Rattle.std.proofs.Common.{◌-◌, ◌∙◌, arith}
+use Rattle.index_table.proofs.Moves.{close_start, close_turn, close_end}
 use Rattle.index_table.proofs.close.Goals as goal
 
 pub loop-i-init : goal.loop-i-init

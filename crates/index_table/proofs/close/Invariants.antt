@@ -1,6 +1,6 @@
 -- `index_table::close` meets its contract. The loop keeps what is still to come nearer. Assumes nothing.
-use Rattle.std.proofs.Common.{◌-◌, drop, ◌∙◌, arith, rules}
-use Rattle.index_table.proofs.Moves.{Doing, to_close, close_start, close_turn, close_end}
+use Rattle.std.proofs.Common.{◌-◌, drop}
+use Rattle.index_table.proofs.Moves.{Doing, to_close}
 use Rattle.index_table.proofs.close.Given as goal
 
 abbrev pub invariant-loop-i : goal.invariant-loop-i

@@ -1,6 +1,6 @@
 -- `index_table::count` meets its contract. The loop keeps what is still to be counted. Assumes nothing.
-use Rattle.std.proofs.Common.{◌-◌, length, arith}
-use Rattle.index_table.proofs.Leading.{Counting, count_start, count_turn, count_zero, count_end}
+use Rattle.std.proofs.Common.{◌-◌, length}
+use Rattle.index_table.proofs.Leading.{Counting}
 use Rattle.index_table.proofs.count.Given as goal
 
 abbrev pub invariant-loop-i : goal.invariant-loop-i

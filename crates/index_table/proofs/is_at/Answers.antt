@@ -1,6 +1,5 @@
 -- `index_table::is_at` meets its contract. Assumes nothing.
 use Rattle.index_table.proofs.Ranks.{at_none, at_one}
-use Rattle.std.proofs.Common.{rules}
 use Rattle.index_table.proofs.is_at.Goals as goal
 
 pub returns-then-used-at : goal.returns-then-used-at

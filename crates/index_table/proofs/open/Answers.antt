@@ -1,6 +1,6 @@
 -- `index_table::open` meets its contract. The loop keeps what is still to come further. Assumes nothing.
-use Rattle.std.proofs.Common.{◌-◌, length, take, ◌∙◌, arith}
-use Rattle.index_table.proofs.Moves.{Doing, to_open, open_start, open_turn, open_end}
+use Rattle.std.proofs.Common.{◌-◌, ◌∙◌, arith}
+use Rattle.index_table.proofs.Moves.{open_start, open_turn, open_end}
 use Rattle.index_table.proofs.open.Goals as goal
 
 pub loop-i-init : goal.loop-i-init

@@ -1,6 +1,6 @@
 -- `index_table::open` meets its contract. The loop keeps what is still to come further. Assumes nothing.
-use Rattle.std.proofs.Common.{◌-◌, length, take, ◌∙◌, arith}
-use Rattle.index_table.proofs.Moves.{Doing, to_open, open_start, open_turn, open_end}
+use Rattle.std.proofs.Common.{◌-◌, length, take}
+use Rattle.index_table.proofs.Moves.{Doing, to_open}
 use Rattle.index_table.proofs.open.Given as goal
 
 abbrev pub invariant-loop-i : goal.invariant-loop-i

@@ -1,5 +1,4 @@
 -- `index_table::put` meets its contract. Assumes nothing.
-use Rattle.std.proofs.Common.{rules}
 use Rattle.index_table.proofs.Moves.{put_end}
 use Rattle.index_table.proofs.put.Goals as goal
 

@@ -1,5 +1,5 @@
 -- `index_table::rank_of` meets its contract. Assumes nothing.
-use Rattle.std.proofs.Common.{◌∙◌, arith, rules}
+use Rattle.std.proofs.Common.{◌∙◌, arith}
 use Rattle.index_table.proofs.Ranks.{class_few, rank_none, rank_some}
 use Rattle.index_table.proofs.rank_of.Goals as goal
 

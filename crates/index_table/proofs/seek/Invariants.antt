@@ -1,6 +1,5 @@
 -- `index_table::seek` meets its contract. The loop keeps what is found in the places that are left. Assumes nothing.
-use Rattle.std.proofs.Common.{arith, rules}
-use Rattle.index_table.proofs.Halving.{Seeking, seek_start, seek_up, seek_down, seek_end}
+use Rattle.index_table.proofs.Halving.{Seeking}
 use Rattle.index_table.proofs.seek.Given as goal
 
 abbrev pub invariant-loop-left : goal.invariant-loop-left

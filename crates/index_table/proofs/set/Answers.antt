@@ -11,27 +11,24 @@ put-requires c =
 
 pub returns-then-is_at : goal.returns-then-is_at
 unfolding Goes
-returns-then-is_at c = λ P h.
-    (
-      search rules,
-      set_there h _ _ c.seek-place.ensures _ c.is_at.ensures c.if-is_at.true _ _
-          c.put.ensures,
-    )
+returns-then-is_at c = λ P h. (
+  search rules,
+  set_there h _ _ c.seek-place.ensures _ c.is_at.ensures c.if-is_at.true _ _
+      c.put.ensures,
+)
 
 pub returns-then-table-end-lt2 : goal.returns-then-table-end-lt2
 unfolding Goes
-returns-then-table-end-lt2 c =
-    (
-      refl,
-      λ P h. set_full h _ _ c.seek-place.ensures _ c.is_at.ensures c.if-is_at.false _ _
-          c.if-table-end-lt2.true,
-    )
+returns-then-table-end-lt2 c = (
+  refl,
+  λ P h. set_full h _ _ c.seek-place.ensures _ c.is_at.ensures c.if-is_at.false _ _
+      c.if-table-end-lt2.true,
+)
 
 pub returns : goal.returns
 unfolding Goes
-returns c = λ P h.
-    (
-      search rules,
-      set_new h _ _ c.seek-place.ensures _ c.is_at.ensures c.if-is_at.false _ _
-          (omega arith) c.«open».ensures,
-    )
+returns c = λ P h. (
+  search rules,
+  set_new h _ _ c.seek-place.ensures _ c.is_at.ensures c.if-is_at.false _ _
+      (omega arith) c.«open».ensures,
+)

@@ -1,6 +1,6 @@
 -- `index_table::shift_ids` meets its contract. The loop keeps what is still to be shifted. Assumes nothing.
-use Rattle.std.proofs.Common.{◌-◌, length, arith, rules}
-use Rattle.index_table.proofs.Moves.{Doing, to_shift, starts, shift_turn, shift_end}
+use Rattle.std.proofs.Common.{◌-◌, arith}
+use Rattle.index_table.proofs.Moves.{to_shift, starts, shift_turn, shift_end}
 use Rattle.index_table.proofs.shift_ids.Goals as goal
 
 pub loop-part-init : goal.loop-part-init

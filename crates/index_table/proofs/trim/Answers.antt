@@ -1,5 +1,5 @@
 -- `index_table::trim` meets its contract. Assumes nothing.
-use Rattle.std.proofs.Common.{arith, rules}
+use Rattle.std.proofs.Common.{arith}
 use Rattle.index_table.proofs.Trimmed.{leading_short, trimmed}
 use Rattle.index_table.proofs.trim.Goals as goal
 

@@ -13,12 +13,11 @@ overflow_sub-result c =
     omega (arith, at_inside _ _ _ c.requires _ _ c.is_at.ensures c.if-is_at.true)
 
 pub returns-then-is_at : goal.returns-then-is_at
-returns-then-is_at c P h =
-    (
-      search rules,
-      unset_there h _ _ c.seek-place.ensures _ c.is_at.ensures c.if-is_at.true
-          c.close.ensures,
-    )
+returns-then-is_at c P h = (
+  search rules,
+  unset_there h _ _ c.seek-place.ensures _ c.is_at.ensures c.if-is_at.true
+      c.close.ensures,
+)
 
 pub returns : goal.returns
 returns c P h =

@@ -5,7 +5,7 @@ use mathlib.Core.Path.{◌≡◌, sym, ap, ◌∙◌}
 use Prim.Native.Nat.{ℕ}
 use lib.IntN.{ℤ}
 use mir.Facts.{to_z-of_z}
-use borrow.Author.Rules.{rules, sfits_of}
+use borrow.Author.Rules.{sfits_of}
 use Rattle.format.specs.declared.LfsMdir.{LfsMdir}
 use Rattle.lanolin_answers.specs.Values.{fetched_out}
 use Rattle.lanolin_answers.specs.declared.FetchedOut.{FetchedOut}

@@ -3,7 +3,7 @@ use mir.Syntax.{w32}
 use mathlib.Core.Path.{sym, ap, ◌∙◌}
 use lib.IntN.{ℤ}
 use mir.Facts.{to_z-of_z}
-use borrow.Author.Rules.{rules, sfits_of}
+use borrow.Author.Rules.{sfits_of}
 use Rattle.format.specs.Answer.{none_found}
 use Rattle.lanolin_answers.specs.Values.{got_out}
 use Rattle.lanolin_answers.specs.declared.GotOut.{GotOut}

@@ -4,7 +4,7 @@ use mathlib.Core.Path.{sym, ap, ◌∙◌}
 use lib.IntN.{ℤ, pos}
 use Prim.Native.Nat.{ℕ}
 use mir.Facts.{to_z-of_z}
-use borrow.Author.Rules.{rules, sfits_of}
+use borrow.Author.Rules.{sfits_of}
 use Rattle.lanolin_answers.specs.Values.{indexed_out}
 use Rattle.lanolin_answers.specs.declared.IndexedOut.{IndexedOut}
 use Rattle.lanolin_answers.proofs.indexed_out.Goals as goal

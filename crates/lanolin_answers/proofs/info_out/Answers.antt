@@ -3,7 +3,7 @@ use mir.Syntax.{w32}
 use mathlib.Core.Path.{ap, ◌∙◌}
 use lib.IntN.{ℤ}
 use mir.Facts.{to_z-of_z}
-use borrow.Author.Rules.{rules, sfits_of}
+use borrow.Author.Rules.{sfits_of}
 use Rattle.format.specs.declared.LfsInfo.{LfsInfo}
 use Rattle.lanolin_answers.specs.declared.InfoOut.{InfoOut}
 use Rattle.lanolin_answers.proofs.info_out.Goals as goal

@@ -4,7 +4,7 @@ use mathlib.Core.Path.{sym, ap, ◌∙◌}
 use mathlib.Core.Bool.{false}
 use lib.IntN.{ℤ}
 use mir.Facts.{to_z-of_z}
-use borrow.Author.Rules.{rules, sfits_of}
+use borrow.Author.Rules.{sfits_of}
 use Rattle.lanolin_answers.specs.Values.{named_out}
 use Rattle.lanolin_answers.specs.declared.NamedOut.{NamedOut}
 use Rattle.lanolin_answers.proofs.named_out.Goals as goal

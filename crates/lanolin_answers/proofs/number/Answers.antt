@@ -1,6 +1,5 @@
 -- `lanolin_answers::number` meets its contract: each case has the table's number. Assumes nothing.
 use mathlib.Core.Path.{sym, ap}
-use borrow.Author.Rules.{rules}
 use Rattle.format.specs.Answer.{refusal_number}
 use Rattle.lanolin_answers.proofs.number.Goals as goal
 

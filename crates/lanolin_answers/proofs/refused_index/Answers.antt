@@ -1,7 +1,6 @@
 -- `lanolin_answers::refused_index` meets its contract: what the two cases hold, and the same with every other. Assumes
 -- nothing.
 use mathlib.Core.Path.{sym, ap}
-use borrow.Author.Rules.{rules}
 use Rattle.format.specs.Answer.{refusal_index}
 use Rattle.lanolin_answers.proofs.Others.{unindexed}
 use Rattle.lanolin_answers.proofs.refused_index.Goals as goal

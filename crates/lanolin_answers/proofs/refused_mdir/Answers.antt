@@ -1,7 +1,6 @@
 -- `lanolin_answers::refused_mdir` meets its contract: what the one case holds, and the same with every other. Assumes
 -- nothing.
 use mathlib.Core.Path.{sym, ap, ◌∙◌}
-use borrow.Author.Rules.{rules}
 use Rattle.format.specs.Answer.{refusal_mdir}
 use Rattle.lanolin_answers.proofs.Others.{unread}
 use Rattle.lanolin_answers.proofs.refused_mdir.Goals as goal

@@ -3,7 +3,7 @@ use mir.Syntax.{w32}
 use mathlib.Core.Path.{sym, ap, ◌∙◌}
 use lib.IntN.{ℤ}
 use mir.Facts.{to_z-of_z}
-use borrow.Author.Rules.{rules, sfits_of}
+use borrow.Author.Rules.{sfits_of}
 use Rattle.lanolin_answers.specs.Values.{word_out}
 use Rattle.lanolin_answers.specs.declared.Value.{Value}
 use Rattle.lanolin_answers.proofs.word_out.Goals as goal

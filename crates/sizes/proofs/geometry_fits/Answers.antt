@@ -1,7 +1,6 @@
 -- `sizes::geometry_fits` meets its contract: a program size of 0 is no divisor, and the other tests stand as they are.
 -- Assumes nothing.
 use borrow.Author.Tests.{le-leb, lt-leb}
-use borrow.Author.Rules.{rules}
 use Rattle.format.specs.Fetch.{geometry_fits}
 use Rattle.sizes.proofs.geometry_fits.Goals as goal
 

@@ -1,5 +1,4 @@
 -- `sizes::images_fit` meets its contract: the tests stand as they are. Assumes nothing.
-use borrow.Author.Rules.{rules}
 use Rattle.sizes.proofs.images_fit.Goals as goal
 
 pub returns : goal.returns

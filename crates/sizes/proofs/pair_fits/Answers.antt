@@ -1,5 +1,4 @@
 -- `sizes::pair_fits` meets its contract: the tests stand as they are. Assumes nothing.
-use borrow.Author.Rules.{rules}
 use Rattle.format.specs.Fetch.{pair_fits}
 use Rattle.sizes.proofs.pair_fits.Goals as goal
 

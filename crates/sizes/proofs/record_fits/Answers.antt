@@ -1,6 +1,5 @@
 -- `sizes::record_fits` meets its contract: the tests are the definition's. Assumes nothing.
 use Rattle.format.specs.Lookup.{record_fits}
-use borrow.Author.Rules.{rules}
 use Rattle.sizes.proofs.record_fits.Goals as goal
 
 pub returns : goal.returns

@@ -1,5 +1,4 @@
 -- `tag::lfs_mktag_if` meets its contract: the condition decides which of the two tags it is. Assumes nothing.
-use borrow.Author.Rules.{rules}
 use Rattle.tag.proofs.lfs_mktag_if.Goals as goal
 
 pub returns-then-cond : goal.returns-then-cond

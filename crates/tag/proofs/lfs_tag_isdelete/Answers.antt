@@ -2,7 +2,6 @@
 use mathlib.Core.Path.{ap}
 use Prim.Native.Nat.{ℕ}
 use lib.Dec.{eqb}
-use borrow.Author.Rules.{rules}
 use Rattle.format.specs.Tag.{removal_size}
 use Rattle.tag.proofs.lfs_tag_isdelete.Goals as goal
 

@@ -6,7 +6,6 @@ use native.Mathlib.Omega.{arith}
 use mir.Syntax.{w8}
 use mir.Val.{to_z}
 use mir.Facts.{to_z-of_z}
-use borrow.Author.Rules.{rules}
 use Rattle.format.proofs.Signed.{negative, negative_fits}
 use Rattle.tag.proofs.lfs_tag_splice.Goals as goal
 

@@ -1,5 +1,5 @@
 -- `tag::splice_from_lowest` meets its contract: each step fits (`Splice.antt`). Assumes nothing.
-use borrow.Author.Rules.{rules, sfits_of}
+use borrow.Author.Rules.{sfits_of}
 use Rattle.tag.proofs.Splice.{wide_fits, sum_fits, unsigned_fits, counted}
 use Rattle.tag.proofs.splice_from_lowest.Goals as goal
 

@@ -1,5 +1,5 @@
 -- `util::lfs_aligndown` meets its contract: what is above the multiple is the remainder. Assumes nothing.
-use Rattle.std.proofs.Common.{◌≡◌, ℕ, ◌-◌, ◌*◌, ◌/◌, ◌%◌, div-add-mod', arith, rules, eq-eqb, ne_eqb}
+use Rattle.std.proofs.Common.{◌≡◌, ℕ, ◌-◌, ◌*◌, ◌/◌, ◌%◌, div-add-mod', arith, eq-eqb, ne_eqb}
 use native.Mathlib.Nat.{mod-le}
 use Rattle.format.specs.Arith.{align_down}
 use Rattle.format.specs.declared.Word.TheVariants.{Is, Refused}

@@ -1,5 +1,5 @@
 -- `util::lfs_alignup` meets its contract: the wrapped sum is the definition's. Assumes nothing.
-use Rattle.std.proofs.Common.{◌≡◌, ℕ, ap, ◌∙◌, arith, rules}
+use Rattle.std.proofs.Common.{◌≡◌, ℕ, ap, ◌∙◌, arith}
 use Rattle.format.specs.Word.{plus32, minus32}
 use Rattle.format.specs.Arith.{align_down, align_up}
 use Rattle.util.proofs.lfs_alignup.Goals as goal

@@ -1,6 +1,6 @@
 -- `util::lfs_scmp` meets its contract: the wrapped difference, read as signed by `Signed.antt`.
 -- Assumes nothing.
-use Rattle.std.proofs.Common.{◌-◌, ap, ◌∙◌, arith, to_z-of_z, w32, to_z, rules}
+use Rattle.std.proofs.Common.{◌-◌, ap, ◌∙◌, arith, to_z-of_z, w32, to_z}
 use Rattle.format.proofs.Signed.{negative, negative_fits, wraps}
 use Rattle.util.proofs.lfs_scmp.Goals as goal
 

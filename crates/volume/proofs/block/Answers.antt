@@ -1,6 +1,5 @@
 -- `volume::block` meets its contract: the block lies in the volume. Assumes nothing.
 use native.Mathlib.Omega.{arith}
-use borrow.Author.Rules.{rules}
 use Rattle.volume.proofs.Blocks.{block_inside, block_is}
 use Rattle.volume.proofs.block.Goals as goal
 

@@ -1,6 +1,5 @@
 -- `volume::fetch_in` meets its contract: its tests are the definition's, in that order. Assumes nothing.
 use native.Mathlib.Omega.{arith}
-use borrow.Author.Rules.{rules}
 use Rattle.volume.proofs.Blocks.{volume_sized, same_numbers, first_outside, second_outside, both_inside}
 use Rattle.volume.proofs.fetch_in.Goals as goal
 

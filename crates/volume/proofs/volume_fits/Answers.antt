@@ -1,6 +1,5 @@
 -- `volume::volume_fits` meets its contract: a geometry that fits has a block size that divides. Assumes nothing.
 use native.Mathlib.Omega.{arith}
-use borrow.Author.Rules.{rules}
 use Rattle.volume.proofs.Blocks.{unfit, fit, whole}
 use Rattle.std.proofs.Common.{ap, not}
 use Rattle.volume.proofs.volume_fits.Goals as goal

@@ -1,6 +1,5 @@
 -- `word::be_bytes` meets its contract: the array is the definition's list. Assumes nothing.
 use mathlib.Core.Path.{refl}
-use borrow.Author.Rules.{rules}
 use Rattle.format.specs.Word.{to_be32}
 use Rattle.word.proofs.be_bytes.Goals as goal
 

@@ -1,6 +1,5 @@
 -- `word::lfs_le32_at` meets its contract: the test of the offset decides the definition's case. Assumes nothing.
 use mathlib.Core.Path.{ap, ◌∙◌}
-use borrow.Author.Rules.{rules}
 use Rattle.format.specs.declared.Word.TheVariants.{Is}
 use Rattle.word.proofs.Inside.{is_inside, first, second}
 use Rattle.word.proofs.lfs_le32_at.Goals as goal

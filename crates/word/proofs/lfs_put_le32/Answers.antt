@@ -1,6 +1,5 @@
 -- `word::lfs_put_le32` meets its contract: the test of the offset decides both definitions' case. Assumes nothing.
 use mathlib.Core.Path.{◌∙◌}
-use borrow.Author.Rules.{rules}
 use Rattle.word.proofs.Inside.{is_inside, first, second}
 use Rattle.word.proofs.lfs_put_le32.Goals as goal
 

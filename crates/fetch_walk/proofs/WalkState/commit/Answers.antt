@@ -1,6 +1,5 @@
 -- `fetch_walk::WalkState::commit` meets its contract: the record is the definition's. Assumes nothing.
 use Rattle.fetch_walk.specs.State.{taking}
-use borrow.Author.Rules.{rules}
 use Rattle.fetch_walk.proofs.WalkState.commit.Goals as goal
 
 pub returns : goal.returns

@@ -1,6 +1,5 @@
 -- `fetch_walk::WalkState::entry` meets its contract: the directory's step, and nothing else. Assumes nothing.
 use Rattle.fetch_walk.specs.State.{holding}
-use borrow.Author.Rules.{rules}
 use Rattle.fetch_walk.proofs.WalkState.entry.Goals as goal
 
 pub returns : goal.returns

@@ -1,7 +1,6 @@
 -- `fetch_walk::cursor::check_at` meets its contract: the checksum stored differs from the checksum so far, or fits.
 -- Assumes nothing.
 use Rattle.fetch_walk.proofs.Seen.{check_differs, check_cursor}
-use borrow.Author.Rules.{rules}
 use Rattle.fetch_walk.proofs.cursor.check_at.Goals as goal
 
 pub returns-then-lfs_crc-stored : goal.returns-then-lfs_crc-stored

@@ -1,6 +1,5 @@
 -- `fetch_walk::cursor::entry_at` meets its contract: the part that is summed is the entry's bytes. Assumes nothing.
 use Rattle.fetch_walk.proofs.Seen.{entry_cursor}
-use borrow.Author.Rules.{rules}
 use Rattle.fetch_walk.proofs.cursor.entry_at.Goals as goal
 
 pub returns : goal.returns

@@ -7,7 +7,6 @@ use lib.Dec.{eqb}
 use Rattle.format.specs.Tag.{tag_type1, tag_type3}
 use Rattle.format.specs.Kind.{is_wide}
 use Rattle.format.proofs.Classes.{behind_check, behind_wide, behind_plain}
-use borrow.Author.Rules.{rules}
 use Rattle.fetch_walk.proofs.cursor.read_behind.Goals as goal
 
 -- the test for eight bytes, as the definition has it

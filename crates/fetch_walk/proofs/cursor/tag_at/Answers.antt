@@ -3,7 +3,6 @@ use mathlib.Core.Path.{sym, ◌∙◌}
 use native.Mathlib.Omega.{arith}
 use Rattle.format.proofs.Classes.{behind_check}
 use Rattle.fetch_walk.proofs.Seen.{seen_invalid, seen_long, seen_unread, seen_check, seen_entry}
-use borrow.Author.Rules.{rules}
 use Rattle.fetch_walk.proofs.cursor.tag_at.Goals as goal
 
 pub returns-then-tag-ge2147483648 : goal.returns-then-tag-ge2147483648

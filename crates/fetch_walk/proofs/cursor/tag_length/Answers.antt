@@ -1,7 +1,6 @@
 -- `fetch_walk::cursor::tag_length` meets its contract: the length, and the longest that there is. Assumes nothing.
 use native.Mathlib.Omega.{arith}
 use Rattle.fetch_walk.proofs.Seen.{length_most}
-use borrow.Author.Rules.{rules}
 use Rattle.fetch_walk.proofs.cursor.tag_length.Goals as goal
 
 pub returns : goal.returns

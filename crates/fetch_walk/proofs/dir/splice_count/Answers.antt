@@ -1,5 +1,4 @@
 -- `fetch_walk::dir::splice_count` meets its contract: by how far the splice lies above -128. Assumes nothing.
-use borrow.Author.Rules.{rules}
 use Rattle.fetch_walk.proofs.Steps.{splice_none, splice_some}
 use Rattle.fetch_walk.proofs.dir.splice_count.Goals as goal
 

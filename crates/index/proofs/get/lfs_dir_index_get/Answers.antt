@@ -4,7 +4,6 @@ use mathlib.Core.Path.{sym, ◌∙◌}
 use Rattle.sizes.proofs.Records.{block_first, block_second}
 use Rattle.index.proofs.Place.{hit_long}
 use Rattle.index.proofs.Called.{get_refused, get_nothing, get_found}
-use borrow.Author.Rules.{rules}
 use Rattle.std.proofs.Common.{ap, not}
 use Rattle.index.proofs.get.lfs_dir_index_get.Goals as goal
 

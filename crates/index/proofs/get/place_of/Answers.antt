@@ -3,7 +3,6 @@ use mathlib.Core.Path.{refl}
 use native.Mathlib.Omega.{arith}
 use Rattle.index.proofs.Place.{place_none, place_kind, place_id, place_other, place_past, place_wrong}
 use Rattle.index.proofs.Place.{place_there}
-use borrow.Author.Rules.{rules}
 use Rattle.index.proofs.get.place_of.Goals as goal
 
 pub returns-then-kind-id : goal.returns-then-kind-id

@@ -1,6 +1,5 @@
 -- `lanolin::indexing::lanolin_index` meets its contract: what the call below ensures, handed out. Assumes nothing.
 use mathlib.Core.Path.{ap, ◌∙◌}
-use borrow.Author.Rules.{rules}
 use Rattle.lanolin_answers.specs.Values.{indexed_out}
 use Rattle.lanolin.proofs.indexing.lanolin_index.Goals as goal
 

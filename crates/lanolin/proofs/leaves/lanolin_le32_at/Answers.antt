@@ -1,6 +1,5 @@
 -- `lanolin::leaves::lanolin_le32_at` meets its contract: what the call below ensures, handed out. Assumes nothing.
 use mathlib.Core.Path.{ap, ◌∙◌}
-use borrow.Author.Rules.{rules}
 use Rattle.lanolin_answers.specs.Values.{word_out}
 use Rattle.lanolin.proofs.leaves.lanolin_le32_at.Goals as goal
 

@@ -1,6 +1,5 @@
 -- `lanolin::leaves::lanolin_pair_isnull` meets its contract: what the call below ensures, handed out. Assumes nothing.
 use mathlib.Core.Path.{ap, ◌∙◌}
-use borrow.Author.Rules.{rules}
 use Rattle.format.specs.Answer.{flag_of}
 use Rattle.lanolin.proofs.leaves.lanolin_pair_isnull.Goals as goal
 

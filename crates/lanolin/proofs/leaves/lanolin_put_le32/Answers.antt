@@ -2,7 +2,7 @@
 use mir.Syntax.{w32}
 use mathlib.Core.Path.{ap, ◌∙◌}
 use mir.Facts.{to_z-of_z}
-use borrow.Author.Rules.{rules, sfits_of}
+use borrow.Author.Rules.{sfits_of}
 use Rattle.format.specs.Answer.{altered_result}
 use Rattle.lanolin.proofs.leaves.lanolin_put_le32.Goals as goal
 

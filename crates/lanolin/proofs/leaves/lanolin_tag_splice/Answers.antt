@@ -4,7 +4,7 @@ use lib.IntN.{ℤ}
 use mir.Syntax.{w8, w32}
 use mir.Val.{SFits, to_z, of_z}
 use mir.Facts.{to_z-of_z, sfits_widen}
-use borrow.Author.Rules.{rules, sfits_of}
+use borrow.Author.Rules.{sfits_of}
 use Rattle.lanolin.proofs.leaves.lanolin_tag_splice.Goals as goal
 
 fits : (z : ℤ) → SFits w8 z → SFits w32 (to_z w8 (of_z w8 z))

@@ -1,6 +1,5 @@
 -- `lanolin::reading::lanolin_find` meets its contract: what the call below ensures, handed out. Assumes nothing.
 use mathlib.Core.Path.{ap, ◌∙◌}
-use borrow.Author.Rules.{rules}
 use Rattle.lanolin_answers.specs.Values.{named_out}
 use Rattle.lanolin.proofs.reading.lanolin_find.Goals as goal
 

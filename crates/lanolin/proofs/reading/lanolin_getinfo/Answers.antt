@@ -1,6 +1,5 @@
 -- `lanolin::reading::lanolin_getinfo` meets its contract: what the call below ensures, handed out. Assumes nothing.
 use mathlib.Core.Path.{ap, ◌∙◌}
-use borrow.Author.Rules.{rules}
 use Rattle.lanolin_answers.specs.Values.{info_out}
 use Rattle.lanolin.proofs.reading.lanolin_getinfo.Goals as goal
 

@@ -1,6 +1,5 @@
 -- `lanolin::reading::lanolin_getslice` meets its contract: what the call below ensures, handed out. Assumes nothing.
 use mathlib.Core.Path.{ap, ◌∙◌}
-use borrow.Author.Rules.{rules}
 use Rattle.lanolin_answers.specs.Values.{got_out}
 use Rattle.lanolin.proofs.reading.lanolin_getslice.Goals as goal
 

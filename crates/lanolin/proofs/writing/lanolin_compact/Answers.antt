@@ -1,6 +1,5 @@
 -- `lanolin::writing::lanolin_compact` meets its contract: what the call below ensures, handed out. Assumes nothing.
 use mathlib.Core.Path.{ap, ◌∙◌}
-use borrow.Author.Rules.{rules}
 use Rattle.lanolin_answers.specs.Values.{committed_out}
 use Rattle.lanolin.proofs.writing.lanolin_compact.Goals as goal
 

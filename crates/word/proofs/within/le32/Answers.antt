@@ -1,7 +1,6 @@
 -- `word::within::le32` meets its contract: the four bytes are those that the definition reads. Assumes nothing.
 use mathlib.Core.Path.{sym, ◌∙◌}
 use native.Mathlib.Omega.{arith}
-use borrow.Author.Rules.{rules}
 use Rattle.format.proofs.Words.{le32_at_lem}
 use Rattle.word.proofs.within.le32.Goals as goal
 

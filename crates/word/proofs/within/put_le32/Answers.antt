@@ -1,5 +1,4 @@
 -- `word::within::put_le32` meets its contract: the four bytes of the word. Assumes nothing.
-use borrow.Author.Rules.{rules}
 use Rattle.word.proofs.within.put_le32.Goals as goal
 
 pub returns : goal.returns

@@ -2,7 +2,6 @@
 -- nothing.
 use native.Mathlib.Omega.{arith}
 use Rattle.fetch_walk.proofs.Seen.{next_short, next_tag}
-use borrow.Author.Rules.{rules}
 use Rattle.fetch_walk.proofs.cursor.Cursor.next.Goals as goal
 
 pub returns-then-n-lt4 : goal.returns-then-n-lt4

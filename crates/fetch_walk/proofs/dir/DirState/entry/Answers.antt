@@ -4,7 +4,6 @@ use native.Mathlib.Omega.{arith}
 use Rattle.format.specs.Tag.{tag_type1}
 use Rattle.fetch_walk.proofs.Steps.{enter_name, enter_splice, enter_tail, enter_forward, enter_other, tail_reads}
 use Rattle.fetch_walk.proofs.Steps.{forward_reads}
-use borrow.Author.Rules.{rules}
 use Rattle.fetch_walk.proofs.dir.DirState.entry.Goals.{Else-type1-eq-LFS_TYPE_NAME, Else-type1-eq-LFS_TYPE_SPLICE, Else-type1-eq-LFS_TYPE_TAIL, Then-type1-eq-LFS_TYPE_TAIL}
 use Rattle.fetch_walk.proofs.dir.DirState.entry.Goals as goal
 

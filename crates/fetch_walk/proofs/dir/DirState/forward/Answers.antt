@@ -1,7 +1,6 @@
 -- `fetch_walk::dir::DirState::forward` meets its contract: two words. Assumes nothing.
 use lib.Seq.{drop-drop}
 use Rattle.fetch_walk.specs.Dir.{forwarded}
-use borrow.Author.Rules.{rules}
 use Rattle.fetch_walk.proofs.dir.DirState.forward.Goals as goal
 
 pub returns : goal.returns

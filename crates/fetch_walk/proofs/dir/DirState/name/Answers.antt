@@ -1,6 +1,5 @@
 -- `fetch_walk::dir::DirState::name` meets its contract: the larger of two counts. Assumes nothing.
 use Rattle.fetch_walk.proofs.Steps.{name_more, name_same}
-use borrow.Author.Rules.{rules}
 use Rattle.fetch_walk.proofs.dir.DirState.name.Goals as goal
 
 pub returns-then-self-least : goal.returns-then-self-least

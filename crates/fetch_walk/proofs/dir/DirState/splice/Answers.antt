@@ -1,5 +1,4 @@
 -- `fetch_walk::dir::DirState::splice` meets its contract: the count moves, and nothing else. Assumes nothing.
-use borrow.Author.Rules.{rules}
 use Rattle.fetch_walk.specs.Dir.{spliced}
 use Rattle.fetch_walk.proofs.dir.DirState.splice.Goals as goal
 

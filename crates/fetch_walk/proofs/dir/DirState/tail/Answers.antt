@@ -1,7 +1,6 @@
 -- `fetch_walk::dir::DirState::tail` meets its contract: two words, and the chunk's low bit. Assumes nothing.
 use lib.Seq.{drop-drop}
 use Rattle.fetch_walk.specs.Dir.{tailed}
-use borrow.Author.Rules.{rules}
 use Rattle.fetch_walk.proofs.dir.DirState.tail.Goals as goal
 
 pub returns : goal.returns
