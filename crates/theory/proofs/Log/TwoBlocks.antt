@@ -1,5 +1,5 @@
--- Demand 3 of two blocks: an append or a compaction stopped after any store, and the view behind a finished one. Assumes
--- nothing.
+-- Demand 3 of two blocks: an append or a compaction stopped after any store, and the view behind a finished one.
+-- Assumes nothing.
 use Rattle.std.specs.Prelude.{◌≡◌, ◌≢◌, ◌⊎◌, Bool, not, List, [], ◌++◌, ℕ, zero, suc, ◌^◌, ◌<◌}
 use Rattle.std.proofs.Common.{sym, ap, ◌∙◌, inl, inr, append_assoc, arith}
 use Rattle.format.specs.Word.{le32, to_le32, all_ones, plus32}
