@@ -1,6 +1,8 @@
 // The tree of a volume as text (document 02, L9): every directory and file from a given pair, a line for each. Two
 // functions call each other, the directory walk and the slot walk. The allowance of pairs is handed on and back, and
 // falls at each pair; the depth bounds how deep the two call each other, and so the stack.
+#![tactic(auto)]
+
 ghost use Rattle.std.specs.Prelude.{◌≡◌, true, ◌≤◌, length};
 ghost use Rattle.format.specs.Volume.{volume_fits};
 ghost use Rattle.format.specs.Tree.{tree_of, tree_text};
