@@ -104,7 +104,7 @@ fn find_port(root: &Path) {
     let archive = given.join("liblanolin.a");
     if !archive.is_file() {
         panic!(
-            "the port's archive is not at {}: run `rt staticlib lanolin` first, \
+            "the port's archive is not at {}: run `./lanolin lib` first, \
              or name its directory by LANOLIN_LIB",
             archive.display()
         );

@@ -1,19 +1,18 @@
 #!/usr/bin/env python3
 """What the gate's time goes to.
 
-    rt ci | tools/dearest.py watch FILE   passes every line on, and notes each crate proved and each edit tried in FILE
-    tools/dearest.py report FILE          prints the ten dearest steps, and how long the gate took for what
+    rt ci | tools/dearest.py watch FILE   passes every line on, and notes each crate proved in FILE
+    tools/dearest.py report FILE          prints the ten dearest steps beside rt ci, and how long the gate took for what
 
-FILE has a line for each thing noted: at which second, what it is (step, crate or edit), its own seconds, its name. The
-gate notes its steps as they begin, with 0 seconds; a crate and an edit are noted as they end, with the seconds that rt
-says. Several of those run at a time and took less than their sum, so the totals are taken from when they were noted.
+FILE has a line for each thing noted: at which second, what it is (step or crate), its name. The gate notes its steps as
+they begin, a crate is noted as it ends. Several crates are proved at a time, and rt tries their edits and runs the
+programs behind them, so only the totals are told apart.
 """
 import re
 import sys
 import time
 
-PROVED = re.compile(r"rt: (?P<name>\w+) proved \((?P<took>\d+) s\)")
-TRIED = re.compile(r"rt: must-fail (?P<name>\S+): refused.*\b(?P<took>\d+) s\)")
+PROVED = re.compile(r"rt: (?P<name>\w+) (proved|is kept)")
 RT = "rt ci"
 
 
@@ -22,40 +21,36 @@ def watch(file):
         for raw in sys.stdin.buffer: # rt may cut a line within a character
             sys.stdout.buffer.write(raw)
             sys.stdout.buffer.flush()
-            line = raw.decode("utf-8", "replace")
-            for what, said in (("crate", PROVED.match(line)), ("edit", TRIED.match(line))):
-                if said:
-                    print(int(time.time()), what, said["took"], said["name"], file=notes)
+            said = PROVED.match(raw.decode("utf-8", "replace"))
+            if said:
+                print(int(time.time()), "crate", said["name"], file=notes)
 
 
 def noted(file):
     with open(file, encoding="utf-8") as notes:
-        rows = [line.rstrip("\n").split(" ", 3) for line in notes]
-    return [(int(at), what, int(took), name) for at, what, took, name in rows]
+        rows = [line.rstrip("\n").split(" ", 2) for line in notes]
+    return [(int(at), what, name) for at, what, name in rows]
 
 
 def steps(notes, now):
     """The gate's own steps, each from where it begins to where the next does."""
-    begun = [(at, name) for at, what, _, name in notes if what == "step"]
+    begun = [(at, name) for at, what, name in notes if what == "step"]
     ends = [at for at, _ in begun[1:]] + [now]
     return [(at, end, name) for (at, name), end in zip(begun, ends)]
 
 
 def totals(notes, now):
-    """Seconds of proving, of the edits, of the programs that rt runs after them, and of all other steps."""
+    """Seconds until the last crate is proved, of what rt does behind that, and of all other steps."""
     own = steps(notes, now)
     began, ended = next(((at, end) for at, end, name in own if name.startswith(RT)), (now, now))
-    proved = max((at for at, what, _, _ in notes if what == "crate"), default=began)
-    tried = max((at for at, what, _, _ in notes if what == "edit"), default=proved)
-    return {"proving": proved - began, "must-fail edits": tried - proved, "programs": ended - tried,
+    proved = max((at for at, what, _ in notes if what == "crate"), default=began)
+    return {"proving": proved - began, "must-fail edits and programs": ended - proved,
             "the rest": now - own[0][0] - (ended - began)}
 
 
 def report(file):
     now, notes = int(time.time()), noted(file)
-    said = {"crate": "proving", "edit": "must-fail"}
-    dear = [(took, f"{said[what]} {name}") for _, what, took, name in notes if what in said]
-    dear += [(end - at, name) for at, end, name in steps(notes, now) if not name.startswith(RT)]
+    dear = [(end - at, name) for at, end, name in steps(notes, now) if not name.startswith(RT)]
     for took, name in sorted(dear, key=lambda step: -step[0])[:10]:
         print(f"{took:5} s  {name}")
     print(", ".join(f"{name} {took // 60} min {took % 60} s" for name, took in totals(notes, now).items()))

@@ -14,7 +14,7 @@ import sys
 
 ROOT = os.path.join(os.path.dirname(os.path.abspath(__file__)), "..")
 MAP = os.path.join(ROOT, "docs", "MAP.md")
-KIT = {"io", "libc", "os", "check", "bytes", "std"}
+KIT = {"std"}
 
 
 def read(*path):
@@ -30,7 +30,7 @@ def groups():
             heading = line[1:].strip()
         elif line.strip():
             name, stands_on = line.split(":")
-            found.setdefault(heading, {})[name.strip()] = stands_on.split()
+            found.setdefault(heading, {})[name.split()[0]] = stands_on.split()  # a static library says so behind its name
     return found
 
 

@@ -1,96 +1,42 @@
 #!/usr/bin/env python3
-"""Says whether every must-fail edit was refused by a fact, and exits 1 if one was not.
+"""Says whether every wrong answer of a must-fail edit that has several is refused by a fact; exits 1 if one is not.
 
-    tools/must_fail.py [FOLDER]   FOLDER: where rt left the edited crates, target/must-fail if none is named
+    tools/must_fail.py [--jobs N] [CRATE..]   all crates where none is named, N of them at a time
 
-An edit states a wrong answer, so what refuses it must be that the answer is wrong: an equation or an inequality that
-fails, a contract of which no proof is found. Where the edited text is refused for a name out of scope, for its syntax,
-its binders or its arguments, the edit says nothing: a right answer in that text would be refused too. rt counts both
-alike, so this reads what the prover said of each: FOLDER/CRATE/LABEL/.log.
-
-An edit may hold several wrong answers, each in a function of its own, so that a crate is checked once for all of them.
-Then each of these functions must be refused by a fact of its own.
-
-Errors that only follow from another are passed over. Of the others there are
-
-  facts      an edit must have one
-  needs      what an operation asks (a cast, a result that must fit) or a call. An edit with no fact beside its need is
-             refused before the contract is reached: a warning for an operation, whose type may have no number for the
-             wrong answer, and a fault for a call
-  the rest   a fault, whatever stands beside it. The prover has many words for a text that doesn't fit, so those for
-             facts are listed here, and the rest is what is not among them
+An edit states a wrong answer, and rt ci sees that it is refused, and that it isn't for a name that is gone or for its
+syntax. But an edit may hold several wrong answers, each in a function of its own, so that a crate is checked once for
+all of them, and rt is content when one of them is refused. So this applies each such edit to a copy of the repository,
+lets rt check the crate there, and reads what was said of each of these functions: a fact must refuse it, that is an
+equation or an inequality that fails, or a part of its contract of which no proof is found. Where the text is refused
+for a name out of scope, for its syntax, its binders or its arguments, it says nothing: a right answer in that text would
+be refused too.
 """
+import argparse
+import concurrent.futures
 import glob
 import os
 import re
+import subprocess
 import sys
+import tempfile
 
-ROOT = os.path.join(os.path.dirname(os.path.abspath(__file__)), "..")
+ROOT = os.path.abspath(os.path.join(os.path.dirname(os.path.abspath(__file__)), ".."))
 
-# Where an error begins: in a file of the crate, or in a proof that rattle made. It goes on in indented lines.
-BEGINS = re.compile(r"(?:(?P<at>\S+:\d+:\d+): error: (?:`(?P<name>[^`]*)`: )?"
-                    r"|note: (?P<made>\S+:\d+:\d+): (?=it is not proved))(?P<said>.*)")
-FOLLOWS = "was not admitted (it has holes or undetermined implicits, or was rejected)"
-CONTRACT = re.compile(r"it is not proved that what the function ensures holds when it returns")
+# Where an error begins: in a proof file of the function. It goes on in indented lines.
+ERROR = re.compile(r"\./proofs/(?P<at>\S+)/\w+\.antt:\d+:\d+: error: (?:`(?P<name>[^`]*)`: )?(?P<said>.*)")
+# What no proof is found of, in the line of a function.
+LINE = re.compile(r"fn (?P<path>\S+): (?P<said>.*)")
+OPEN = re.compile(r"`search` did not prove (.*)")
 FACTS = re.compile("|".join((
     r"(as printed|computed as far as they go), the two (types|sides) ",
     r"expected type `",
-    r"`(search|cc)`: no proof of `",
-    r"`omega`: the (part `\.\w+` of the )?goal does not follow",
+    r"`(search|cc|grind)`: no proof of `",
+    r"`(omega|grind)`: the (part `\.\w+` of the )?goal does not follow",
     r"`(rw|simp)`: no occurrence of the path's left endpoint in the goal",
-    r"give a proof of that as the last argument, `(rw|simp) L t`",
-    r"list the missing equation with its arguments",
-    CONTRACT.pattern)))
-# A type that states nothing, but is that of a value: then the text is what doesn't fit.
-VALUE = re.compile(r"((expected|this has) type|the two types are|\(expected\) and) "
-                   r"`([\w·.]+\.)?(ℕ|ℤ|Bool|List \S+|Type \d)`")
-# The expected type and that found, as far as a first argument with a name.
-ARGUMENT = re.compile(r"expected type `([({]\S+ : )?.*?this has type `([({]\S+ : )?", re.S)
-OPERATION = re.compile(r"`search`: no proof of `\(borrow\.Rule\.|it is not proved that ")
-# What a call asks, searched for in the list of all needs: where an edit adds or takes away one, the list is shifted.
-LISTED = re.compile(r"`search`: no proof of `\S+\.Reads\.Asked ")
-
-
-def errors(folder):
-    """The errors of an edited crate: where, in which declaration, and what was said."""
-    found, last = [], None
-    with open(os.path.join(folder, ".log"), encoding="utf-8", errors="replace") as log:
-        for line in log:
-            begins = BEGINS.match(line)
-            if begins:
-                at = (begins["at"] or begins["made"]).split(folder + "/")[-1]
-                last = [at, begins["name"] or "", begins["said"]]
-                found.append(last)
-            elif last and line.startswith("  "):
-                last[2] += "\n" + line.rstrip()
-            else:
-                last = None
-    return [error for error in found if FOLLOWS not in error[2]]
-
-
-def need_of(folder, at, name):
-    """Whose need a declaration of a proof meets: '' where it is a lemma or a part of the contract."""
-    if name.startswith(("returns", "loop")):
-        return ""
-    with open(os.path.join(folder, at.split(":")[0]), encoding="utf-8") as file:
-        if f"\n{name} : tie.Need-" not in file.read():
-            return ""
-    return "call" if "-requires" in name else "operation"
-
-
-def misfits(said):
-    """Whether a value or a function stands where something else is expected."""
-    begin = None if "the two types differ only where" in said else ARGUMENT.search(said)
-    return bool(VALUE.search(said) or begin and (begin[1] is None) != (begin[2] is None))
-
-
-def kind(folder, at, name, said):
-    first = said.split("\n")[0]
-    if OPERATION.match(first) and not CONTRACT.match(first):
-        return "operation"
-    if not FACTS.match(first) or LISTED.match(first) or misfits(said):
-        return "rest"
-    return need_of(folder, at, name) or "fact"
+    r"list the missing equation with its arguments")))
+# Of the goals that a function leaves open, those that are part of its contract, and not of what an operation or a call
+# asks.
+CONTRACT = re.compile(r"`(returns|loop)")
 
 
 def function_at(text, place):
@@ -99,78 +45,99 @@ def function_at(text, place):
     return names[-1] if names else ""
 
 
-def edited(edit):
-    """The functions that an edit makes wrong, with their files."""
-    found, file = [], ""
-    crate = os.path.dirname(os.path.dirname(edit))
+def applied(crate, edit):
+    """The texts of the files that an edit changes, as it makes them, and the functions that it makes wrong."""
+    texts, wrong, file, old = {}, [], "", ""
     with open(edit, encoding="utf-8") as lines:
         for line in lines.read().splitlines():
             if line.startswith("file: "):
-                file = line[len("file: "):]
-            elif line.startswith("old: ") and file.startswith("src/"):
-                with open(os.path.join(crate, file), encoding="utf-8") as source:
-                    text, old = source.read(), line[len("old: "):]
-                found.append((file, function_at(text, text.find(old) + len(old))))
+                file = line[len("file: "):].strip()
+            elif line.startswith("old: "):
+                old = line[len("old: "):]
+            elif line.startswith("new:"):
+                path = os.path.join(crate, file)
+                if path not in texts:
+                    with open(path, encoding="utf-8") as source:
+                        texts[path] = source.read()
+                text = texts[path]
+                if text.count(old) != 1:
+                    sys.exit(f"{edit}: '{old}' stands in {file} {text.count(old)} times")
+                if file.startswith("src/"):
+                    wrong.append(function_at(text, text.find(old) + len(old)))
+                texts[path] = text.replace(old, line[len("new: "):])
+    return texts, sorted(set(wrong))
+
+
+def refusals(said):
+    """For each function what refused it: 'fact', or else what was said."""
+    found, last = {}, None
+    for line in said.splitlines():
+        if error := ERROR.match(line):
+            last = error["at"].split("/")[-1].lstrip("+")
+            kind = "fact" if FACTS.match(error["said"]) else error["said"][:200]
+        elif (told := LINE.match(line)) and (left := OPEN.search(told["said"])):
+            last = told["path"].split("::")[-1]
+            kind = "fact" if CONTRACT.search(left[1]) else told["said"][:200]
+        else:
+            continue
+        if found.get(last) != "fact":
+            found[last] = kind
     return found
 
 
-def function_of(folder, at):
-    """The source file and function that an error is about: by its proof's folder, or by its line in the source."""
-    file, line = at.split(":")[:2]
-    if file.endswith("/Proof.antt"):
-        parts = file.split("/")[1:-1] # the module, a type if it is a method, the function
-        module = os.path.join("src", parts[0] + ".rt")
-        inside = len(parts) > 1 and os.path.exists(os.path.join(folder, module))
-        return module if inside else os.path.join("src", "lib.rt"), parts[-1]
-    if not file.startswith("src/"):
-        return "", ""
-    with open(os.path.join(folder, file), encoding="utf-8") as source:
-        lines = source.read().splitlines(keepends=True)
-    return file, function_at("".join(lines[:int(line)]), None)
+def tried(copy, crate, edits):
+    """What is to be said of a crate's edits that have several wrong answers."""
+    folder, said = os.path.join(copy, "crates", crate), []
+    for edit in edits:
+        texts, wrong = applied(os.path.join(ROOT, "crates", crate), edit)
+        if len(wrong) < 2:
+            continue
+        was = {}
+        for path, text in texts.items():
+            to = os.path.join(folder, os.path.relpath(path, os.path.join(ROOT, "crates", crate)))
+            with open(to, encoding="utf-8") as file:
+                was[to] = file.read()
+            with open(to, "w", encoding="utf-8") as file:
+                file.write(text)
+        check = subprocess.run(["rt", "check"], cwd=folder, stdout=subprocess.PIPE, stderr=subprocess.STDOUT, text=True,
+                               errors="replace", check=False)
+        for to, text in was.items():
+            with open(to, "w", encoding="utf-8") as file:
+                file.write(text)
+        found = refusals(check.stdout)
+        name = f"{crate}/{os.path.basename(edit)}"
+        alone = [f"{it} ({found.get(it, 'nothing refuses it')})" for it in wrong if found.get(it) != "fact"]
+        if check.returncode == 0 or alone:
+            said.append((name, len(wrong), "FAULT: no fact refuses " + ", ".join(alone or wrong)))
+        else:
+            said.append((name, len(wrong), ""))
+    return said
 
 
-def verdict(folder, wrong):
-    """What is to be said of an edit: '' where a fact refuses it, and else what the error is."""
-    kinds, refused = {}, set()
-    for at, name, said in errors(folder):
-        found = kind(folder, at, name, said)
-        kinds.setdefault(found, f"{at}: {name}: {said.splitlines()[0][:400]}")
-        refused |= {function_of(folder, at)} if found == "fact" else set()
-    alone = [name for file, name in wrong if (file, name) not in refused]
-    if len(wrong) > 1 and alone:
-        return "FAULT: of several wrong answers no fact refuses that of " + ", ".join(alone)
-    if "rest" in kinds:
-        return "FAULT: refused for its text or its list of needs, at " + kinds["rest"]
-    if "fact" in kinds:
-        return ""
-    if "call" in kinds:
-        return "FAULT: refused for what a call asks, at " + kinds["call"]
-    if "operation" in kinds:
-        return "warning: refused for what an operation asks, at " + kinds["operation"]
-    return "FAULT: no error is named"
+def main():
+    parser = argparse.ArgumentParser(description=__doc__, formatter_class=argparse.RawDescriptionHelpFormatter)
+    parser.add_argument("--jobs", type=int, default=os.cpu_count() or 1)
+    parser.add_argument("crates", nargs="*")
+    args = parser.parse_args()
+    edits = {}
+    for edit in sorted(glob.glob(os.path.join(ROOT, "crates", "*", "must-fail", "*.edit"))):
+        crate = edit.split(os.sep)[-3]
+        if not args.crates or crate in args.crates:
+            edits.setdefault(crate, []).append(edit)
+    with tempfile.TemporaryDirectory(prefix="must-fail-") as room:
+        copy = os.path.join(room, "repository")
+        os.makedirs(os.path.join(copy, ".git"))
+        for name in ("crates", "crates.txt", "HANDLES"):
+            subprocess.run(["cp", "-a", os.path.join(ROOT, name), copy], check=True)
+        with concurrent.futures.ThreadPoolExecutor(args.jobs) as pool:
+            said = [one for some in pool.map(lambda it: tried(copy, it, edits[it]), edits) for one in some]
+    for name, _, fault in said:
+        if fault:
+            print(f"must-fail {name}: {fault}")
+    faults = sum(bool(fault) for _, _, fault in said)
+    print(f"edits with several wrong answers: {len(said)}, with {sum(n for _, n, _ in said)} wrong functions; "
+          f"faults {faults}")
+    sys.exit(1 if faults or not said and not args.crates else 0)
 
 
-def source_of(edit, folder):
-    """The text of an edit, beside its crate."""
-    crate, label = os.path.relpath(edit, folder).split(os.sep)
-    return os.path.join(ROOT, "crates", crate, "must-fail", label + ".edit")
-
-
-def main(args):
-    if len(args) > 1:
-        sys.exit(__doc__)
-    folder = os.path.abspath(args[0] if args else os.path.join(ROOT, "target", "must-fail"))
-    edits = sorted(os.path.dirname(log) for log in glob.glob(os.path.join(folder, "*", "*", ".log")))
-    answers = [edited(source_of(edit, folder)) for edit in edits]
-    verdicts = [(os.path.relpath(edit, folder), verdict(edit, wrong)) for edit, wrong in zip(edits, answers)]
-    for edit, said in verdicts:
-        if said:
-            print(f"must-fail {edit}: {said}")
-    faults = sum(said.startswith("FAULT") for _, said in verdicts)
-    by_fact = sum(not said for _, said in verdicts)
-    tried = sum(max(1, len(wrong)) for wrong in answers)
-    print(f"must-fail edits: {len(edits)} with {tried} wrong answers, refused by a fact {by_fact}, faults {faults}")
-    sys.exit(1 if faults or not edits else 0)
-
-
-main(sys.argv[1:])
+main()

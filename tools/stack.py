@@ -58,7 +58,7 @@ def moved(name, operation, operands):
     """By how much an instruction lowers the stack pointer."""
     if operation.startswith("push"):
         return 8
-    if operation.startswith("pop"):
+    if operation.startswith("pop") and not operation.startswith("popcnt"):
         return -8
     if operation in ("leave", "enter") or operands.endswith(",%esp"):
         fail(f"{name}: {operation} {operands} moves the stack pointer in a way that is not followed")

@@ -42,7 +42,7 @@ x86_cargo() {
 }
 
 # Debian's standard library for x86-64 is unpacked and not installed, and apt gets lists of its own for it: so the
-# machine need not take packages of a second architecture. rt ci removes target/, so this comes behind it.
+# machine need not take packages of a second architecture.
 unpack_std() {
   [ -d "$x86/std" ] && return
   local package=libstd-rust-dev apt=(apt-get -qq -o APT::Architecture=amd64 -o APT::Architectures=amd64

@@ -58,7 +58,7 @@ tries 0 audit samples/instructions.pair
 ends "slots 10"
 
 tries 0 log "$pair"
-shows crates/log/stdout
+shows crates/raw_log/stdout
 
 # ---- find: a file, a directory, no such name, and names that begin with a dash or are no plain text
 many=samples/instructions.pair
@@ -191,19 +191,24 @@ for help in help --help -h "list --help" "lib -h"; do
   [[ $(cat "$scratch/out") == "usage: ./lanolin "*--littlefs* ]] || fail "does not say how it is used"
 done
 
-# ---- stubs: programs that say what they are told and how much they are given, an rt that notes its words, and an
-# apt-get that no one may call
+# ---- stubs: programs that say what they are told and how much they are given, an rt that notes its words and where it
+# is asked, and an apt-get that no one may call
 tree=$scratch/tree tools=$scratch/tools
-mkdir -p "$tree/target/bin" "$tree/.ci" "$tools"
+for crate in list find audit raw_log lanolin; do mkdir -p "$tree/crates/$crate/out"; done
+mkdir -p "$tree/.ci" "$tools"
 cp "$door" "$tree"
 door=$tree/lanolin path=$tools
-for tool in bash cat dd dirname env mktemp readlink rm sed tail tee wc; do ln -s "$(command -v $tool)" "$tools"; done
+for tool in bash cat cp dd dirname env grep mkdir mktemp readlink rm sed tail tee wc; do ln -s "$(command -v $tool)" "$tools"; done
 # stub FILE COMMAND: a program that does this
 stub() { printf '#!/usr/bin/env bash\n%s\n' "$2" >"$1" && chmod +x "$1"; }
-program() { for command in list find audit log; do stub "$tree/target/bin/$command" "$1"; done; }
+program() { for crate in list find audit raw_log; do stub "$tree/crates/$crate/out/$crate" "$1"; done; }
 stub "$tools/uname" 'echo x86_64'
 stub "$tools/apt-get" "echo >$scratch/installed"
-stub "$tools/rt" "echo \"\$*\" >>$scratch/asked; echo 'rt: format proved (12 s)'"
+stub "$tools/rt" "echo \"\${PWD##*/} \$*\" >>$scratch/asked
+echo 'rt: chose --jobs 2 for format' >&2
+echo \"rt: running out/\${PWD##*/}; to give it other input, run that file yourself\" >&2
+echo 'logic=proved functions=52 sum=0'"
+touch "$tree/crates/lanolin/out/liblanolin.a"
 stub "$tree/.ci/run" 'exit 7'
 
 # told COMMAND WORDS BYTES ARGUMENTS..: what the program is told and given
@@ -213,11 +218,11 @@ told() {
 }
 program "echo \"told '\$*', given \$(wc -c)\""
 told log "" 256 "$pair"
-says "proved format (12 s)"
+says "proving format"
 told log "--full" 256 "$pair" --full
 told log "8 0 1" 256 --prog-size 8 "$pair"
 told log "--full 16 4 7" 256 --full --block-size 128 --pair 4,7 "$volume"
-[ "$(sort -u "$scratch/asked")" = "check log" ] || fail "asks rt otherwise: $(cat "$scratch/asked")"
+[ "$(sort -u "$scratch/asked")" = "raw_log run" ] || fail "asks rt otherwise: $(cat "$scratch/asked")"
 told list "" 256 "$pair"
 told list "16 0 1 1" 256 --littlefs "$pair"
 told audit "8 0 1 1" 256 "$pair" --prog-size 8 --littlefs
@@ -255,9 +260,9 @@ tries 1 log "$pair"
 says "neither block"
 lacks "lanolin log"
 tries 0 lib
-says "proved format (12 s)"
+says "proving format"
 grep -qF -- "-I$tree/include controller.c $tree/target/staticlib/liblanolin.a" "$scratch/out" || fail "says no link"
-[ "$(tail -n 1 "$scratch/asked")" = "staticlib lanolin" ] || fail "asks rt otherwise: $(cat "$scratch/asked")"
+[ "$(tail -n 1 "$scratch/asked")" = "lanolin lib" ] || fail "asks rt otherwise: $(cat "$scratch/asked")"
 tries 7 test # the gate's own
 
 # ---- what can't be built or run

@@ -2,7 +2,7 @@
 """Lists every pair of samples/real or samples/zero by littlefs's rule: record, slots and user attributes must be what
 the littlefs that wrote the pairs shows (shown.txt; real/README.md has its lines).
 
-    tests/listing/real.py samples/real target/bin/list      prints each difference and exits 1, or one line with what
+    tests/listing/real.py samples/real crates/list/out/list      prints each difference and exits 1, or one line with what
                                                             was compared
 
 A struct is listed with its length: of inline data that is the size, of a directory or a CTZ list it is 8.

@@ -2,10 +2,10 @@
 """Runs the listing program, or the audit, on each case of a file, and shows its texts as samples/make_listings.py
 writes the expected ones. The words behind the program are its arguments, of which the fourth number is the rule.
 
-    tests/listing/run.py samples/listings/cases target/bin/list | diff - samples/listings/expected
-    tests/listing/run.py samples/listings/cases target/bin/audit | diff - samples/listings/audited
-    tests/listing/run.py samples/listings/cases target/bin/list 16 0 1 1 | diff - samples/listings/expected-littlefs
-    tests/listing/run.py samples/listings/cases target/bin/audit 16 0 1 1 | diff - samples/listings/audited-littlefs
+    tests/listing/run.py samples/listings/cases crates/list/out/list | diff - samples/listings/expected
+    tests/listing/run.py samples/listings/cases crates/audit/out/audit | diff - samples/listings/audited
+    tests/listing/run.py samples/listings/cases crates/list/out/list 16 0 1 1 | diff - samples/listings/expected-littlefs
+    tests/listing/run.py samples/listings/cases crates/audit/out/audit 16 0 1 1 | diff - samples/listings/audited-littlefs
 """
 import subprocess
 import sys

@@ -1,24 +1,23 @@
 -- The entry of a slot, as the code finds it: its newest name, whether `lfs_dir_getinfo` sees one, and its struct.
 -- Assumes nothing.
-use mathlib.Core.Path.{◌≡◌, refl, sym, ap, ap₂, ◌∙◌}
-use mathlib.Core.Logic.{◌⊎◌, inl, inr}
-use mathlib.Core.Bool.{Bool, true, false, not, ◌&&◌}
+use mathlib.Core.Path.{◌≡◌, refl, sym, ap, ◌∙◌}
+use mathlib.Core.Logic.{inl, inr}
+use mathlib.Core.Bool.{Bool, true, false, ◌&&◌}
 use mathlib.Core.Option.{Option, none, some}
 use mathlib.Core.List.{List, [], ◌∷◌, ◌++◌}
 use Prim.Native.Nat.{ℕ, ◌≤◌, ◌<◌}
 use native.Mathlib.Omega.{arith}
 use lib.ListN.{length, drop}
 use lib.Dec.{leb, ltb}
-use borrow.Author.Tests.{not-true, eq-eqb, ne_eqb}
+use borrow.Author.Tests.{ne_eqb}
 use Rattle.format.specs.Word.{le32}
 use Rattle.format.specs.Tag.{tag_type3, mk_tag, tag_of}
 use Rattle.format.specs.Kind.{type_dir_struct}
-use Rattle.format.specs.Log.{log}
 use Rattle.format.specs.Back.{back}
 use Rattle.format.specs.Look.{mask_type1, bytes_of, FoundIn, wlook}
-use Rattle.format.specs.Lookup.{name_mask, name_key, struct_mask, struct_key, slice_buffer, blank_buffer, info_size, info_of}
+use Rattle.format.specs.Lookup.{name_mask, name_key, struct_key, slice_buffer, blank_buffer, info_size, info_of}
 use Rattle.format.specs.Lookup.{read_answer, read_buffer}
-use Rattle.format.specs.Directory.{Load, dir_of}
+use Rattle.format.specs.Directory.{Load}
 use Rattle.format.specs.Listing.{ascii, decimal, number_line, name_fields}
 use Rattle.format.specs.Tree.{node_of, into_of, line_text}
 use Rattle.format.specs.TreeMachine.{hidden}
@@ -33,7 +32,7 @@ use Rattle.lookup.proofs.Moves.{tag_made}
 use Rattle.text.specs.Put.{Text, puts_of}
 use Rattle.text.proofs.Joined.{join, puts_none}
 use Rattle.tree_theory.specs.Nodes.{padded_word, eight_bytes, read_found, node_both}
-use Rattle.tree_theory.specs.OnBlock.{newest_hit, named_hit, struct_hit, info_at, slot_at, Regularly, end_inside, hit_inside}
+use Rattle.tree_theory.specs.OnBlock.{newest_hit, named_hit, struct_hit, slot_at, end_inside, hit_inside}
 use Rattle.tree_theory.specs.OnBlock.{newest_held, struct_held, named_newest}
 use Rattle.tree_pair.specs.Pair.{Slotted, load_at, Sees, NameSeen, node_at, line_of, Shows, EntryIn}
 use Rattle.tree_pair.specs.Pair.{entry_text}
@@ -98,10 +97,10 @@ module _ (b : List ℕ) (end etag id : ℕ) (s : Slotted b end etag id) where
         }
 
         -- x is whether it is hidden
-        pub name_plain : (x : Bool) → x ≡ hidden (tag_type3 e.tag) → not x ≡ true → Sees b N (slot_at b id 0) e
+        pub name_plain : (x : Bool) → x ≡ hidden (tag_type3 e.tag) → x ≡ false → Sees b N (slot_at b id 0) e
         name_plain x ex n =
             let f = found_held b N (load_at b e) (named_newest b end etag s.regularly id s.low (load_at b e)
-            (sym held ∙ sym (there b h q)) (sym ex ∙ not-true x n)) in
+            (sym held ∙ sym (there b h q)) (sym ex ∙ n)) in
             sees f.0 f.1
 
         -- the second search, h2

@@ -1,10 +1,9 @@
 -- A pair is opened: fetch's own refusals, -202, or the directory there. Assumes nothing.
 use mathlib.Core.Path.{◌≡◌, sym, ap, ◌∙◌}
-use mathlib.Core.Bool.{Bool, true, false, not}
+use mathlib.Core.Bool.{Bool, true, false}
 use mathlib.Core.List.{List}
 use Prim.Native.Nat.{ℕ, ◌<◌}
 use native.Mathlib.Omega.{arith}
-use borrow.Author.Tests.{not-true, not-false}
 use Rattle.format.specs.Log.{log}
 use Rattle.format.specs.Regular.{Regular, rules_of}
 use Rattle.format.specs.Volume.{blocks_in, block_in, fetch_in}
@@ -48,9 +47,9 @@ module _ (g : Geometry) (vol : List ℕ) (rules : ℕ) (p : LfsPair) where
         ruled = ap (λ (z : Rules). Regular z (log (block_in g vol m.pair.n0))) (sym asked)
             ∙ ap (λ (z : List ℕ). Regular q (log z)) (sym eb) ∙ sym ex
 
-        pub open_irregular : not x ≡ true → open_in (rules_of rules) g vol p ≡ refused Irregular
+        pub open_irregular : x ≡ false → open_in (rules_of rules) g vol p ≡ refused Irregular
         unfolding open_in
-        open_irregular h = rw (← f, ruled ∙ not-true x h)
+        open_irregular h = rw (← f, ruled ∙ h)
 
         -- what the code keeps of it
         abbrev dir : Dir
@@ -63,10 +62,10 @@ module _ (g : Geometry) (vol : List ℕ) (rules : ℕ) (p : LfsPair) where
           tail = m.tail;
         }
 
-        pub open_regular : not x ≡ false → Opens g vol (open_in (rules_of rules) g vol p) (opening.At dir)
+        pub open_regular : x ≡ true → Opens g vol (open_in (rules_of rules) g vol p) (opening.At dir)
         unfolding open_in
         open_regular h =
-            let is : Regular (rules_of rules) (log (block_in g vol m.pair.n0)) ≡ true = ruled ∙ not-false x h in
+            let is : Regular (rules_of rules) (log (block_in g vol m.pair.n0)) ≡ true = ruled ∙ h in
             let wide : Regular Littlefs (log (block_in g vol m.pair.n0)) ≡ true = widest (rules_of rules) _ is in (
               rw (← f, is, nodes_there g vol p m s (sym f) wide),
               record {

@@ -8,7 +8,7 @@ use Rattle.format.specs.Directory.{Load, Slot, empty, dir_of}
 use Rattle.format.specs.Regular.{Regular}
 use Rattle.format.specs.Machine.{machine_of}
 use Rattle.format.specs.Volume.{fetch_in}
-use Rattle.format.specs.Tree.{Node, node_of, nodes_from, info_in, holding, open_in}
+use Rattle.format.specs.Tree.{Node, node_of, nodes_from, holding, open_in}
 use Rattle.format.specs.TreeMachine.{hidden, uncovered, slot_node, slot_nodes, machine_opened}
 use Rattle.format.specs.declared.Geometry.{Geometry}
 use Rattle.format.specs.declared.LfsPair.{LfsPair}
@@ -21,7 +21,7 @@ use Rattle.tree_theory.specs.Covered.{visible}
 use Rattle.tree_theory.specs.Nodes.{node_seen, node_seen_lem}
 use Rattle.tree_theory.specs.OnBlock.{named_hit, struct_hit, info_at, slot_at, Regularly, hit_inside, struct_held}
 use Rattle.tree_theory.specs.OnBlock.{named_visible}
-use Rattle.tree_theory.specs.InVolume.{answering, There, there, on_block, nodes_there}
+use Rattle.tree_theory.specs.InVolume.{answering, there, on_block, nodes_there}
 
 seen_slot : (v w : Option Load) → node_seen (visible v) v w ≡ slot_node v w
 unfolding node_seen slot_node

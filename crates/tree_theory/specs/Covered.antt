@@ -1,18 +1,16 @@
 -- The names that `lfs_dir_getinfo` sees, by the directory machine: of a slot whose newest name is hidden it sees an
 -- older one, if there is any. So a superblock's name may cover another; where none does, it sees the newest name or
 -- none. Assumes nothing.
-use Rattle.std.specs.Prelude.{◌≡◌, ◌≢◌, ◌⊎◌, Bool, not, cond, ◌&&◌, ◌||◌, List, [], ◌∷◌, ◌++◌, map, ℕ, suc, ◌+◌, ◌-◌, ◌≤◌, ◌<◌, length, take, drop, get_or, eqb, leb}
+use Rattle.std.specs.Prelude.{◌≡◌, ◌≢◌, Bool, not, cond, ◌&&◌, List, [], ◌∷◌, map, ℕ, suc, ◌+◌, ◌-◌, ◌≤◌, ◌<◌, length, get_or, eqb, leb}
 use Rattle.std.proofs.Math.Path.{refl}
-use Rattle.std.proofs.Common.{sym, ap, ap₂, ◌∙◌, inl, inr, arith, length-append, length-take, length-drop, eqb-true, leb-true, leb-false}
+use Rattle.std.proofs.Common.{sym, ap, ◌∙◌, inl, arith, length-append, length-take, length-drop, eqb-true, leb-true, leb-false}
 use Rattle.std.proofs.Math.Bool.{true, false}
 use Rattle.std.proofs.Math.Option.{Option, none, some}
 use Rattle.std.proofs.lemmas.Bool.{eqb-false}
-use Rattle.format.specs.Tag.{tag_type3, tag_chunk, tag_id, tag_delete}
-use Rattle.format.specs.Kind.{is_name, type_create, type_delete}
-use Rattle.format.specs.Directory.{Load, Slot, Act, mk, rm, put, skip, empty, apply, dir, is_struct, is_attr, load_of, act}
+use Rattle.format.specs.Directory.{Load, Slot, Act, mk, rm, put, skip, empty, apply, dir}
 use Rattle.format.specs.TreeMachine.{hidden, named, uncovered_in}
 use Rattle.theory.specs.Walk.Step.{both_true}
-use Rattle.theory.specs.Directory.Machine.{most_slots, find, grows_behind, still_grows, Allowed, AllAllowed, Inside}
+use Rattle.theory.specs.Directory.Machine.{find, grows_behind, still_grows, Allowed, AllAllowed, Inside}
 use Rattle.theory.specs.Directory.Machine.{length_put, inside_put, inside_there, length_ins, length_del, find_dir}
 use Rattle.theory.specs.Lookup.ByMask.{FewBack}
 use Rattle.theory.specs.Lookup.Masks.{and_no}
@@ -151,8 +149,8 @@ find_visible (put j c (some u) ∷ l) i v e h = go (hidden u.type) refl (λ q. f
         )
     under false eb q = q
 
-    there : (b : Bool) → cond b (some u) (find 0 i l) ≡ some v → (find 0 i l ≡ some v → find 0 i (map veiled l)
-    ≡ some v)
+    there : (b : Bool) → cond b (some u) (find 0 i l) ≡ some v
+        → (find 0 i l ≡ some v → find 0 i (map veiled l) ≡ some v)
         → cond b (some u) (find 0 i (map veiled l)) ≡ some v
     there true q ih = q
     there false q ih = ih q

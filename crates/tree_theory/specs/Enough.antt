@@ -1,8 +1,8 @@
 -- The number n of `dir_walk` decides nothing: with every one above the allowance the walk is the same, and it leaves no
 -- more than it was given. Assumes nothing.
-use Rattle.std.specs.Prelude.{◌≡◌, Bool, ◌++◌, ltb}
+use Rattle.std.specs.Prelude.{◌≡◌, Bool, ltb}
 use Rattle.std.proofs.Math.Path.{refl, ap}
-use Rattle.std.proofs.Common.{sym, ◌∙◌, arith}
+use Rattle.std.proofs.Common.{◌∙◌, arith}
 use Rattle.std.proofs.Math.Bool.{true, false, cond}
 use Prim.Native.Nat.{ℕ, zero, suc, ◌-◌, ◌≤◌, ◌<◌}
 use Rattle.std.proofs.Math.Dec.{eqb}

@@ -27,7 +27,7 @@ use Rattle.format.specs.declared.Informed.{Informed}
 use Rattle.format.specs.declared.Fetched.TheVariants.{Found}
 use Rattle.theory.proofs.Compact.AcceptedVerdict.{slots_few}
 use Rattle.theory.specs.Fetch.FoundRecord.{past_test}
-use Rattle.theory.specs.Fetch.FoundBlock.{Sized, Reads, found_sized, found_reads}
+use Rattle.theory.specs.Fetch.FoundBlock.{found_sized, found_reads}
 use Rattle.theory.specs.Fetch.Places.{block_length}
 use Rattle.theory.proofs.Stopped.Shown.{found_tested, block_is}
 use Rattle.tree_theory.specs.OnBlock.{info_at, Regularly, end_inside}

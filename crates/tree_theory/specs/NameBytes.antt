@@ -1,12 +1,12 @@
 -- All names of a directory together have no more bytes than the block that it was read from: each live name stands in
 -- the log, in an entry of its own. Assumes nothing.
 use Rattle.std.specs.Prelude.{◌≡◌, refl, Bool, true, false, cond, List, [], ◌∷◌, ◌++◌, ℕ, zero, suc, ◌+◌, ◌-◌, ◌≤◌, ◌<◌, length, take, drop, get_or, set, replicate, eqb}
-use Rattle.std.proofs.Common.{sym, ap, ◌∙◌, arith}
+use Rattle.std.proofs.Common.{ap, ◌∙◌, arith}
 use Rattle.std.proofs.Math.Option.{Option, none, some}
 use Rattle.format.specs.Tag.{tag_type3, tag_chunk, tag_id, tag_delete, tag_length}
 use Rattle.format.specs.Kind.{is_name, is_wide, type_create, type_delete}
 use Rattle.format.specs.Walk.{Event, body_length, ent, chk, inv}
-use Rattle.format.specs.Log.{log, log_end, event_length, span}
+use Rattle.format.specs.Log.{log, event_length, span}
 use Rattle.format.specs.Directory.{Load, Slot, Act, mk, rm, put, skip, empty, upd, reaching, apply, apply_all, is_struct}
 use Rattle.format.specs.Directory.{is_attr, load_of, act, acts, dir, dir_of}
 use Rattle.format.specs.Regular.{Regular}

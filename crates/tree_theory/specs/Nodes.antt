@@ -1,20 +1,17 @@
 -- The entry of a slot, from what the lookups find: where `lfs_dir_getinfo` sees a name, and there is a struct, the
 -- entry has the newest name and the struct's size. Assumes nothing.
-use Rattle.std.specs.Prelude.{◌≡◌, refl, Bool, true, false, cond, List, [], ◌∷◌, ◌++◌, ℕ, zero, suc, ◌+◌, ◌-◌, ◌^◌, ◌≤◌, ◌<◌, take, drop, get_or, replicate, leb, eqb}
+use Rattle.std.specs.Prelude.{◌≡◌, refl, List, [], ◌∷◌, ◌++◌, ℕ, zero, suc, ◌+◌, ◌-◌, ◌≤◌, ◌<◌, take, drop, get_or, replicate}
 use Rattle.std.proofs.Math.Path.{sym, ap}
-use Rattle.std.proofs.Common.{ap₂, ◌∙◌, arith, get_or-drop, le-leb}
+use Rattle.std.proofs.Common.{◌∙◌, arith, get_or-drop, le-leb}
 use Rattle.std.proofs.Math.Option.{Option, none, some}
 use Rattle.std.proofs.Math.Nat.{min-le_left}
 use Rattle.std.proofs.Math.ListN.{length}
 use Rattle.format.specs.Word.{le32}
-use Rattle.format.specs.Tag.{tag_type3, tag_size, removal_size, tag_of}
-use Rattle.format.specs.Kind.{type_inline_struct, type_ctz_struct}
-use Rattle.format.specs.Record.{pair_in}
+use Rattle.format.specs.Tag.{tag_type3, tag_size}
 use Rattle.format.specs.Look.{data_size, bytes_of, FoundIn, HitIn}
-use Rattle.format.specs.Lookup.{slice_end, slice_answer, slice_buffer, blank_buffer, info_size, info_from, info_of, read_answer}
+use Rattle.format.specs.Lookup.{slice_end, slice_buffer, blank_buffer, info_size, info_from, info_of, read_answer}
 use Rattle.format.specs.Lookup.{read_buffer}
 use Rattle.format.specs.Directory.{Load}
-use Rattle.format.specs.Machine.{held_buffer}
 use Rattle.format.specs.Tree.{Node, into_of, node_of}
 use Rattle.format.specs.TreeMachine.{struct_size}
 use Rattle.format.specs.declared.Found.{Found}

@@ -1,7 +1,7 @@
 -- The lookups of a slot on a block that was fetched from, whose log is regular: its newest name and its struct, and the
 -- two lookups of `lfs_dir_getinfo`. Assumes nothing.
 use Rattle.std.specs.Prelude.{◌≡◌, refl, ◌≢◌, true, false, List, [], ℕ, ◌≤◌, ◌<◌, length, get_or}
-use Rattle.std.proofs.Common.{◌∙◌, arith, lt-ltb}
+use Rattle.std.proofs.Common.{arith, lt-ltb}
 use Rattle.std.proofs.Math.Option.{some}
 use Rattle.format.specs.Tag.{tag_of}
 use Rattle.format.specs.Log.{log, log_end, log_end_tag}

@@ -1,11 +1,11 @@
 -- A walk rests on what stands at its pairs and on nothing else: where that is the same, so is the walk. It is asked of
 -- the pairs of a set that the walk does not leave: with each pair it has those that it names. Assumes nothing.
-use Rattle.std.specs.Prelude.{◌≡◌, Bool, true, false, eqb, ltb}
+use Rattle.std.specs.Prelude.{◌≡◌, eqb, ltb}
 use Rattle.std.proofs.Math.Path.{refl, ap}
 use Rattle.std.proofs.Common.{◌∙◌}
 use Rattle.std.proofs.Math.Bool.{cond}
 use Prim.Native.Nat.{ℕ, zero, suc, ◌-◌}
-use Rattle.format.specs.Tree.{Opened, Walk, stopped, behind, and_then, walk_opened, deepest, dir_walk}
+use Rattle.format.specs.Tree.{Opened, stopped, behind, deepest, dir_walk}
 use Rattle.format.specs.declared.LfsPair.{LfsPair}
 use Rattle.format.specs.declared.Refusal.TheVariants.{Spent, TooDeep}
 use Rattle.tree_theory.specs.Walks.{Names, Related, opened_alike}

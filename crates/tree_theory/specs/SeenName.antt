@@ -1,14 +1,13 @@
 -- The lookup of `lfs_dir_getinfo` for a name, on the bytes of a block with a regular log: it finds the name that the
 -- directory machine has where hidden names are veiled. Assumes nothing.
-use Rattle.std.specs.Prelude.{◌≡◌, refl, ◌≢◌, Bool, false, cond, ◌&&◌, ℕ, suc, ◌+◌, ◌-◌, ◌^◌, ◌≤◌, ◌<◌, get_or, eqb, leb, ltb}
-use Rattle.std.proofs.Common.{sym, ap₂, ◌∙◌, inl, eqb-true, ne_eqb, leb-true}
+use Rattle.std.specs.Prelude.{◌≡◌, refl, ◌≢◌, Bool, false, cond, ℕ, ◌+◌, ◌^◌, ◌≤◌, ◌<◌, get_or, eqb, leb, ltb}
+use Rattle.std.proofs.Common.{sym, ap₂, ◌∙◌, inl, ne_eqb, leb-true}
 use Rattle.std.proofs.Math.Path.{ap}
 use Rattle.std.proofs.Math.Bool.{true}
 use Rattle.std.proofs.Math.Option.{Option, none, some}
 use mathlib.Core.List.{List, [], ◌∷◌, reverse, reverse_aux, map}
 use native.Mathlib.Omega.{arith}
 use Rattle.std.proofs.Math.ListN.{length}
-use Rattle.std.proofs.lemmas.Bool.{eqb-false}
 use Rattle.format.specs.Word.{minus32}
 use Rattle.format.specs.Tag.{tag_type3, tag_chunk, tag_id, tag_size, removal_size, tag_delete, tag_of}
 use Rattle.format.specs.Kind.{type_name, type_create, type_delete, is_name}
@@ -17,22 +16,21 @@ use Rattle.format.specs.Log.{log, log_end, log_end_tag}
 use Rattle.format.specs.Back.{Met, back}
 use Rattle.format.specs.Look.{bytes_of, wlook}
 use Rattle.format.specs.Lookup.{name_mask}
-use Rattle.format.specs.Directory.{Load, Slot, Act, mk, rm, put, skip, empty, dir, dir_of, is_struct, is_attr, load_of, act}
+use Rattle.format.specs.Directory.{Load, Act, mk, rm, put, skip, empty, dir_of, is_struct, is_attr, load_of, act}
 use Rattle.format.specs.Directory.{acts}
-use Rattle.format.specs.Regular.{Rule, rule_of, between, rule_holds, count_after, grows_after, count_raised, logged_rule}
+use Rattle.format.specs.Regular.{Rule, between, rule_holds, count_after, grows_after, logged_rule}
 use Rattle.format.specs.Regular.{count_at, regular_from, Regular, create, delete, name, inlined, eight, attribute, tail}
 use Rattle.format.specs.Regular.{move, forward, bad}
 use Rattle.format.specs.declared.Rules.TheVariants.{Littlefs}
 use Rattle.format.specs.declared.Hit.{Hit}
-use Rattle.format.specs.TreeMachine.{hidden, uncovered_in, uncovered}
+use Rattle.format.specs.TreeMachine.{hidden, uncovered}
 use Rattle.format.proofs.Tags.{of_type3, of_size, of_valid}
 use Rattle.theory.specs.Walk.Step.{both_true}
-use Rattle.theory.specs.Directory.Machine.{most_slots, find, Inside, find_dir}
+use Rattle.theory.specs.Directory.Machine.{most_slots, find, find_dir}
 use Rattle.theory.specs.Directory.Types.{act_name, act_struct, act_attr, act_create, act_delete, act_other}
-use Rattle.theory.specs.Back.EventBytes.{Stands, log_stands}
-use Rattle.theory.specs.Back.BackActs.{bytes_at, seen_as, seen}
+use Rattle.theory.specs.Back.BackActs.{bytes_at, seen_as}
 use Rattle.theory.specs.Rules.RuledEntry.{Says, rule_says}
-use Rattle.theory.specs.Lookup.ByMask.{Shapes, seen_by, ShapesBy, holds_as, holds, Answers, wlook_by, bytes_alike}
+use Rattle.theory.specs.Lookup.ByMask.{Shapes, seen_by, ShapesBy, holds_as, wlook_by, bytes_alike}
 use Rattle.theory.specs.Lookup.OnBlock.{Searchable, regular_searchable, BackFrom, block_back}
 use Rattle.theory.specs.Commit.Tested.{regular_log}
 use Rattle.tree_theory.specs.Veiled.{veil, veil_not, veil_act, hidden_between, query_seen, veil_shape}
@@ -63,9 +61,9 @@ unfolding veiled act
 seen_as_it_is t x h =
     go (is_name t) (is_struct t) (is_attr t) (eqb (tag_type3 t) type_create) (eqb (tag_type3 t) type_delete)
   where
-    go : (n s a c r : Bool) → (let b : Act = cond n (put (tag_id t) 0 (load_of t x)) (cond s (put (tag_id t) 1
-    (load_of t x))
-        (cond a (put (tag_id t) (2 + tag_chunk t) (load_of t x)) (cond c (mk (tag_id t)) (cond r (rm (tag_id t)) skip)))) in
+    go : (n s a c r : Bool) → (let b : Act = cond n (put (tag_id t) 0 (load_of t x))
+        (cond s (put (tag_id t) 1 (load_of t x)) (cond a (put (tag_id t) (2 + tag_chunk t) (load_of t x))
+        (cond c (mk (tag_id t)) (cond r (rm (tag_id t)) skip)))) in
         b ≡ veiled b)
     go true s a c r = not_veiled t x (tag_id t) 0 h
     go false true a c r = not_veiled t x (tag_id t) 1 h
@@ -134,8 +132,11 @@ all_kept (ent t d ∷ es) g c h =
       rule_kept R (count_at g c t) t d (rule_says (tag_type3 t) true) r.0,
       all_kept es (grows_after g R) (count_after R (count_at g c t)) r.1,
     )
-all_kept (chk t x ∷ es) g c h = (tt, all_kept es g c (both_true (between 4 1_022 (tag_size t))
-    (regular_from g c es) h).1)
+all_kept (chk t x ∷ es) g c h = (
+  tt,
+  all_kept es g c (both_true (between 4 1_022 (tag_size t))
+      (regular_from g c es) h).1,
+)
 all_kept (inv ∷ es) g c h = all_kept es g c h
 
 kept_rev : (l r : List Act) → AllKept l → AllKept r → AllKept (reverse_aux l r)

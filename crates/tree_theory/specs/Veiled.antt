@@ -1,21 +1,20 @@
 -- `lfs_dir_getinfo` looks for a name under 0x780, and so passes over those of the types 0x080 to 0x0ff: in a regular
 -- log the superblock's. Its lookup is the one under 0x700 in a log where each such name is taken for a user attribute
 -- of its slot, "veiled": it makes its slot, and is no name. Assumes nothing.
-use Rattle.std.specs.Prelude.{◌≡◌, refl, ◌≢◌, Bool, true, false, not, cond, ◌&&◌, List, [], ◌∷◌, map, ℕ, ◌+◌, ◌-◌, ◌*◌, ◌/◌, ◌%◌, ◌^◌, ◌≤◌, ◌<◌, length, eqb, leb, ltb}
+use Rattle.std.specs.Prelude.{◌≡◌, refl, Bool, true, false, cond, ◌&&◌, List, ℕ, ◌+◌, ◌*◌, ◌/◌, ◌%◌, ◌^◌, ◌≤◌, ◌<◌, eqb, leb, ltb}
 use Rattle.std.proofs.Common.{sym, ap, ap₂, ◌∙◌, arith, eq-eqb, ne_eqb, leb-true, leb-false, ltb-true, ltb-false}
-use Rattle.std.proofs.Math.Option.{Option, none, some}
 use Rattle.std.specs.Int.Bits.{bit_and}
 use Rattle.std.proofs.lemmas.Nat.{and_block, and_mask}
 use Rattle.std.proofs.lemmas.Nat.Bits.{and_high}
 use Rattle.std.proofs.Math.Pow.{split}
-use Rattle.format.specs.Tag.{tag_type1, tag_type2, tag_type3, tag_chunk, tag_id, tag_size, tag_delete, tag_of}
-use Rattle.format.specs.Kind.{type_name, is_splice, no_slot}
+use Rattle.format.specs.Tag.{tag_type1, tag_type2, tag_type3, tag_chunk, tag_id, tag_size, tag_of}
+use Rattle.format.specs.Kind.{type_name}
 use Rattle.format.specs.Lookup.{name_mask}
 use Rattle.format.specs.TreeMachine.{hidden}
-use Rattle.format.specs.Directory.{Load, Act, mk, rm, put, skip, act, load_of}
-use Rattle.format.proofs.Tags.{of_type1, of_type2, of_type3, of_chunk, of_id, of_size}
+use Rattle.format.specs.Directory.{Act, mk, rm, put, skip, act, load_of}
+use Rattle.format.proofs.Tags.{of_type2, of_type3, of_chunk, of_id}
 use Rattle.theory.specs.Walk.Step.{both_true}
-use Rattle.theory.specs.Directory.Types.{type1_of, type2_of, act_name, act_attr, not_splice}
+use Rattle.theory.specs.Directory.Types.{type1_of, type2_of, act_name, act_attr}
 use Rattle.theory.specs.Lookup.Masks.{QueryBy, hit_act, fields, type1_hit, and_no, query_name}
 use Rattle.theory.specs.Lookup.ByMask.{Shape, ShapeBy}
 

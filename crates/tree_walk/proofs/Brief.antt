@@ -1,6 +1,6 @@
 -- The text of a walk is shorter than 2^32 bytes: an entry's line has at most 27 bytes and 4 for each of its name, the
 -- names of a pair stand in one block, and there are at most 4,096 pairs. Assumes nothing.
-use mathlib.Core.Path.{◌≡◌, refl, sym, ap, ◌∙◌}
+use mathlib.Core.Path.{◌≡◌, refl, ap}
 use mathlib.Core.Bool.{Bool, true, false, cond}
 use mathlib.Core.Option.{Option, none, some}
 use mathlib.Core.List.{List, [], ◌∷◌, ◌++◌}

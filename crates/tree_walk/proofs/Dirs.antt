@@ -1,5 +1,5 @@
 -- The directory walk: one rule for each way out of its loop, and one for a further turn. Assumes nothing.
-use mathlib.Core.Path.{◌≡◌, refl, sym, ap, ◌∙◌}
+use mathlib.Core.Path.{◌≡◌, sym, ap, ◌∙◌}
 use mathlib.Core.Logic.{◌≢◌}
 use mathlib.Core.Bool.{true, false, not}
 use mathlib.Core.Option.{Option, none, some}
@@ -7,14 +7,14 @@ use mathlib.Core.List.{List}
 use Prim.Native.Nat.{ℕ, zero, suc, ◌+◌, ◌-◌, ◌≤◌, ◌<◌}
 use native.Mathlib.Omega.{arith}
 use borrow.Author.Tests.{eq-eqb, ne_eqb, lt-ltb, le-ltb, not-true, not-false}
-use Rattle.format.specs.Tree.{Node, Opened, refused, holding, Walk, lines_text, stopped, inside}
+use Rattle.format.specs.Tree.{Node, Opened, refused, holding, lines_text, stopped, inside}
 use Rattle.format.specs.Tree.{slot_walk, walk_opened, deepest, dir_walk}
 use Rattle.format.specs.declared.Geometry.{Geometry}
 use Rattle.format.specs.declared.LfsPair.{LfsPair}
 use Rattle.format.specs.declared.Refusal.{Refusal}
 use Rattle.format.specs.declared.Refusal.TheVariants.{Spent, TooDeep}
 use Rattle.format.specs.declared.Altered.TheVariants.{Done, Refused}
-use Rattle.text.specs.Put.{Text, text, puts_of}
+use Rattle.text.specs.Put.{Text, text}
 use Rattle.text.proofs.Joined.{puts_none}
 use Rattle.tree_theory.specs.Enough.{walk_enough}
 use Rattle.tree_pair.specs.Pair.{Stands, dir_nodes, dir_tail, Opens}

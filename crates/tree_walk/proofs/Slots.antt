@@ -6,15 +6,12 @@ use Prim.{tt}
 use Prim.Native.Nat.{ℕ, suc, ◌+◌, ◌≤◌, ◌<◌}
 use native.Mathlib.Numerals.{add-one}
 use native.Mathlib.Omega.{arith}
-use types.Run.{OneOf, miss}
-use denote.Enum.Declared.{tag_of}
 use lib.ListN.{length, drop, drop_of_length-le}
 use lib.Seq.{drop-cons}
 use Rattle.format.specs.Log.{log}
-use Rattle.format.specs.Look.{FoundIn}
 use Rattle.format.specs.Directory.{empty, dir_of}
-use Rattle.format.specs.Volume.{blocks_in, block_in}
-use Rattle.format.specs.Tree.{Node, nodes_from, Walk, line_text, inside, slot_walk, dir_walk}
+use Rattle.format.specs.Volume.{block_in}
+use Rattle.format.specs.Tree.{Node, nodes_from, Walk, line_text, slot_walk, dir_walk}
 use Rattle.format.specs.declared.Geometry.{Geometry}
 use Rattle.format.specs.declared.LfsPair.{LfsPair}
 use Rattle.format.specs.declared.Refusal.{Refusal}
@@ -27,7 +24,6 @@ use Rattle.tree_pair.specs.Pair.{node_at, dir_nodes, Slotted, Stands, load_at, l
 use Rattle.tree_pair.specs.declared.Dir.{Dir}
 use Rattle.tree_pair.specs.declared.Entry.{Entry}
 use Rattle.tree_pair.specs.declared.Entry.TheVariants as entry
-use Rattle.tree_pair.specs.contracts.Entry.{the_type}
 use Rattle.tree_walk.specs.declared.Walked.{Walked}
 use Rattle.tree_walk.specs.Walks.{Outcome, comes, outcome, pairs, Walks, DirWalks}
 use Rattle.tree_walk.proofs.Outcomes.{onward, stays, moves, comes_ended, comes_entry}
@@ -63,7 +59,7 @@ module _ (g : Geometry) (vol : List ℕ) (rules depth : ℕ) (d : Dir) (left0 at
 
   -- what the loop keeps, wherever the three come from
   abbrev pub Kept : ℕ → ℕ → ℕ → List ℕ → Type 0
-  Kept id spare end out = (spare ≤ left0) × (length out ≡ length out0) × Reached id spare end out
+  Kept id spare end out = (spare ≤ left0) × Reached id spare end out
 
   pub kept_by : (id spare spare1 end end1 : ℕ) (out out1 : List ℕ) → out ≡ out1 → spare ≡ spare1 → end ≡ end1
       → Kept id spare1 end1 out1 → Kept id spare end out
@@ -105,10 +101,10 @@ module _ (g : Geometry) (vol : List ℕ) (rules depth : ℕ) (d : Dir) (left0 at
       next_is ns q n h = reached n h ∙ ap (λ (l : List Node). comes (text end out) (walked n l spare))
           (rest_next ∙ ap (λ (l : List Node). l ++ rest (id + 1)) q)
 
-      pub slot_plain : OneOf (0 ∷ 2 ∷ []) (tag_of the_type e) → Reached (id + 1) spare end1 out1
+      pub slot_plain : ((name : Found) (p : LfsPair) → e ≡ entry.Dir name p → ⊥) → Reached (id + 1) spare end1 out1
       slot_plain h n k = go e h is line
         where
-          go : (x : Entry) → OneOf (0 ∷ 2 ∷ []) (tag_of the_type x) → EntryIs b (node_at b d.end d.etag id) x
+          go : (x : Entry) → ((name : Found) (p : LfsPair) → x ≡ entry.Dir name p → ⊥) → EntryIs b (node_at b d.end d.etag id) x
               → text end1 out1 ≡ puts_of (text end out) (entry_text b depth x)
               → comes (text at0 out0) (walked n (dir_nodes g vol d) left0)
               ≡ comes (text end1 out1) (walked n (rest (id + 1)) spare)
@@ -121,7 +117,7 @@ module _ (g : Geometry) (vol : List ℕ) (rules depth : ℕ) (d : Dir) (left0 at
               ∙ ap (λ (o : Outcome). onward o (walked n (rest (id + 1))))
               (comes_ended (puts_of (text end out) (line_text (line_of depth (load_at b name) size))) spare)
               ∙ ap (λ (s : Text). comes s (walked n (rest (id + 1)) spare)) (sym l)
-          go (entry.Dir name p) t q l = absurd (miss (0 ∷ 2 ∷ []) 1 tt t)
+          go (entry.Dir name p) t q l = absurd (t name p refl)
 
       -- a directory, and what walking it came to
       module _ (name : Found) (p : LfsPair) (q : e ≡ entry.Dir name p) (w : Walked) (o : List ℕ)

@@ -1,24 +1,22 @@
 -- The whole call: the code's test is the definition's, and the walk from the text's start is the text. Assumes nothing.
-use mathlib.Core.Path.{◌≡◌, refl, sym, ap, subst, ◌∙◌}
-use mathlib.Core.Bool.{Bool, true, false, not, cond, ◌&&◌}
-use mathlib.Core.List.{List, [], ◌++◌}
-use Prim.Native.Nat.{ℕ, suc, ◌≤◌, ◌<◌, ◌^◌}
+use mathlib.Core.Path.{◌≡◌, refl, sym, ap, ◌∙◌}
+use mathlib.Core.Bool.{Bool, true, false, ◌&&◌}
+use mathlib.Core.List.{List, ◌++◌}
+use Prim.Native.Nat.{ℕ, suc}
 use native.Mathlib.Omega.{arith}
 use lib.ListN.{length}
 use lib.Seq.{take-nil}
 use lib.Dec.{leb}
 use borrow.Author.Tests.{leb-true}
 use Rattle.format.specs.Listing.{written_to}
-use Rattle.format.specs.Regular.{rules_fit, rules_of}
+use Rattle.format.specs.Regular.{rules_of}
 use Rattle.format.specs.Volume.{volume_fits}
-use Rattle.format.specs.Tree.{Walk, lines_text, stopped, dir_walk, open_in, most_pairs, tree_fits, tree_walk, tree_text}
+use Rattle.format.specs.Tree.{Walk, lines_text, dir_walk, open_in, tree_fits, tree_walk, tree_text}
 use Rattle.format.specs.Tree.{tree_of}
 use Rattle.format.specs.declared.Geometry.{Geometry}
 use Rattle.format.specs.declared.LfsPair.{LfsPair}
 use Rattle.format.specs.declared.Refusal.TheVariants.{Invalid}
 use Rattle.format.specs.declared.Altered.TheVariants.{Refused}
-use Rattle.format.specs.declared.Written.{Written}
-use Rattle.text.specs.Put.{Text, text, puts_of}
 use Rattle.text.proofs.Written.{puts_written}
 use Rattle.tree_walk.specs.declared.Walked.{Walked}
 use Rattle.tree_walk.specs.Walks.{Outcome, DirWalks}

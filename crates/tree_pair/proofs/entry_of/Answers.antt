@@ -1,0 +1,27 @@
+-- `tree_pair::entry_of` meets its contract: a name that is seen, and the struct. Assumes nothing.
+use Rattle.tree_pair.proofs.Entries.{search_fits, entry_unseen, entry_bare, entry_dir}
+use Rattle.tree_pair.proofs.Entries.{entry_file}
+use Rattle.tree_pair.proofs.entry_of.Goals as goal
+
+pub returns-in_default : goal.returns-in_default
+returns-in_default c = entry_unseen _ _ _ _ c.requires _ c.name_seen.ensures c.in_default.is
+
+pub find_back-requires : goal.find_back-requires
+find_back-requires c = search_fits _ _ _ _ c.requires
+
+pub returns-in_default-find_back : goal.returns-in_default-find_back
+returns-in_default-find_back c =
+    entry_bare _ _ _ _ c.requires _ c.lfs_mktag-key.ensures _ c.find_back.ensures.0 c.in_default-find_back.is
+
+pub returns-then-lfs_tag_type3-eq-LFS_TYPE_DIRSTRUCT : goal.returns-then-lfs_tag_type3-eq-LFS_TYPE_DIRSTRUCT
+returns-then-lfs_tag_type3-eq-LFS_TYPE_DIRSTRUCT c =
+    entry_dir _ _ _ _ c.requires _ c.lfs_mktag-key.ensures _ c.find_back.ensures.0 _ c.in-Found-find_back.is _ _
+    c.name_seen.ensures c.in-Found.is _ c.read_at.ensures.buffer_after _ c.lfs_tag_type3.ensures
+    c.if-lfs_tag_type3-eq-LFS_TYPE_DIRSTRUCT.true _ _ c.le32.ensures
+    c.le32-then-lfs_tag_type3-eq-LFS_TYPE_DIRSTRUCT.ensures
+
+pub returns : goal.returns
+returns c =
+    entry_file _ _ _ _ c.requires _ c.lfs_mktag-key.ensures _ c.find_back.ensures.0 _ c.in-Found-find_back.is _ _
+    c.name_seen.ensures c.in-Found.is _ c.read_at.ensures.buffer_after _ c.lfs_tag_type3.ensures
+    c.if-lfs_tag_type3-eq-LFS_TYPE_DIRSTRUCT.false _ c.size_of.ensures
