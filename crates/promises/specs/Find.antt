@@ -32,7 +32,7 @@ use Rattle.format.specs.declared.Got.TheVariants as got
 use Rattle.format.specs.declared.Word.{Word}
 use Rattle.format.specs.declared.Word.TheVariants as word
 use Rattle.format.specs.declared.Named.{Named}
-use Rattle.format.specs.declared.Named.TheVariants.{At, Nothing, Refused}
+use Rattle.format.specs.declared.Named.TheVariants.{At, Nothing}
 use Rattle.format.proofs.Growing.{widest}
 use Rattle.format.proofs.Tags.{of_type3, of_size}
 use Rattle.theory.specs.Blocks.SlotItems.{OkSlot, OkSlots, ok_get, ok_dir_of}
