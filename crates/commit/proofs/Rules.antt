@@ -14,8 +14,8 @@ use Rattle.format.specs.declared.Entry.{Entry}
 use Rattle.format.specs.declared.Fetched.TheVariants as fetched
 use Rattle.format.specs.declared.Committed.{Committed}
 use Rattle.format.specs.declared.Stored.{Stored}
-use Rattle.theory.specs.Stopped.Commit.{stopped_commit}
-use Rattle.theory.specs.Stopped.Refetch.{refetch_behind}
+use Rattle.theory.proofs.Stopped.Commit.{stopped_commit}
+use Rattle.theory.proofs.Stopped.Refetch.{refetch_behind}
 use Rattle.commit_steps.specs.State.{Trio, trio, begun_of, decided_of, sealed_of, answered_of, made_of}
 use Rattle.commit_steps.specs.declared.State.{State}
 use Rattle.commit.proofs.Whole.{ran}

@@ -33,7 +33,7 @@ use Rattle.format.specs.declared.Committed.TheVariants as committed
 use Rattle.format.specs.declared.Stored.{Stored}
 use Rattle.format.specs.declared.Stored.TheVariants as stored
 use Rattle.theory.specs.Fetch.FoundBlock.{Sized, found_sized, found_reads}
-use Rattle.theory.specs.Stopped.Compaction.{stopped_compaction}
+use Rattle.theory.proofs.Stopped.Compaction.{stopped_compaction}
 use Rattle.compact_block.specs.Renewed.{renewed_items, Renewable, renewed_to}
 
 -- ---- a verdict with the place of the block that answers

@@ -15,7 +15,7 @@ use Rattle.format.specs.declared.Stored.TheVariants as stored
 use Rattle.format.specs.declared.Indexed.{Indexed}
 use Rattle.format.specs.declared.Indexed.TheVariants as indexed
 use Rattle.format.proofs.Growing.{widest}
-use Rattle.index_theory.specs.Extended.{built_front}
+use Rattle.index_theory.proofs.Extended.{built_front}
 use Rattle.index_pass.specs.Run.{Buildable}
 use Rattle.compact_block.specs.Renewed.{Recorded, renewed_to, anew}
 

@@ -17,7 +17,7 @@ use Rattle.format.specs.declared.Stored.{Stored}
 use Rattle.format.specs.declared.Stored.TheVariants as stored
 use Rattle.format.specs.declared.Refusal.TheVariants.{NoSpace, Coincidence}
 use Rattle.theory.specs.Commit.AcceptedVerdict.{rounded}
-use Rattle.theory.specs.Compact.AcceptedVerdict.{slots_few}
+use Rattle.theory.proofs.Compact.AcceptedVerdict.{slots_few}
 use Rattle.commit_lay.specs.Laid.{Laid, puts_of}
 use Rattle.commit_lay.proofs.Puts.{put_none}
 use Rattle.commit_room.specs.Tests.{Prog}

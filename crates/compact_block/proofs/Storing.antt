@@ -17,7 +17,7 @@ use Rattle.theory.specs.Walk.ReadBack.{AllGood}
 use Rattle.theory.specs.Walk.Erased.{length_erased}
 use Rattle.theory.specs.Blocks.Append.{length_commit}
 use Rattle.theory.specs.Blocks.Compact.{compact_stores_lem}
-use Rattle.theory.specs.Compact.AcceptedVerdict.{slots_counted, compaction_good}
+use Rattle.theory.proofs.Compact.AcceptedVerdict.{slots_counted, compaction_good}
 use Rattle.commit_lay.specs.Laid.{Laid, laid, puts_of}
 use Rattle.commit_lay.specs.declared.Run.{Run}
 use Rattle.commit_lay.proofs.Puts.{puts_app}

@@ -18,7 +18,7 @@ use Rattle.format.specs.Compaction.{slot_items, dir_items}
 use Rattle.format.specs.Index.{placed_from, slot_places, dir_places}
 use Rattle.theory.specs.Directory.Machine.{most_slots}
 use Rattle.index_theory.specs.Looked.{placed_dir, placed_few}
-use Rattle.index_theory.specs.Extended.{placed_fit}
+use Rattle.index_theory.proofs.Extended.{placed_fit}
 use Rattle.index_theory.specs.Items.{place_items, PlacesIn, placed_count, slot_items_lem, slot_inside}
 use Rattle.index_theory.specs.Owned.{own_places, own_more, own_none, own_short, own_fits, own_is, own_behind}
 use Rattle.compact_entries.specs.Emitted.{Standing, emitted, emits, create_item, hit_items, Source}

@@ -1,5 +1,5 @@
 -- What a table answers: of the table of a block with a regular log, what the search back answers. Assumes nothing.
-use Rattle.std.specs.Prelude.{◌≡◌, refl, cond, ℕ, suc, ◌+◌, ◌-◌, ◌*◌, ◌^◌, ◌≤◌, ◌<◌, get_or, replicate}
+use Rattle.std.specs.Prelude.{◌≡◌, refl, cond, ℕ, suc, ◌-◌, ◌*◌, ◌^◌, ◌≤◌, ◌<◌, get_or, replicate}
 use Rattle.std.proofs.Common.{sym, ◌∙◌, arith}
 use Rattle.std.proofs.Math.Path.{ap}
 use Rattle.std.proofs.Math.Option.{Option, none, some}
@@ -12,7 +12,6 @@ use Rattle.format.specs.Directory.{classes, seat_class, Load, Slot, empty}
 use Rattle.format.specs.Look.{data_size, HitIn}
 use Rattle.format.specs.Index.{rank_at, class_places, dir_places, padded, seek, is_at, place_hit}
 use Rattle.format.specs.Index.{index_hit}
-use Rattle.format.specs.declared.Found.{Found}
 use Rattle.format.specs.declared.Hit.{Hit}
 use Rattle.format.specs.declared.Hit.TheVariants as hit
 use Rattle.format.proofs.Tags.{of_length}

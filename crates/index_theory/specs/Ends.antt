@@ -1,6 +1,6 @@
 -- The log up to an end where a commit ends: it is the beginning of the block's log and of every longer one, and each
 -- regular beginning of the block's log that ends in a commit is one. Assumes nothing.
-use Rattle.std.specs.Prelude.{◌≡◌, refl, ◌≢◌, Bool, true, List, [], ◌∷◌, ◌++◌, ℕ, ◌+◌, ◌-◌, ◌≤◌, ◌<◌, length, take, drop, ltb, eqb}
+use Rattle.std.specs.Prelude.{◌≡◌, refl, ◌≢◌, Bool, true, List, [], ◌∷◌, ◌++◌, ℕ, ◌+◌, ◌≤◌, ◌<◌, length, take, drop, ltb, eqb}
 use Rattle.std.proofs.Common.{sym, ◌∙◌, append-nil, append_assoc, arith, add-zero, take-append-drop, length-take, length-drop, length-append, drop_of_length-le, take-take, eqb-true, ltb-true}
 use Rattle.std.proofs.Math.Path.{ap}
 use Rattle.std.proofs.Math.Seq.{drop-append_seam}

@@ -4,10 +4,8 @@ pub mod Ordered
 pub mod Places
 pub mod Step
 pub mod Ran
-pub mod Enough
 pub mod Looked
 pub mod Answered
 pub mod Ends
-pub mod Extended
 pub mod Items
 pub mod Owned

@@ -27,7 +27,7 @@ use Rattle.format.specs.declared.Refusal.TheVariants.{Invalid, Irregular, NoSpac
 use Rattle.format.specs.declared.Fetched.TheVariants as fetched
 use Rattle.format.proofs.Rooms.{clean_holds, holds_clean}
 use Rattle.theory.specs.Commit.AcceptedVerdict.{past, past_room, found_then, good_then}
-use Rattle.theory.specs.Compact.AcceptedVerdict as anew
+use Rattle.theory.proofs.Compact.AcceptedVerdict as anew
 
 -- ---- a commit
 module _ (g : Geometry) (b0 b1 : List ℕ) (n0 n1 count seed rules e : ℕ) (entries : List Entry) (dat : List ℕ) where

@@ -13,7 +13,7 @@ use Rattle.format.specs.declared.Rules.{Rules}
 use Rattle.format.specs.declared.Geometry.{Geometry}
 use Rattle.format.specs.declared.LfsMdir.{LfsMdir}
 use Rattle.format.specs.declared.Fetched.TheVariants.{Found}
-use Rattle.theory.specs.Stopped.Shown.{block_is, shows}
+use Rattle.theory.proofs.Stopped.Shown.{block_is, shows}
 
 -- A pair that fetch finds, and whose log is regular by either rule, shows the machine of that log: the record's count
 -- is its number of slots, its tail is the record's, and every directory lookup with the record answers what the machine

@@ -23,8 +23,8 @@ use Rattle.format.specs.declared.Refusal.TheVariants.{Invalid}
 use Rattle.format.specs.declared.Committed.TheVariants as committed
 use Rattle.format.specs.declared.Stored.TheVariants as stored
 use Rattle.format.proofs.Erased.{erases, bit_fits}
-use Rattle.theory.specs.Stopped.Commit as commit
-use Rattle.theory.specs.Stopped.Compaction as compaction
+use Rattle.theory.proofs.Stopped.Commit as commit
+use Rattle.theory.proofs.Stopped.Compaction as compaction
 
 -- ---- what the byte decides: the check tag, the end tag's bit, and what the coincidence is compared with
 pub for_ones : (size etag : ℕ) → (check_tag 0xff size ≡ tag_of type_check no_slot size)

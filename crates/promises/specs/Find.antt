@@ -32,14 +32,14 @@ use Rattle.format.specs.declared.Got.TheVariants as got
 use Rattle.format.specs.declared.Word.{Word}
 use Rattle.format.specs.declared.Word.TheVariants as word
 use Rattle.format.specs.declared.Named.{Named}
-use Rattle.format.specs.declared.Named.TheVariants.{At, Nothing, Refused}
+use Rattle.format.specs.declared.Named.TheVariants.{At, Nothing}
 use Rattle.format.proofs.Growing.{widest}
 use Rattle.format.proofs.Tags.{of_type3, of_size}
 use Rattle.theory.specs.Blocks.SlotItems.{OkSlot, OkSlots, ok_get, ok_dir_of}
 use Rattle.theory.specs.Commit.Tested.{regular_loads}
-use Rattle.theory.specs.Compact.AcceptedVerdict.{slots_few}
+use Rattle.theory.proofs.Compact.AcceptedVerdict.{slots_few}
 use Rattle.theory.specs.Fetch.FoundRecord.{past_test}
-use Rattle.theory.specs.Stopped.Shown.{block_is}
+use Rattle.theory.proofs.Stopped.Shown.{block_is}
 use Rattle.promises.specs.Directory.{directory_lookups}
 
 -- ---- asking

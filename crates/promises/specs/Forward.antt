@@ -19,8 +19,8 @@ use Rattle.format.specs.declared.Entry.{Entry}
 use Rattle.format.specs.declared.Committed.{Committed}
 use Rattle.format.specs.declared.Committed.TheVariants.{Done}
 use Rattle.theory.specs.Commit.ForwardCheck as forward
-use Rattle.theory.specs.Stopped.Commit as commit
-use Rattle.theory.specs.Stopped.Compaction as compaction
+use Rattle.theory.proofs.Stopped.Commit as commit
+use Rattle.theory.proofs.Stopped.Compaction as compaction
 
 -- ---- -28 goes by the end that is really laid, and that passes the block exactly if the entries' own rounded end does,
 -- so that what is accepted is what was. Of entries that begin at `from`, a commit's at the old end and a compaction's

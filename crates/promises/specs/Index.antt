@@ -50,18 +50,18 @@ use Rattle.theory.specs.Lookup.ByMask.{Answers}
 use Rattle.theory.specs.Lookup.AtStart.{back_in, wlook_in, back_same}
 use Rattle.theory.specs.Lookup.OnBlock.{regular_searchable, block_lookup}
 use Rattle.theory.specs.Commit.Tested.{regular_log}
-use Rattle.theory.specs.Compact.AcceptedVerdict.{slots_counted}
+use Rattle.theory.proofs.Compact.AcceptedVerdict.{slots_counted}
 use Rattle.theory.specs.Fetch.FoundBlock.{found_sized, found_reads}
 use Rattle.theory.specs.Fetch.Places.{block_length}
-use Rattle.theory.specs.Stopped.Shown.{found_tested, block_is}
+use Rattle.theory.proofs.Stopped.Shown.{found_tested, block_is}
 use Rattle.index_theory.specs.Places.{dir_few}
-use Rattle.index_theory.specs.Enough.{built_enough}
+use Rattle.index_theory.proofs.Enough.{built_enough}
 use Rattle.index_theory.specs.Looked.{placed_dir, placed_few, placed_lookup}
 use Rattle.index_theory.specs.Answered.{load_hit, found_load, table_answers}
 use Rattle.index_theory.specs.Ends.{end_is, end_some, long, log_begins, ends_there}
 use Rattle.index_theory.specs.Items.{placed_count}
 use Rattle.promises.specs.PossibleLookups.{end_inside}
-use Rattle.index_theory.specs.Extended.{placed_fit, padded_length, built_places, built_fits, extend_afresh}
+use Rattle.index_theory.proofs.Extended.{placed_fit, padded_length, built_places, built_fits, extend_afresh}
 
 -- ---- what is asked
 -- "any 0x0xx asks the name, any 0x2xx the struct, 0x300 to 0x3ff that attribute"

@@ -26,8 +26,8 @@ use Rattle.format.specs.declared.Indexed.TheVariants as indexed
 use Rattle.theory.specs.Walk.Step.{both_true}
 use Rattle.theory.specs.Fetch.FoundRecord.{few_found, past_test}
 use Rattle.theory.specs.Fetch.FoundBlock.{found_sized}
-use Rattle.theory.specs.Stopped.Shown.{found_tested}
-use Rattle.theory.specs.Stopped.Refetch.{commit_front}
+use Rattle.theory.proofs.Stopped.Shown.{found_tested}
+use Rattle.theory.proofs.Stopped.Refetch.{commit_front}
 use Rattle.promises.specs.Refetch.{refetch_behind_commit}
 use Rattle.promises.specs.Stopped.{commit_stopped}
 use Rattle.promises.specs.Index.{places_built, index_fetched, index_extends}

@@ -17,7 +17,7 @@ use Rattle.format.specs.declared.Refusal.TheVariants.{Invalid, Corrupt}
 use Rattle.format.specs.declared.Fetched.{Fetched}
 use Rattle.format.specs.declared.Fetched.TheVariants.{Refused}
 use Rattle.theory.specs.Fetch.Refetched as theory
-use Rattle.theory.specs.Stopped.Refetch as commit
+use Rattle.theory.proofs.Stopped.Refetch as commit
 use Rattle.promises.specs.Decided.{Decides, decided}
 use Rattle.promises.specs.Possible.{FetchedOr, FetchRefuses, fetch22, fetch84, through, few_possible}
 use Rattle.promises.specs.Exactly.{apart, few_refuses}

@@ -15,8 +15,8 @@ use Rattle.format.specs.declared.LfsMdir.{LfsMdir}
 use Rattle.format.specs.declared.Entry.{Entry}
 use Rattle.format.specs.declared.Refusal.{Refusal}
 use Rattle.format.specs.declared.Committed.TheVariants as committed
-use Rattle.theory.specs.Stopped.Commit.{stopped_commit, commit_refetched}
-use Rattle.theory.specs.Stopped.Compaction.{block_bytes, stopped_compaction, compact_refetched}
+use Rattle.theory.proofs.Stopped.Commit.{stopped_commit, commit_refetched}
+use Rattle.theory.proofs.Stopped.Compaction.{block_bytes, stopped_compaction, compact_refetched}
 
 module _ (g : Geometry) (b0 b1 : List ℕ) (n0 n1 count seed rules e : ℕ) where
   -- ---- DEMAND 3

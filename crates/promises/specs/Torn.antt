@@ -23,7 +23,7 @@ use Rattle.format.specs.declared.Room.TheVariants.{Refused}
 use Rattle.format.proofs.Tags.{apart_invalid}
 use Rattle.theory.specs.Rules.MadeItem.{AllMade}
 use Rattle.theory.specs.Commit.AcceptedVerdict.{fits_byte}
-use Rattle.theory.specs.Stopped.Commit as stopped
+use Rattle.theory.proofs.Stopped.Commit as stopped
 use Rattle.promises.specs.Accepted.{CommitConditions, commit_accepted_exactly}
 use Rattle.promises.specs.Room.{NoReason, clean_exactly, not_erased_exactly}
 

@@ -19,7 +19,7 @@ use Rattle.format.specs.declared.LfsMdir.{LfsMdir}
 use Rattle.format.specs.declared.Refusal.TheVariants.{Irregular}
 use Rattle.theory.specs.Blocks.SlotItems.{OkSlot, OkSlots, ok_dir_of}
 use Rattle.theory.specs.Commit.Tested.{regular_loads}
-use Rattle.theory.specs.Compact.AcceptedVerdict.{slots_few}
+use Rattle.theory.proofs.Compact.AcceptedVerdict.{slots_few}
 use Rattle.text_input.proofs.Short.{decimal_short, name_length, number_short, refused_short, Short, slot_loads}
 use Rattle.text_input.proofs.Short.{ruled_short, fetched_short}
 

@@ -27,7 +27,7 @@ use Rattle.format.specs.declared.Refusal.TheVariants.{Invalid}
 use Rattle.format.specs.declared.Fetched.{Fetched}
 use Rattle.format.specs.declared.Fetched.TheVariants as fetched
 use Rattle.theory.specs.Fetch.FoundBlock.{Sized, found_sized, found_reads}
-use Rattle.theory.specs.Compact.AcceptedVerdict.{slots_counted}
+use Rattle.theory.proofs.Compact.AcceptedVerdict.{slots_counted}
 use Rattle.commit_regular.specs.Ends.{CommittedTo}
 use Rattle.compact_slot.specs.Slots.{Slots}
 use Rattle.text.specs.Put.{Text, puts_of}

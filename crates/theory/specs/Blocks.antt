@@ -1,4 +1,4 @@
--- Demand 3 over blocks: an append; the entries that write acts, slots and the rest; a compaction.
+-- What demand 3 asks over blocks: an append; the entries that write acts, slots and the rest; a compaction.
 pub mod Append
 pub mod ActItems
 pub mod SlotItems

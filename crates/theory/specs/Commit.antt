@@ -1,5 +1,5 @@
--- A commit: what the tests give; the forward check, one entry more; its acceptance as one record; an accepted verdict
--- is one; the machine after it.
+-- A commit: what the tests give; the forward check, one entry more; its acceptance as one record; accepted tests are
+-- one; the machine after it.
 pub mod Tested
 pub mod ForwardCheck
 pub mod Acceptance

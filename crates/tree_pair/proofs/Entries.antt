@@ -27,7 +27,7 @@ use Rattle.format.specs.declared.Hit.{Hit}
 use Rattle.format.specs.declared.Hit.TheVariants as hit
 use Rattle.format.proofs.Searched.{hit_in}
 use Rattle.theory.specs.Lookup.ByMask.{holds, holds_as, Answers, missing, there}
-use Rattle.theory.specs.Compact.AcceptedVerdict.{slots_few}
+use Rattle.theory.proofs.Compact.AcceptedVerdict.{slots_few}
 use Rattle.lookup.proofs.Moves.{tag_made}
 use Rattle.text.specs.Put.{Text, puts_of}
 use Rattle.text.proofs.Joined.{join, puts_none}

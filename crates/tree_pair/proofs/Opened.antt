@@ -17,7 +17,7 @@ use Rattle.format.specs.declared.Refusal.{Refusal}
 use Rattle.format.specs.declared.Refusal.TheVariants.{Irregular}
 use Rattle.format.specs.declared.Fetched.TheVariants as fetched
 use Rattle.format.proofs.Growing.{widest}
-use Rattle.theory.specs.Compact.AcceptedVerdict.{slots_counted}
+use Rattle.theory.proofs.Compact.AcceptedVerdict.{slots_counted}
 use Rattle.commit_regular.specs.Ends.{CommittedTo}
 use Rattle.tree_theory.specs.InVolume.{there, number_inside, on_block, nodes_there}
 use Rattle.tree_pair.specs.Pair.{Opens}

@@ -25,11 +25,11 @@ use Rattle.format.specs.declared.Refusal.TheVariants.{Invalid, Corrupt}
 use Rattle.format.specs.declared.Rules.TheVariants.{Littlefs}
 use Rattle.format.specs.declared.Informed.{Informed}
 use Rattle.format.specs.declared.Fetched.TheVariants.{Found}
-use Rattle.theory.specs.Compact.AcceptedVerdict.{slots_few}
+use Rattle.theory.proofs.Compact.AcceptedVerdict.{slots_few}
 use Rattle.theory.specs.Fetch.FoundRecord.{past_test}
 use Rattle.theory.specs.Fetch.FoundBlock.{found_sized, found_reads}
 use Rattle.theory.specs.Fetch.Places.{block_length}
-use Rattle.theory.specs.Stopped.Shown.{found_tested, block_is}
+use Rattle.theory.proofs.Stopped.Shown.{found_tested, block_is}
 use Rattle.tree_theory.specs.OnBlock.{info_at, Regularly, end_inside}
 
 -- the same infos below a number give the same entries

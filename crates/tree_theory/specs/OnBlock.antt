@@ -19,7 +19,7 @@ use Rattle.theory.specs.Commit.Tested.{regular_log}
 use Rattle.theory.specs.Lookup.ByMask.{holds, holds_as, Answers}
 use Rattle.theory.specs.Lookup.AtStart.{back_in, wlook_in}
 use Rattle.theory.specs.Lookup.SlotSearch.{log_inside}
-use Rattle.theory.specs.Stopped.Shown.{ask_found}
+use Rattle.theory.proofs.Stopped.Shown.{ask_found}
 use Rattle.tree_theory.specs.Covered.{visible}
 use Rattle.tree_theory.specs.SeenName.{seen_newest, seen_uncovered}
 

@@ -28,7 +28,7 @@ use Rattle.format.specs.declared.Altered.{Altered}
 use Rattle.format.specs.declared.Altered.TheVariants.{Done, Refused}
 use Rattle.format.specs.declared.Informed.{Informed}
 use Rattle.format.proofs.Growing.{widest}
-use Rattle.theory.specs.Compact.AcceptedVerdict.{slots_few}
+use Rattle.theory.proofs.Compact.AcceptedVerdict.{slots_few}
 use Rattle.text_input.proofs.Short.{decimal_short, name_length, number_short}
 use Rattle.tree_theory.specs.NameBytes.{load_size, names_in, names_inside}
 use Rattle.tree_theory.specs.InVolume.{there}

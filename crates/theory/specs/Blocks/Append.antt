@@ -1,5 +1,5 @@
--- Demand 3 for an append, over blocks as they stand: stopped after any store, the finished block or the old view.
--- Assumes nothing.
+-- An append over blocks as they stand: what is asked of it, what its stores leave, and the record of demand 3, which is
+-- proved in proofs/Blocks/Append.antt. Assumes nothing.
 use Rattle.std.specs.Prelude.{◌≡◌, refl, ◌≢◌, ◌⊎◌, Bool, true, List, [], ◌∷◌, ◌++◌, ℕ, zero, suc, ◌+◌, ◌-◌, ◌≤◌, take, length, drop}
 use Rattle.std.proofs.Common.{sym, ap, ◌∙◌, append_assoc, arith, length-append, take-append-drop, length-take-le, drop-drop}
 use Rattle.format.specs.Word.{to_be32, to_le32, xor, all_ones}
@@ -19,7 +19,7 @@ use Rattle.theory.specs.Walk.ReadBack.{AllGood, GoodCheck}
 use Rattle.theory.specs.Walk.Erased.{quiet_end, erased_append, drop_erased_is}
 use Rattle.theory.specs.Walk.Cut.{NoCoincidence}
 use Rattle.theory.specs.Log.Stores.{Appends, room, filled, commit_events}
-use Rattle.theory.specs.Log.TwoBlocks.{view_at, crash_append, done_append}
+use Rattle.theory.specs.Log.TwoBlocks.{view_at}
 use Rattle.theory.specs.Directory.Acts.{dir_of_app}
 
 -- k bytes stored over erased ones
@@ -93,7 +93,7 @@ appends e b es is ct a =
       all = omega (arith, a.fits, a.check.long, length_commit is all_ones (log_end_tag es) ct a.items);
     }
 
-as_room : (e : ℕ) (b : List ℕ) (es : List Event) (is : List Item) (ct k : ℕ) → AppendOk e b es is ct
+pub as_room : (e : ℕ) (b : List ℕ) (es : List Event) (is : List Item) (ct k : ℕ) → AppendOk e b es is ct
     → k ≤ entries_length is + 8
     → appending b es is ct k ≡ take (log_end es) b ++ room e all_ones (log_end_tag es) is ct
     (length b - (log_end es) - (entries_length is + 8)) k
@@ -151,19 +151,3 @@ pub record AfterAppend (w : Bool) (o : List ℕ) (v : ℕ) (es : List Event) (is
   -- the finished pair's view, and its directory
   pub finished : view_at w done o ≡ at w v (es ++ commit_events all_ones (log_end_tag es) is ct)
   pub applied : dir_of (es ++ commit_events all_ones (log_end_tag es) is ct) ≡ apply_all (dir_of es) (item_acts is)
-
-pub demand3_append : (e : ℕ) (w : Bool) (b o : List ℕ) (v : ℕ) (es : List Event) (is : List Item) (ct k : ℕ)
-    → view_at w b o ≡ at w v es → AppendOk e b es is ct → k ≤ entries_length is + 8
-    → AfterAppend w o v es is ct (appending b es is ct k) (appending b es is ct (entries_length is + 8))
-demand3_append e w b o v es is ct k h a hk =
-    let m : ℕ = length b - (log_end es) - (entries_length is + 8) in
-    let M : ℕ = length b - (log_end es) in
-    let h' : view_at w (take (log_end es) b ++ erased e (length b - (log_end es))) o ≡ at w v es =
-    rw (← a.clean, take-append-drop (log_end es) b) h in
-    record {
-      either = rw (as_room e b es is ct k a hk, as_filled e b es is ct a)
-          (crash_append e w o (take (log_end es) b) M v es is ct m k h' (appends e b es is ct a));
-      finished = rw (as_filled e b es is ct a) (done_append e w o (take (log_end es) b) M v es is ct m h'
-          (appends e b es is ct a));
-      applied = commit_dir es all_ones (log_end_tag es) is ct;
-    }

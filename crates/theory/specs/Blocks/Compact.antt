@@ -1,7 +1,7 @@
--- Compaction: its entries give the directory back, and demand 3 for its stores. Assumes nothing.
-use Rattle.std.specs.Prelude.{◌≡◌, refl, ◌⊎◌, Bool, not, List, [], ◌∷◌, ◌++◌, reverse, map, ℕ, suc, ◌+◌, ◌-◌, ◌^◌, ◌≤◌, ◌<◌, length, take}
+-- Compaction: its entries, its stores, and the record of demand 3. That the entries give the directory back, and
+-- demand 3, are proved in proofs/Blocks/Compact.antt. Assumes nothing.
+use Rattle.std.specs.Prelude.{◌≡◌, refl, ◌⊎◌, Bool, not, List, [], ◌∷◌, ◌++◌, reverse, map, ℕ, suc, ◌+◌, ◌-◌, ◌≤◌, length, take}
 use Rattle.std.proofs.Common.{sym, ap, ap₂, ◌∙◌, zero-add, arith, length-append}
-use Rattle.std.proofs.lemmas.List.{reverse-reverse}
 use Rattle.std.proofs.Math.Seq.{paste}
 use Rattle.format.specs.Word.{to_le32, all_ones, plus32}
 use Rattle.format.specs.Crc.{crc}
@@ -9,26 +9,23 @@ use Rattle.format.specs.Walk.{Event}
 use Rattle.format.specs.View.{at}
 use Rattle.format.specs.Commit.{Item, commit_bytes}
 use Rattle.format.specs.Erased.{erased}
-use Rattle.format.specs.Stores.{entries_length, compact_bytes, compacted, compacting}
-use Rattle.format.specs.Directory.{skip, Slot, apply, Act, dir, act, acts, dir_of, apply_all}
+use Rattle.format.specs.Stores.{entries_length, compact_bytes, compacting}
+use Rattle.format.specs.Directory.{skip, Slot, apply, act, dir_of, apply_all}
 use Rattle.format.proofs.Words.{length_to_le32}
 use Rattle.theory.specs.Walk.ReadBack.{AllGood}
 use Rattle.theory.specs.Walk.Erased.{drop_erased_is}
-use Rattle.theory.specs.Log.Stores.{commit_events, CommitFits}
-use Rattle.theory.specs.Log.TwoBlocks.{view_at, crash_compact, done_compact}
-use Rattle.theory.specs.Directory.Machine.{most_slots}
-use Rattle.theory.specs.Directory.Rebuild.{rebuild, rebuilt}
-use Rattle.theory.specs.Directory.Acts.{apply_all_app, dir_rev}
-use Rattle.theory.specs.Blocks.Append.{item_acts, commit_dir, length_commit, fill_take}
-use Rattle.theory.specs.Blocks.ActItems.{to_item, items_good, ok_rev, AllOk, items_acts}
-use Rattle.theory.specs.Blocks.SlotItems.{OkSlots, rebuild_ok, all_held, PutsOk, ok_dir_of}
+use Rattle.theory.specs.Log.Stores.{commit_events}
+use Rattle.theory.specs.Log.TwoBlocks.{view_at}
+use Rattle.theory.specs.Directory.Rebuild.{rebuild}
+use Rattle.theory.specs.Blocks.Append.{item_acts, length_commit, fill_take}
+use Rattle.theory.specs.Blocks.ActItems.{to_item}
 
 -- entries that do not touch the slots: tail, move state
 abbrev pub Still : List Item → Type 0
 Still [] = Unit {0}
 Still (i ∷ is) = (act i.tag i.body ≡ skip) × Still is
 
-still : (is : List Item) (D : List Slot) → Still is → apply_all D (item_acts is) ≡ D
+pub still : (is : List Item) (D : List Slot) → Still is → apply_all D (item_acts is) ≡ D
 unfolding item_acts apply_all apply
 still [] D h = refl
 still (i ∷ is) D h = rw h.0 (still is D h.1)
@@ -42,33 +39,6 @@ item_acts_app (i ∷ is) js = ap (λ z. act i.tag i.body ∷ z) (item_acts_app i
 unfoldable pub compact_items : List Slot → List Item → List Item
 compact_items D ts = map to_item (reverse (rebuild 0 D [])) ++ ts
 
-pub compact_good : (D : List Slot) (ts : List Item) → OkSlots D → length D ≤ 2 ^ 10 → AllGood ts
-    → AllGood (compact_items D ts)
-unfolding compact_items
-compact_good D ts ok h g = good_app (map to_item (reverse (rebuild 0 D [])))
-    (items_good (reverse (rebuild 0 D [])) (ok_rev (rebuild 0 D []) [] (rebuild_ok D 0 [] ok (omega arith) tt) tt))
-  where
-    good_app : (is : List Item) → AllGood is → AllGood (is ++ ts)
-    good_app [] h = g
-    good_app (i ∷ is) h = (h.0, good_app is h.1)
-
--- applied to nothing they give D
-pub compact_acts : (D : List Slot) (ts : List Item) → OkSlots D → length D ≤ 2 ^ 10 → Still ts
-    → apply_all [] (item_acts (compact_items D ts)) ≡ D
-unfolding compact_items dir
-compact_acts D ts ok h st =
-    let R : List Act = rebuild 0 D [] in
-    let okr : AllOk (reverse R) = ok_rev R [] (rebuild_ok D 0 [] ok (omega arith) tt) tt in
-    rw (
-      item_acts_app (map to_item (reverse R)) ts,
-      items_acts (reverse R) okr,
-      apply_all_app [] (reverse R) (item_acts ts),
-      ← dir_rev (reverse R) [],
-      reverse-reverse R,
-      rebuilt D (all_held D ok),
-    )
-    (still ts D st)
-
 -- ---- DEMAND 3, COMPACTION. x is the answering block, at place w; o the other; n stores, the first the erase.
 pub record AfterCompact (w : Bool) (x : List ℕ) (v : ℕ) (es : List Event) (is : List Item) (ct : ℕ)
     (image done : List ℕ) : Type 0 where
@@ -76,21 +46,6 @@ pub record AfterCompact (w : Bool) (x : List ℕ) (v : ℕ) (es : List Event) (i
   pub finished : view_at w x done ≡ at (not w) (plus32 v 1)
       (commit_events (crc all_ones (to_le32 (plus32 v 1))) all_ones is ct)
   pub same : dir_of (commit_events (crc all_ones (to_le32 (plus32 v 1))) all_ones is ct) ≡ dir_of es
-
-pub demand3_compact : (e : ℕ) (w : Bool) (x o : List ℕ) (v : ℕ) (es : List Event) (ts : List Item) (ct m n : ℕ)
-    → view_at w x o ≡ at w v es → v < 2 ^ 32 → PutsOk (acts es) → length (dir_of es) ≤ most_slots → Still ts
-    → CommitFits e (crc all_ones (to_le32 (plus32 v 1))) all_ones (compact_items (dir_of es) ts) ct m
-    → AfterCompact w x v es (compact_items (dir_of es) ts) ct
-    (compacting e o (plus32 v 1) (compact_items (dir_of es) ts) ct m n)
-    (compacted e (plus32 v 1) (compact_items (dir_of es) ts) ct m)
-unfolding dir_of dir acts
-demand3_compact e w x o v es ts ct m n h small ok few st f =
-    record {
-      either = crash_compact e w x o v es (compact_items (dir_of es) ts) ct m n h f;
-      finished = done_compact e w x o v es (compact_items (dir_of es) ts) ct m h small f;
-      same = commit_dir [] (crc all_ones (to_le32 (plus32 v 1))) all_ones (compact_items (dir_of es) ts) ct
-          ∙ compact_acts (dir_of es) ts (ok_dir_of es ok) (omega arith) st;
-    }
 
 -- DEMAND 3, COMPACTION: the stores. After the erase, k single bytes rising over a block of B erased bytes
 pub compact_stores_lem : (e B rev : ℕ) (o : List ℕ) (is : List Item) (ct k : ℕ) → AllGood is

@@ -1,5 +1,5 @@
--- Document 01's acceptance of a commit as one record of Booleans, and what follows of it: demand 3, the directory,
--- regularity. Assumes nothing.
+-- Document 01's acceptance of a commit as one record of Booleans, and what follows of it: what demand 3 asks, the
+-- directory, regularity. Assumes nothing.
 use Rattle.std.specs.Prelude.{◌≡◌, refl, ◌≢◌, Bool, true, false, ◌||◌, List, [], ◌∷◌, ◌++◌, ℕ, zero, suc, ◌+◌, ◌-◌, ◌≤◌, ◌<◌, length, drop, eqb, leb}
 use Rattle.std.proofs.Common.{ap, ap₂, ◌∙◌, arith, length-drop, eqb-true, leb-true}
 use Rattle.std.proofs.lemmas.Bool.{eqb-false}
@@ -9,21 +9,19 @@ use Rattle.format.specs.Kind.{no_slot}
 use Rattle.format.specs.Crc.{crc}
 use Rattle.format.specs.Walk.{Event}
 use Rattle.format.specs.Log.{log, log_end, log_end_tag}
-use Rattle.format.specs.View.{at}
 use Rattle.format.specs.Regular.{between, Regular}
 use Rattle.format.specs.declared.Rules.{Rules}
 use Rattle.format.specs.declared.Rules.TheVariants.{Littlefs}
 use Rattle.format.specs.Commit.{check_tag, Item, items_hold}
 use Rattle.format.specs.Erased.{erased_fits, erased, all_erased, validity_fits, check_type}
-use Rattle.format.specs.Stores.{fill, meets_erased, tag_coincides, entries_length, appending, coincides}
+use Rattle.format.specs.Stores.{fill, meets_erased, tag_coincides, entries_length, coincides}
 use Rattle.format.specs.Directory.{acts}
 use Rattle.format.proofs.Tags.{of_size}
 use Rattle.format.proofs.Erased.{erases, check_fits}
 use Rattle.theory.specs.Walk.Step.{both_true}
 use Rattle.theory.specs.Walk.Cut.{NoCoincidence}
 use Rattle.theory.specs.Log.Stores.{commit_events}
-use Rattle.theory.specs.Log.TwoBlocks.{view_at}
-use Rattle.theory.specs.Blocks.Append.{AppendOk, AfterAppend, demand3_append}
+use Rattle.theory.specs.Blocks.Append.{AppendOk}
 use Rattle.theory.specs.Blocks.OtherItems.{good_check}
 use Rattle.theory.specs.Lookup.SlotCount.{slots_after_all}
 use Rattle.theory.specs.Rules.MadeItem.{AllMade}
@@ -117,11 +115,3 @@ module _ (e : ℕ) (b : List ℕ) (es : List Event) (is : List Item) (size : ℕ
   finished_regular r h =
       regular_again r es all_ones (log_end_tag es) is (check_tag e size) h a.hold
       (rw (of_size (check_type e) no_slot size (omega (arith, check_size_lem.1))) a.check)
-
-  -- DEMAND 3: b answers, at place w, and o is the other block
-  module _ (w : Bool) (o : List ℕ) (v : ℕ) (answers : view_at w b o ≡ at w v es) where
-    -- after k stores: the finished block, or the old view; and what the finished pair is
-    pub accepted_stopped : (k : ℕ) → k ≤ entries_length is + 8
-        → AfterAppend w o v es is (check_tag e size) (appending b es is (check_tag e size) k)
-        (appending b es is (check_tag e size) (entries_length is + 8))
-    accepted_stopped k h = demand3_append e w b o v es is (check_tag e size) k answers accepted h

@@ -1,6 +1,6 @@
--- An accepted verdict of a commit is the acceptance that demand 3 rests on (Acceptance.antt): of the block that
--- answers, its log, what is laid (the entries' items and the forward check, or none) and the check's size. Assumes
--- nothing.
+-- What the tests of an accepted commit give: the acceptance that demand 3 rests on (Acceptance.antt), of the block that
+-- answers, its log, what is laid (the entries' items and the forward check, or none) and the check's size. Of the whole
+-- verdict it is proved in proofs/Commit/AcceptedVerdict.antt. Assumes nothing.
 use Rattle.std.specs.Prelude.{◌≡◌, ◌≢◌, Bool, true, false, not, cond, ◌&&◌, ℕ, ◌+◌, ◌-◌, ◌*◌, ◌/◌, ◌%◌, ◌≤◌, ◌<◌, length, drop, ltb}
 use Rattle.std.proofs.Math.Path.{refl, sym}
 use Rattle.std.proofs.Common.{◌∙◌, le-div_iff_mul-le}
@@ -8,15 +8,15 @@ use mathlib.Core.List.{List, []}
 use native.Mathlib.Omega.{arith}
 use Rattle.std.proofs.Math.Nat.{div-add-mod', mod-lt, mul-mod_left, add-mod, mod-eq_of_lt, zero-add, mul-le-mul_right, div-mul-le_self}
 use Rattle.std.proofs.Math.Dec.{leb, eqb}
-use borrow.Author.Tests.{leb-true, le-leb, ltb-false, not-false}
+use borrow.Author.Tests.{leb-true, le-leb, ltb-false}
 use Rattle.format.specs.Word.{all_ones}
 use Rattle.format.specs.Tag.{tag_length}
 use Rattle.format.specs.Walk.{Event}
 use Rattle.format.specs.Log.{log, log_end, log_end_tag}
 use Rattle.format.specs.Record.{count_of}
 use Rattle.format.specs.View.{at}
-use Rattle.format.specs.Fetch.{geometry_fits, images_fit, pair_fits, fetch_of}
-use Rattle.format.specs.Regular.{Regular, rules_fit, rules_of}
+use Rattle.format.specs.Fetch.{geometry_fits, images_fit, pair_fits}
+use Rattle.format.specs.Regular.{Regular, rules_fit}
 use Rattle.format.specs.declared.Rules.{Rules}
 use Rattle.format.specs.declared.Rules.TheVariants.{Littlefs}
 use Rattle.format.specs.Commit.{Item, check_tag}
@@ -25,21 +25,20 @@ use Rattle.format.specs.Stores.{entries_length, coincides}
 use Rattle.format.specs.Entries.{items_of, Judged, judge, bad, good}
 use Rattle.format.specs.Room.{room_clean, room_of}
 use Rattle.format.specs.Writer.{check_length, rounded_end, check_size, check_at, most_data, most_entries, writes_fit}
-use Rattle.format.specs.Writer.{Verdict, block_at, room_then, placed, judged_by, appended, fetched_then, verdict_of}
+use Rattle.format.specs.Writer.{Verdict, block_at, room_then, placed, judged_by, fetched_then}
 use Rattle.format.specs.Writer.{commit_fits, with_forward, refused, accepted}
 use Rattle.format.specs.declared.Geometry.{Geometry}
 use Rattle.format.specs.declared.LfsMdir.{LfsMdir}
 use Rattle.format.specs.declared.Entry.{Entry}
 use Rattle.format.specs.declared.Refusal.{Refusal}
-use Rattle.format.specs.declared.Refusal.TheVariants.{Invalid, Irregular, NoSpace, Coincidence}
+use Rattle.format.specs.declared.Refusal.TheVariants.{NoSpace, Coincidence}
 use Rattle.format.specs.declared.Room.{Room}
 use Rattle.format.specs.declared.Room.TheVariants as room
 use Rattle.format.specs.declared.Fetched.{Fetched}
 use Rattle.format.specs.declared.Fetched.TheVariants as fetched
 use Rattle.format.proofs.Rooms.{clean_holds}
-use Rattle.format.proofs.Growing.{widest}
 use Rattle.theory.specs.Walk.Step.{both_true}
-use Rattle.theory.specs.Log.TwoBlocks.{view_at, view_log}
+use Rattle.theory.specs.Log.TwoBlocks.{view_at}
 use Rattle.format.specs.Directory.{acts}
 use Rattle.theory.specs.Lookup.SlotCount.{slots_after_all}
 use Rattle.theory.specs.Commit.Tested.{regular_count}
@@ -47,7 +46,6 @@ use Rattle.theory.specs.Commit.ForwardCheck.{with_made, with_hold}
 use Rattle.theory.specs.Blocks.OtherItems.{check_length_lem}
 use Rattle.theory.specs.Rules.FetchCount.{regular_slots}
 use Rattle.theory.specs.Commit.Acceptance.{Accepts}
-use Rattle.theory.specs.Fetch.FoundRecord.{found_answers}
 use Rattle.theory.specs.Rules.JudgedEntries.{judged_good}
 
 -- ---- the check's size
@@ -163,7 +161,7 @@ module _ (e : ℕ) (byte : erased_fits e ≡ true) (prog : ℕ) (some : 4 ≤ pr
   abbrev L : List Item
   L = with_forward e prog (length b) (log_end es) (items_of dat entries)
 
-  placed_accepts : (second w : Bool) (is : List Item) (size : ℕ) → placed e prog second b es L ≡ accepted w is size
+  pub placed_accepts : (second w : Bool) (is : List Item) (size : ℕ) → placed e prog second b es L ≡ accepted w is size
       → (w ≡ second) × (is ≡ L) × (size ≡ check_size prog (check_at es is)) × Accepts e b es is size
   unfolding placed room_clean
   placed_accepts second w is size h =
@@ -224,39 +222,3 @@ pub record AppendsTo (r : Rules) (e prog : ℕ) (b0 b1 : List ℕ) (entries : Li
       ≡ at second rev (log (block_at second b0 b1))
   pub ruled : Regular r (log (block_at second b0 b1)) ≡ true
   pub accepts : Accepts e (block_at second b0 b1) (log (block_at second b0 b1)) is size
-
-module _ (g : Geometry) (b0 b1 : List ℕ) (n0 n1 count seed rules e : ℕ) (entries : List Entry) (dat : List ℕ)
-    (second : Bool)
-    (is : List Item) (size : ℕ) where
-  pub accepted_commit : verdict_of g b0 b1 n0 n1 count seed rules e entries dat ≡ accepted second is size
-      → AppendsTo (rules_of rules) e g.prog_size b0 b1 entries dat second is size
-  unfolding verdict_of appended
-  accepted_commit h =
-      let p = past (not (commit_fits g (length b0) (length b1) n0 n1 rules e (length entries) (length dat))) Invalid _
-      second is size h in
-      let fits = not-false _ p.0 in
-      let prog = fits_prog g (fits_geometry g (length b0) (length b1) n0 n1 rules e (length entries)
-      (length dat) fits) in
-      let byte = fits_byte g (length b0) (length b1) n0 n1 rules e (length entries) (length dat) fits in
-      let f = found_then (fetch_of g b0 b1 n0 n1 count seed) _ second is size p.1 in
-      let a = found_answers g b0 b1 n0 n1 count seed f.m f.s f.found in
-      let t : appended (rules_of rules) e g.prog_size a.w (block_at a.w b0 b1) (log (block_at a.w b0 b1))
-      entries dat
-      ≡ accepted second is size = rw a.place at f.then in
-      let q = past (not (Regular (rules_of rules) (log (block_at a.w b0 b1)))) Irregular _ second is size t in
-      let j = good_then (judge dat 0 (count_of 0 (log (block_at a.w b0 b1))) entries) _ second is size q.1 in
-      let some : log (block_at a.w b0 b1) ≢ [] = (view_log a.w (block_at a.w b0 b1) (block_at (not a.w) b0 b1)
-      a.rev (log (block_at a.w b0 b1)) a.answers).1 in
-      let k = placed_accepts e byte g.prog_size prog.0 prog.1 (block_at a.w b0 b1)
-      (log (block_at a.w b0 b1))
-      refl some (widest (rules_of rules) _ (not-false _ q.0)) dat entries j.c j.all a.w second is size
-      j.then in
-      rw k.0 (record {
-        rev = a.rev;
-        sized = prog;
-        items = k.1;
-        rounded' = k.2;
-        answers = a.answers;
-        ruled = not-false _ q.0;
-        accepts = k.3;
-      })

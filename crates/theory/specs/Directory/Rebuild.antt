@@ -1,4 +1,5 @@
--- Compaction's acts, for each slot create and then what it holds, give the directory back. Assumes nothing.
+-- Compaction's acts, for each slot create and then what it holds, append the directory to what there was; so they
+-- give it back (proofs/Directory/Rebuild.antt). Assumes nothing.
 use Rattle.std.specs.Prelude.{◌≡◌, refl, ◌≢◌, Bool, true, false, cond, List, [], ◌∷◌, ◌++◌, ℕ, zero, suc, ◌≤◌, length, ltb, eqb}
 use Rattle.std.proofs.Common.{sym, ap, ◌∙◌, append-nil, arith, drop_of_length-le, length-append, take_all, le-ltb, lt-ltb, eqb-true, ltb-true, ltb-false}
 use Rattle.std.proofs.Math.Path.{fun_ext}
@@ -103,8 +104,3 @@ rebuild_dir (s ∷ D) i l a h =
     ∙ ap (λ z. dir l ++ (z ∷ [])) (up_to_all s a.0) in
     let n : length (dir (puts classes i s (mk i ∷ l))) ≡ suc i = rw e (length-append (dir l) (s ∷ []) ∙ omega arith) in
     rebuild_dir D (suc i) (puts classes i s (mk i ∷ l)) a.1 n ∙ rw e (append_snoc (dir l) s D)
-
--- the compacted log's directory is the old one
-pub rebuilt : (D : List Slot) → AllHeld D → dir (rebuild 0 D []) ≡ D
-unfolding dir
-rebuilt D a = rebuild_dir D 0 [] a refl

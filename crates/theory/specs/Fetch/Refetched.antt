@@ -2,7 +2,7 @@
 -- the other block are unchanged. Assumes nothing.
 use Rattle.std.proofs.Math.Path.{◌≡◌, refl, sym, ap}
 use Rattle.std.proofs.Common.{subst, ◌∙◌, inl, inr, arith, add_assoc, length-append, take-append-drop, length-take-le}
-use Rattle.std.specs.Prelude.{◌≢◌, not, cond, ◌&&◌, ◌||◌, ℕ, ◌+◌, ◌-◌, ◌%◌, ◌≤◌, drop, leb, ltb}
+use Rattle.std.specs.Prelude.{◌≢◌, not, cond, ◌&&◌, ◌||◌, ℕ, ◌+◌, ◌%◌, ◌≤◌, drop, leb, ltb}
 use Rattle.std.proofs.Math.Bool.{Bool, true, false}
 use mathlib.Core.List.{List, [], ◌++◌}
 use Rattle.std.proofs.Math.ListN.{length, take}

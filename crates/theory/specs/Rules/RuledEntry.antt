@@ -12,7 +12,7 @@ use Rattle.format.specs.Kind.{type_hard_tail, type_move, no_slot, is_check, is_w
 use Rattle.format.specs.Walk.{body_length}
 use Rattle.format.specs.Regular.{Rule, rule_of, between, rule_holds, count_after, create, delete, name, inlined, eight}
 use Rattle.format.specs.Regular.{attribute, tail, move, forward, bad, grows_after, count_raised}
-use Rattle.format.specs.Directory.{put, skip, empty, mk, rm, act, load_of}
+use Rattle.format.specs.Directory.{put, skip, mk, rm, act, load_of}
 use Rattle.format.proofs.Tags.{length_size, of_fields}
 use Rattle.format.proofs.Growing.{raised_never}
 use Rattle.theory.specs.Walk.Step.{both_true, not_true}

@@ -33,18 +33,18 @@ use Rattle.theory.specs.Log.TwoBlocks.{view_at, view_log}
 use Rattle.theory.specs.Log.Stores.{CommitFits, commit_events, events_end}
 use Rattle.theory.specs.Blocks.Append.{fill_all}
 use Rattle.theory.specs.Blocks.Compact.{AfterCompact}
-use Rattle.theory.specs.Compact.Acceptance.{compact_fits, compacted_regular}
+use Rattle.theory.proofs.Compact.Acceptance.{compact_fits, compacted_regular}
 use Rattle.theory.specs.Fetch.FoundRecord.{found_answers}
 use Rattle.theory.specs.Fetch.FoundBlock.{found_sized}
-use Rattle.theory.specs.Compact.AcceptedVerdict.{found_then, laid_behind, CompactsTo, accepted_compaction}
-use Rattle.theory.specs.Compact.AcceptedVerdict.{compaction_written, compaction_length, compaction_stopped}
-use Rattle.theory.specs.Compact.AcceptedVerdict.{past, compaction_keeps}
+use Rattle.theory.proofs.Compact.AcceptedVerdict.{found_then, laid_behind, CompactsTo, accepted_compaction}
+use Rattle.theory.proofs.Compact.AcceptedVerdict.{compaction_written, compaction_length, compaction_stopped}
+use Rattle.theory.proofs.Compact.AcceptedVerdict.{past, compaction_keeps}
 use Rattle.format.specs.Machine.{Machine, machine_of}
 use Rattle.format.specs.Stopped.{Bytes, Shows, ReadsAs, CompactStopped}
-use Rattle.theory.specs.Stopped.Shown.{found_tested, shows}
-use Rattle.theory.specs.Stopped.ReadsAsBefore.{reads_as, refound, refound_place}
-use Rattle.theory.specs.Stopped.ErasedBehind.{forward_held, carried_items, carried_aligned, carried_unit}
-use Rattle.theory.specs.Stopped.ErasedBehind as behind
+use Rattle.theory.proofs.Stopped.Shown.{found_tested, shows}
+use Rattle.theory.proofs.Stopped.ReadsAsBefore.{reads_as, refound, refound_place}
+use Rattle.theory.proofs.Stopped.ErasedBehind.{forward_held, carried_items, carried_aligned, carried_unit}
+use Rattle.theory.proofs.Stopped.ErasedBehind as behind
 use Rattle.theory.specs.Fetch.Places.{same_place, both_blocks, lengths, few_slots, block_length}
 
 word_fits : (b : List ℕ) → Bytes b → le32 b < 2 ^ 32

@@ -25,8 +25,8 @@ use Rattle.theory.specs.Directory.Rebuild.{rebuild}
 use Rattle.theory.specs.Blocks.ActItems.{to_item, OkAct, AllOk, type_low, ok_rev}
 use Rattle.theory.specs.Blocks.SlotItems.{OkSlots, rebuild_ok}
 use Rattle.theory.specs.Blocks.Compact.{compact_items}
-use Rattle.theory.specs.Compact.RegularAgain.{written_app}
-use Rattle.theory.specs.Compact.MoveCarried.{MoveOk, NoMove, carried, compact_moves}
+use Rattle.theory.proofs.Compact.RegularAgain.{written_app}
+use Rattle.theory.proofs.Compact.MoveCarried.{MoveOk, NoMove, carried, compact_moves}
 use Rattle.theory.specs.Rules.LooseEntry.{AllLoose, Loose, loose_app, loose_item, tail_body, tail_eight, pair_back}
 
 loose_tail : (split : Bool) (p : LfsPair) → AllLoose (tail_items split p)

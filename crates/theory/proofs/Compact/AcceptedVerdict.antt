@@ -16,7 +16,7 @@ use Rattle.format.specs.Crc.{crc}
 use Rattle.format.specs.Walk.{Event}
 use Rattle.format.specs.Log.{log}
 use Rattle.format.specs.Record.{count_of, no_tail, tail_of, split_of}
-use Rattle.format.specs.View.{none, at}
+use Rattle.format.specs.View.{at}
 use Rattle.format.specs.Fetch.{fetch_of}
 use Rattle.format.specs.Regular.{Regular, rules_fit, rules_of}
 use Rattle.format.specs.declared.Rules.{Rules}
@@ -45,17 +45,18 @@ use Rattle.theory.specs.Walk.Erased.{length_erased}
 use Rattle.theory.specs.Log.Stores.{commit_events}
 use Rattle.theory.specs.Log.TwoBlocks.{view_at}
 use Rattle.theory.specs.Blocks.Append.{length_commit}
-use Rattle.theory.specs.Blocks.Compact.{compact_items, compact_good, AfterCompact}
+use Rattle.theory.specs.Blocks.Compact.{compact_items, AfterCompact}
+use Rattle.theory.proofs.Blocks.Compact.{compact_good}
 use Rattle.theory.specs.Lookup.SlotCount.{length_dir_of}
 use Rattle.theory.specs.Blocks.SlotItems.{OkSlots, ok_dir_of}
 use Rattle.theory.specs.Directory.Machine.{most_slots}
 use Rattle.theory.specs.Commit.Tested.{regular_log, regular_loads, regular_count, items_ok}
 use Rattle.theory.specs.Rules.FetchCount.{regular_slots}
 use Rattle.theory.specs.Walk.ReadBack.{AllGood}
-use Rattle.theory.specs.Compact.MoveCarried.{MoveOk, regular_move}
-use Rattle.theory.specs.Compact.Acceptance.{Compacts, compact_fits, compact_stopped}
-use Rattle.theory.specs.Compact.EntriesListed.{listed}
-use Rattle.theory.specs.Compact.BehindSlots.{behind_items, behind_loose, move_kept, tail_kept}
+use Rattle.theory.proofs.Compact.MoveCarried.{MoveOk, regular_move}
+use Rattle.theory.proofs.Compact.Acceptance.{Compacts, compact_fits, compact_stopped}
+use Rattle.theory.proofs.Compact.EntriesListed.{listed}
+use Rattle.theory.proofs.Compact.BehindSlots.{behind_items, behind_loose, move_kept, tail_kept}
 use Rattle.theory.specs.Rules.LooseEntry.{AllLoose, loose_app, loose_made, loose_hold, loose_still}
 use Rattle.theory.specs.Fetch.FoundRecord.{found_answers}
 use Rattle.theory.specs.Commit.AcceptedVerdict.{check_size_lem}

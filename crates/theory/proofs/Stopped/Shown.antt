@@ -36,7 +36,7 @@ use Rattle.theory.specs.Commit.Tested.{regular_log}
 use Rattle.theory.specs.Lookup.SlotSearch.{log_inside}
 use Rattle.theory.specs.Fetch.FoundRecord.{few_found, past_test}
 use Rattle.theory.specs.Fetch.FoundBlock.{Reads, found_sized, found_reads}
-use Rattle.theory.specs.Compact.AcceptedVerdict.{slots_counted}
+use Rattle.theory.proofs.Compact.AcceptedVerdict.{slots_counted}
 use Rattle.format.specs.Machine.{machine_of, Ask, name, struct, attribute, move, ask_mask, ask_key, ask_fits, ask_id, asked}
 use Rattle.format.specs.Machine.{held_word, held_buffer}
 use Rattle.format.specs.Answer.{got_word}

@@ -2,7 +2,7 @@
 -- the record before it is a fetch. Assumes nothing.
 use Rattle.std.proofs.Math.Path.{◌≡◌, refl}
 use Rattle.std.proofs.Common.{sym, ◌∙◌, inl, inr, arith}
-use Rattle.std.specs.Prelude.{Bool, true, false, not, cond, List, ℕ, ◌-◌, min, take, eqb}
+use Rattle.std.specs.Prelude.{Bool, true, false, not, cond, List, ℕ, min, take, eqb}
 use Rattle.format.specs.Word.{all_ones}
 use Rattle.format.specs.Log.{log, log_end, log_end_tag}
 use Rattle.format.specs.Commit.{Item}
@@ -20,7 +20,7 @@ use Rattle.theory.specs.Log.Continued.{log_whole, contained_end}
 use Rattle.theory.specs.Fetch.FoundRecord.{found_answers}
 use Rattle.theory.specs.Fetch.Places.{same_place}
 use Rattle.theory.specs.Fetch.Refetched.{refetched}
-use Rattle.theory.specs.Stopped.Commit.{appends, ok, commit_found, commit_written, stored_front}
+use Rattle.theory.proofs.Stopped.Commit.{appends, ok, commit_found, commit_written, stored_front}
 
 -- the block that a record was read from, by its place
 at_place : (b0 b1 : List ℕ) (n0 : ℕ) (m : LfsMdir) (w : Bool) → is_second n0 m ≡ w

@@ -30,18 +30,20 @@ use Rattle.format.proofs.Growing.{widest}
 use Rattle.theory.specs.Log.TwoBlocks.{view_at, view_log}
 use Rattle.theory.specs.Log.Stores.{commit_events, events_end}
 use Rattle.theory.specs.Blocks.Append.{length_commit, AppendOk, AfterAppend}
-use Rattle.theory.specs.Commit.Acceptance.{Accepts, accepted_stopped, finished_regular}
+use Rattle.theory.specs.Commit.Acceptance.{Accepts, finished_regular}
+use Rattle.theory.proofs.Commit.Acceptance.{accepted_stopped}
 use Rattle.theory.specs.Commit.Acceptance as writing
 use Rattle.theory.specs.Fetch.FoundRecord.{found_answers}
 use Rattle.theory.specs.Fetch.FoundBlock.{found_sized}
-use Rattle.theory.specs.Commit.AcceptedVerdict.{past, found_then, AppendsTo, accepted_commit}
+use Rattle.theory.specs.Commit.AcceptedVerdict.{past, found_then, AppendsTo}
+use Rattle.theory.proofs.Commit.AcceptedVerdict.{accepted_commit}
 use Rattle.format.specs.Machine.{Machine, machine_of, ran}
 use Rattle.format.specs.Stopped.{Shows, ReadsAs, CommitStopped}
 use Rattle.theory.specs.Fetch.Places.{same_place, both_blocks, lengths, few_slots, block_length}
-use Rattle.theory.specs.Stopped.Shown.{found_tested, shows}
-use Rattle.theory.specs.Stopped.ReadsAsBefore.{reads_as, refound, refound_place}
-use Rattle.theory.specs.Stopped.ErasedBehind.{forward_held, append_erased, carried_items, carried_aligned}
-use Rattle.theory.specs.Stopped.ErasedBehind.{carried_unit}
+use Rattle.theory.proofs.Stopped.Shown.{found_tested, shows}
+use Rattle.theory.proofs.Stopped.ReadsAsBefore.{reads_as, refound, refound_place}
+use Rattle.theory.proofs.Stopped.ErasedBehind.{forward_held, append_erased, carried_items, carried_aligned}
+use Rattle.theory.proofs.Stopped.ErasedBehind.{carried_unit}
 use Rattle.theory.specs.Commit.MachineAfter.{commit_ran}
 use Rattle.theory.specs.Commit.ForwardCheck.{with_ran}
 

@@ -23,7 +23,7 @@ use Rattle.theory.specs.Walk.Step.{both_true}
 use Rattle.theory.specs.Log.TwoBlocks.{view_at}
 use Rattle.format.specs.Look.{HitIn}
 use Rattle.theory.specs.Lookup.AtStart.{searched_in, back_same, slice_same}
-use Rattle.theory.specs.Stopped.Shown.{found_tested, fetch_viewed}
+use Rattle.theory.proofs.Stopped.Shown.{found_tested, fetch_viewed}
 use Rattle.format.specs.Stopped.{unmarked, Finds, ReadsAs}
 
 -- ---- n is the answering block's number, k the other's; x stood in it, and y stands in it now

@@ -22,7 +22,7 @@ use Rattle.theory.specs.Directory.Types.{not_wide}
 use Rattle.theory.specs.Blocks.ActItems.{to_item, OkAct, type_low, AllOk, ok_rev}
 use Rattle.theory.specs.Blocks.SlotItems.{OkSlots, rebuild_ok}
 use Rattle.theory.specs.Blocks.Compact.{compact_items}
-use Rattle.theory.specs.Compact.RegularAgain.{written_app}
+use Rattle.theory.proofs.Compact.RegularAgain.{written_app}
 
 -- ---- the move state of a regular log is one, with twelve bytes
 abbrev pub MoveOk : Option Load → Type 0

@@ -23,14 +23,15 @@ use Rattle.theory.specs.Log.Stores.{CommitFits, commit_events}
 use Rattle.theory.specs.Log.TwoBlocks.{view_at}
 use Rattle.theory.specs.Directory.Machine.{most_slots}
 use Rattle.theory.specs.Blocks.SlotItems.{OkSlots, ok_dir_of}
-use Rattle.theory.specs.Blocks.Compact.{Still, compact_items, compact_good, AfterCompact, demand3_compact}
+use Rattle.theory.specs.Blocks.Compact.{Still, compact_items, AfterCompact}
+use Rattle.theory.proofs.Blocks.Compact.{compact_good, demand3_compact}
 use Rattle.theory.specs.Blocks.OtherItems.{good_check}
 use Rattle.theory.specs.Lookup.SlotCount.{length_dir_of}
 use Rattle.theory.specs.Lookup.OnBlock.{RegularLog}
 use Rattle.theory.specs.Rules.MadeItem.{AllMade}
 use Rattle.theory.specs.Commit.Tested.{regular_log, regular_loads, regular_count, items_ok}
 use Rattle.theory.specs.Commit.Acceptance.{no_coincidence}
-use Rattle.theory.specs.Compact.RegularAgain.{compact_regular}
+use Rattle.theory.proofs.Compact.RegularAgain.{compact_regular}
 
 -- ---- compaction of the block x, whose log is es and whose revision is v: ts are the entries that touch no slot (tail,
 -- move state), `size` the check's, and m bytes e stay erased behind

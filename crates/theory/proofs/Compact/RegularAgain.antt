@@ -16,7 +16,8 @@ use Rattle.format.proofs.Tags.{of_type3, of_id, of_size}
 use Rattle.format.proofs.Growing.{grows_never, raised_never}
 use Rattle.theory.specs.Log.Stores.{commit_events}
 use Rattle.theory.specs.Directory.Machine.{Allowed, behind_never, still_grows, inside_there, most_slots, AllAllowed}
-use Rattle.theory.specs.Directory.Rebuild.{puts, puts_dir, up_to, emit, rebuild, rebuilt}
+use Rattle.theory.specs.Directory.Rebuild.{puts, puts_dir, up_to, emit, rebuild}
+use Rattle.theory.proofs.Directory.Rebuild.{rebuilt}
 use Rattle.theory.specs.Directory.Acts.{dir_rev}
 use Rattle.theory.specs.Blocks.ActItems.{OkAct, to_item, type_low, AllOk, ok_rev}
 use Rattle.theory.specs.Blocks.SlotItems.{OkSlots, all_held, rebuild_ok}

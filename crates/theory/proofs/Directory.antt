@@ -1,0 +1,2 @@
+-- The acts of a compaction rebuild the directory.
+pub mod Rebuild
