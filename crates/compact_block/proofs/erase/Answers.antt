@@ -1,5 +1,5 @@
 -- `compact_block::erase` meets its contract. The loop keeps that the first i bytes are erased. Assumes nothing.
-use Rattle.std.proofs.Common.{◌-◌, refl, arith}
+use Rattle.std.proofs.Common.{refl, arith}
 use Rattle.compact_block.proofs.Erasing.{erase_one, erase_length, erase_all}
 use Rattle.compact_block.proofs.erase.Goals as goal
 

@@ -1,7 +1,6 @@
 -- `compact_entries::placed_slot` meets its contract. The loop keeps where the slot's places end, from here
 -- (`Placing`); the words that are left fall. Assumes nothing.
 use mathlib.Core.Path.{refl}
-use Prim.Native.Nat.{◌-◌}
 use native.Mathlib.Omega.{arith}
 use Rattle.compact_entries.proofs.Placed.{starts, place_small, places_end, places_other, place_inside}
 use Rattle.compact_entries.proofs.Placed.{place_next}

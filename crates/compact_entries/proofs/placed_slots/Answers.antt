@@ -2,7 +2,6 @@
 -- places
 -- of the slots to come stand from `at` on (`Passing`); the slots that are left fall. Assumes nothing.
 use mathlib.Core.Path.{refl}
-use Prim.Native.Nat.{◌-◌}
 use native.Mathlib.Omega.{arith}
 use Rattle.compact_entries.proofs.Placed.{passes, all_passed, slot_placed, slot_end, slot_passed}
 use borrow.Author.Rules.{rules}

@@ -1,7 +1,6 @@
 -- `compact_entries::slot` meets its contract. The loop keeps where all classes end, from here; the classes that are
 -- left fall. Assumes nothing.
 use mathlib.Core.Path.{refl, sym, ◌∙◌}
-use Prim.Native.Nat.{◌-◌}
 use native.Mathlib.Omega.{arith}
 use Rattle.compact_slot.specs.Slots.{slot_in}
 use Rattle.compact_entries.proofs.Joined.{entry_within, class_within}

@@ -1,7 +1,6 @@
 -- `compact_entries::slots` meets its contract. The loop keeps where all slots end, from here; the slots that are left
 -- fall. Assumes nothing.
 use mathlib.Core.Path.{refl}
-use Prim.Native.Nat.{◌-◌}
 use native.Mathlib.Omega.{arith}
 use borrow.Author.Rules.{rules}
 use Rattle.compact_entries.proofs.Joined.{slot_within}
