@@ -29,7 +29,8 @@ fn each(es: &[Entry], dat: &[u8], b0: &mut [u8], b1: &mut [u8], st: State) -> St
 }
 
 // The first pass, from a begun state: judge every entry, and decide. Each function here holds few states, and fetch
-// runs outside of both passes: so little stack is taken at once.
+// runs outside of both passes: so little stack is taken at once, which a call of its own keeps so.
+#[inline(never)]
 fn judge(
     s: State,
     g: Geometry,

@@ -244,7 +244,9 @@ fn lay(b: &mut [u8], l: Laying, tag: u32, dat: &[u8], off: u32, len: u32) -> Lay
     }
 }
 
-// Between the passes: good entries are refused here, or laid.
+// Between the passes: good entries are refused here, or laid. A call of its own, so that a pass holds nothing of it on
+// the stack.
+#[inline(never)]
 pub fn decide(erased: u8, st: State, g: Geometry, b0: &[u8], b1: &[u8], stores: u32) -> State
     ensures { result ≡ decided_of erased st g b0.now b1.now stores }
 {

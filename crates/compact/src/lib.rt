@@ -13,7 +13,8 @@ ghost use Rattle.format.specs.Stopped.{CompactLeaves, CompactStoresLeaves};
 use format::types::UNLIMITED;
 use format::{Committed, Fetched, Geometry, Refusal, Stored};
 
-// What all three calls do, with a limit of stores and a table.
+// What all three calls do, with a limit of stores and a table. Inlined, so that it shares their frame on the stack.
+#[inline(always)]
 fn run(
     g: Geometry,
     b0: &mut [u8],
