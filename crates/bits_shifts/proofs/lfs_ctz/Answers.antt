@@ -10,5 +10,5 @@ pub returns : goal.returns
 returns c =
     let sum = c.wrapping_add_u32 in
     let neg = c.wrapping_sub_u32 in
-    ap (λ (x : ℕ). x - 1) (c.lfs_npw2.ensures ∙ ap npw2 sum.ensures)
-    ∙ ctz_is c.args.a neg.result c.ranges.a.fits (omega (arith, neg.type_inv)) neg.ensures
+    ap (λ (x : ℕ). x - 1) (c.lfs_npw2.ensures ∙ ap npw2 sum.ensures.value)
+    ∙ ctz_is c.args.a neg.result c.ranges.a.fits (omega (arith, neg.type_inv)) neg.ensures.value
