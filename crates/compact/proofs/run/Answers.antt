@@ -5,7 +5,6 @@ use mathlib.Core.Path.{sym, ◌∙◌}
 use Rattle.compact.proofs.Called.{kept, renews_first, renews_second, called_invalid, called_refused}
 use Rattle.compact.proofs.Called.{called_first, called_second}
 use native.Mathlib.Omega.{arith}
-use borrow.Author.Rules.{rules}
 use Rattle.std.proofs.Common.{ap, not}
 use Rattle.compact.proofs.run.Goals as goal
 
