@@ -33,6 +33,7 @@ FACTS = re.compile("|".join((
     r"`(search|cc|grind)`: no proof of `",
     r"`(omega|grind)`: the (part `\.\w+` of the )?goal does not follow",
     r"`(rw|simp)`: no occurrence of the path's left endpoint in the goal",
+    r"give a proof of that as the last argument, `(rw|simp) L t`",
     r"list the missing equation with its arguments")))
 # Of the goals that a function leaves open, those that are part of its contract, and not of what an operation or a call
 # asks.

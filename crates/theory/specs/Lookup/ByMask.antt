@@ -73,7 +73,16 @@ abbrev pub itself : ℕ → ℕ
 itself t = t
 
 abbrev pub Shape : ℕ → List ℕ → Act → Type 0
-Shape = ShapeBy itself
+Shape t x (mk j) = (t ≡ tag_of type_create j 0) × (j < 2 ^ 10)
+Shape t x (rm j) = (t ≡ tag_of type_delete j 0) × (j < 2 ^ 10)
+Shape t x (put j k v) = (is_splice t ≡ false) × (v ≡ load_of t x) × (j ≡ tag_id t) × (t < 2 ^ 31)
+Shape t x skip = is_splice t ≡ false
+
+shape_by : (t : ℕ) (x : List ℕ) (a : Act) → Shape t x a → ShapeBy itself t x a
+shape_by t x (mk j) h = h
+shape_by t x (rm j) h = h
+shape_by t x (put j k v) h = h
+shape_by t x skip h = h
 
 abbrev pub Shapes : (Met → List ℕ) → List Met → Type 0
 Shapes at [] = Unit {0}
@@ -82,7 +91,7 @@ Shapes at (m ∷ ms) = Shape m.tag (at m) (seen_as at m) × Shapes at ms
 shapes_by : (at : Met → List ℕ) (ms : List Met) → Shapes at ms → ShapesBy itself at ms
 unfolding seen_as
 shapes_by at [] h = tt
-shapes_by at (m ∷ ms) h = (h.0, shapes_by at ms h.1)
+shapes_by at (m ∷ ms) h = (shape_by m.tag (at m) (seen_as at m) h.0, shapes_by at ms h.1)
 
 -- at most 1,023 slots at any time
 abbrev pub FewBack : List Act → Type 0
@@ -318,6 +327,10 @@ module _ (see : ℕ → ℕ) (at : Met → List ℕ) (of : Found → List ℕ) (
           sub false eh rb er = rw (sp.0, e, miss (put j k v) ea i (omega (arith, i-low)), eh)
               (ih d i hd i-low (inside_put g l i j k v ru (rw ea at h)) e)
       go skip ea sp ru h ih = rw (sp, e, miss skip ea i (omega (arith, i-low))) (ih d i hd i-low (rw ea at h) e)
+
+seen_act : (at : Met → List ℕ) (m : Met) → seen_as at m ≡ act m.tag (at m)
+unfolding seen_as
+seen_act at m = refl
 
 -- each tag taken for itself
 pub wlook_as : (at : Met → List ℕ) (of : Found → List ℕ) → Alike at of → (mask T c s asked : ℕ) → Query mask T c
