@@ -108,7 +108,7 @@ def definitions():
         m = re.match(r"pub mod (\w+)", line)
         if m:
             text = read("crates", "format", "specs", m.group(1) + ".antt")
-            uses = re.findall(r"^use Rattle·format·specs\.specs\.(\w+)\.", text, re.M)
+            uses = re.findall(r"^use Rattle\.format\.specs\.(\w+)\.", text, re.M)
             yield m.group(1), first_sentence(text, "--"), [u for u in dict.fromkeys(uses) if u != "declared"]
 
 

@@ -1,7 +1,7 @@
 // A commit: "a lent list of entry records (type, id, data offset, length) over a data buffer", appended to the block of
 // a pair that answers. Any blocks, numbers, entries and bytes; a refused call changes nothing. The functions here hold
 // the list of entries and do no more than pass it on: `each` is the one loop over it, run twice, and hands an entry's
-// numbers to `commit_steps::step`. Their proofs are walks that tools/genwalk.py writes.
+// numbers to `commit_steps::step`.
 #![tactic(auto)]
 
 ghost use Rattle.std.specs.Prelude.{◌≡◌, length};

@@ -26,8 +26,7 @@ pub mod indexing;
 // The global state, which stands with the caller.
 pub mod global;
 
-// Commit, and the same with a limit of stores. Both hold the list of entries and only pass it on: walks that
-// tools/genwalk.py writes.
+// Commit, and the same with a limit of stores. Both hold the list of entries and only pass it on.
 #[unsafe(no_mangle)]
 pub extern "C" fn lanolin_commit(
     g: Geometry,
