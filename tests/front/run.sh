@@ -64,6 +64,7 @@ shows crates/raw_log/stdout
 many=samples/instructions.pair
 tries 0 find "$pair" q212
 shows crates/find/stdout
+tries 0 find "$pair" q212 # it is proved by now, so nothing is said
 quiet err
 tries 0 find --prog-size 16 "$many" q213
 shows <(printf 'slot 3 001 q213 201 6\nattr 3 374 100e0000\nattr 3 375 01\n')
