@@ -1,8 +1,7 @@
 -- The audit by computation: document 01's listing lacks nothing; the same instruction with its deadline in a commit of
 -- its own, stopped before that commit's check, has a payload and no deadline; and what is said of a deadline by its
 -- length. Assumes nothing.
-use Rattle.std.specs.Prelude.{◌≡◌, refl, cond, List, [], ◌∷◌, ◌++◌, ℕ, eqb}
-use Rattle.std.proofs.Math.Option.{none, some}
+use Rattle.std.specs.Prelude.{◌≡◌, refl, cond, List, [], ◌∷◌, ◌++◌, ℕ, eqb, None, Some}
 use Rattle.format.specs.Word.{be32, le32, to_le32, xor}
 use Rattle.format.specs.Tag.{tag_length, tag_flipped}
 use Rattle.format.specs.Kind.{type_file, type_inline_struct}
@@ -60,9 +59,9 @@ lost = refl
 -- ---- a slot with the deadline d, with a payload and without
 abbrev slot_of : List ℕ → List ℕ → Slot
 slot_of payload d c =
-    cond (eqb c 0) (some (record { type = type_file; bytes = q212 }))
-    (cond (eqb c 1) (some (record { type = type_inline_struct; bytes = payload }))
-    (cond (eqb c 118) (some (record { type = 0x374; bytes = d })) none))
+    cond (eqb c 0) (Some (record { type = type_file; bytes = q212 }))
+    (cond (eqb c 1) (Some (record { type = type_inline_struct; bytes = payload }))
+    (cond (eqb c 118) (Some (record { type = 0x374; bytes = d })) None))
 
 -- of four bytes; of two and of none, which can't be read; and without a payload, of whatever length
 pub lengths : (audit_line 8 (slot_of abc deadline) ≡ [])

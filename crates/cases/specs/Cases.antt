@@ -7,7 +7,7 @@ use Rattle.format.specs.Walk.{read_behind, class_of, body_length, walk_in, walk_
 use Rattle.format.specs.Log.{committed, log}
 use Rattle.format.specs.View.{rank, view}
 use Rattle.format.specs.Fetch.{geometry_fits, pair_fits, too_high, fetch_of}
-use Rattle.format.specs.Answer.{flag_of, fetched_result}
+use Rattle.format.specs.Answer.{flag_of, result_number}
 use Rattle.format.specs.Arith.{npw2, ctz}
 use Rattle.format.specs.Count.{second_first, count_named, count_spliced}
 use Rattle.format.specs.Tag.{tag_length, tag_flipped, tag_splice}
@@ -35,7 +35,7 @@ cases =
     ∷ record { given = pos (count_named 0 1_023); said = pos 1_024 }
     -- "(10) all 0xff pair: -84"
     ∷ record {
-      given = fetched_result (fetch_of (record { block_size = 128; prog_size = 16 }) (replicate 128 0xff)
+      given = result_number (fetch_of (record { block_size = 128; prog_size = 16 }) (replicate 128 0xff)
           (replicate 128 0xff) 0 1 0 0);
       said = neg_ℤ (pos 84);
     }

@@ -1,6 +1,6 @@
 -- Document 01's listing block, and a commit behind it that sets the attribute 0x374 of slot 0 anew: by computation.
 -- Assumes nothing.
-use Rattle.std.specs.Prelude.{◌≡◌, refl, true, false, List, [], ◌∷◌, ◌++◌, ℕ, take}
+use Rattle.std.specs.Prelude.{◌≡◌, refl, true, false, List, [], ◌∷◌, ◌++◌, ℕ, take, Err, Ok, Result}
 use Rattle.format.specs.Crc.{crc, crc_byte, crc_bits, crc_bit}
 use Rattle.format.specs.Word.{be32, le32, to_be32, to_le32, xor}
 use Rattle.format.specs.Tag.{tag_length, tag_flipped, tag_of}
@@ -21,9 +21,9 @@ use Rattle.format.specs.Writer.{images, unlimited, commit_images, commit_of, com
 use Rattle.format.specs.declared.Geometry.{Geometry}
 use Rattle.format.specs.declared.Entry.{Entry}
 use Rattle.format.specs.declared.Refusal.TheVariants.{Invalid, BadEntry, NoSpace, Misaligned, WrongValidity, NotErased}
-use Rattle.format.specs.declared.Committed.{Committed}
-use Rattle.format.specs.declared.Committed.TheVariants as committed
-use Rattle.format.specs.declared.Stored.TheVariants as stored
+use Rattle.format.specs.declared.Fetched.{Fetched}
+use Rattle.format.specs.declared.Refusal.{Refusal}
+use Rattle.format.specs.Record.{fetched}
 
 abbrev geometry : Geometry
 geometry = record { block_size = 128; prog_size = 16 }
@@ -70,18 +70,18 @@ struct n = record { kind = 0x201; id = 0; off = 0; len = n }
 abbrev image : List Entry → List ℕ → ℕ → Images
 image es dat n = commit_images geometry first second 0 1 0 0 0 0xff es dat n
 
-abbrev answer : List ℕ → List Entry → List ℕ → Committed
+abbrev answer : List ℕ → List Entry → List ℕ → Result Fetched Refusal
 answer b es dat = commit_of geometry b second 0 1 0 0 0 0xff es dat
 
 -- five stores; all of them; the answers; "an entry is bad", the space, both ("-201, -28": the entry); the end, 48, no
 -- multiple of the program size 32, the end tag's validity bit, a byte far behind the end that isn't erased; equal block
 -- numbers
 listing : (image (deadline ∷ []) seconds 5 ≡ images (laid ++ erased 0xff 9 ++ take 5 more ++ erased 0xff 75) second)
-    × (commit_stores_of geometry first second 0 1 0 0 0 0xff (deadline ∷ []) seconds 5 ≡ stored.Made 5)
+    × (commit_stores_of geometry first second 0 1 0 0 0 0xff (deadline ∷ []) seconds 5 ≡ Ok 5)
     × (image (deadline ∷ []) seconds unlimited ≡ images (laid ++ erased 0xff 9 ++ more ++ erased 0xff 52) second)
-    × (commit_stores_of geometry first second 0 1 0 0 0 0xff (deadline ∷ []) seconds 29 ≡ stored.Made 28)
+    × (commit_stores_of geometry first second 0 1 0 0 0 0xff (deadline ∷ []) seconds 29 ≡ Ok 28)
     × (answer first (deadline ∷ []) seconds
-    ≡ committed.Done (record {
+    ≡ Ok (fetched (record {
       pair = record { n0 = 0; n1 = 1 };
       rev = 1;
       off = 80;
@@ -91,18 +91,17 @@ listing : (image (deadline ∷ []) seconds 5 ≡ images (laid ++ erased 0xff 9 +
       split = false;
       tail = no_tail;
       fcrc = record { seen = true; size = 16; sum = 0xc04c_39e5 };
-    })
-    0x8431_4617)
-    × (answer first (create ∷ past ∷ []) seconds ≡ committed.Refused (BadEntry 1))
+    }) 0x8431_4617))
+    × (answer first (create ∷ past ∷ []) seconds ≡ Err (BadEntry 1))
     × (image (create ∷ past ∷ []) seconds 5 ≡ images first second)
-    × (commit_stores_of geometry first second 0 1 0 0 0 0xff (struct 68 ∷ []) (erased 0xff 69) 100 ≡ stored.Made 80)
-    × (answer first (struct 69 ∷ []) (erased 0xff 69) ≡ committed.Refused NoSpace)
-    × (answer first (struct 69 ∷ past ∷ []) (erased 0xff 69) ≡ committed.Refused (BadEntry 1))
+    × (commit_stores_of geometry first second 0 1 0 0 0 0xff (struct 68 ∷ []) (erased 0xff 69) 100 ≡ Ok 80)
+    × (answer first (struct 69 ∷ []) (erased 0xff 69) ≡ Err NoSpace)
+    × (answer first (struct 69 ∷ past ∷ []) (erased 0xff 69) ≡ Err (BadEntry 1))
     × (commit_of (record { block_size = 128; prog_size = 32 }) first second 0 1 0 0 0 0xff (deadline ∷ []) seconds
-    ≡ committed.Refused Misaligned)
-    × (answer flipped (deadline ∷ []) seconds ≡ committed.Refused WrongValidity)
-    × (answer (laid ++ erased 0xff 88 ++ (0xfe ∷ [])) (deadline ∷ []) seconds ≡ committed.Refused (NotErased 127))
-    × (commit_of geometry first second 7 7 0 0 0 0xff [] [] ≡ committed.Refused Invalid)
+    ≡ Err Misaligned)
+    × (answer flipped (deadline ∷ []) seconds ≡ Err WrongValidity)
+    × (answer (laid ++ erased 0xff 88 ++ (0xfe ∷ [])) (deadline ∷ []) seconds ≡ Err (NotErased 127))
+    × (commit_of geometry first second 7 7 0 0 0 0xff [] [] ≡ Err Invalid)
 unfolding with_forward carried_for carries commit_images commit_of commit_stores_of verdict_of commit_fits pair_fits geometry_fits
     fetch_of too_high view rank log committed walk walk_from walk_in class_of read_behind body_length tag_length tag_flipped be32
     le32 to_be32 to_le32 xor crc crc_byte crc_bits crc_bit mdir_of erased_of stopped_straight span event_length tag_after count_of

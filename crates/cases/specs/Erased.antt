@@ -1,7 +1,7 @@
 -- Document 02, L7, by computation: the two erased bytes and no other; a pair that is moved to a board which erases to
 -- 0x00: refused, then compacted and committed to, byte for byte, and stopped; a log of both kinds; the coincidence. The
 -- bytes were worked out apart, by samples/writer.py. Assumes nothing.
-use Rattle.std.specs.Prelude.{◌≡◌, refl, true, false, List, [], ◌∷◌, ◌++◌, map, ℕ, replicate, take}
+use Rattle.std.specs.Prelude.{◌≡◌, refl, true, false, List, [], ◌∷◌, ◌++◌, map, ℕ, replicate, take, Err, Ok, Result}
 use Rattle.format.specs.Crc.{crc, crc_byte, crc_bits, crc_bit}
 use Rattle.format.specs.Word.{be32, le32, to_be32, to_le32, xor}
 use Rattle.format.specs.Tag.{tag_length, tag_flipped, tag_of}
@@ -26,11 +26,10 @@ use Rattle.format.specs.declared.LfsFcrc.{LfsFcrc}
 use Rattle.format.specs.declared.LfsMdir.{LfsMdir}
 use Rattle.format.specs.declared.Entry.{Entry}
 use Rattle.format.specs.declared.Refusal.TheVariants.{Invalid, WrongValidity, Coincidence}
-use Rattle.format.specs.declared.Fetched.{Fetched}
-use Rattle.format.specs.declared.Fetched.TheVariants as fetched
-use Rattle.format.specs.declared.Committed.{Committed}
-use Rattle.format.specs.declared.Committed.TheVariants as committed
 use Rattle.cases.specs.Listing.{blank, listing}
+use Rattle.format.specs.declared.Fetched.{Fetched}
+use Rattle.format.specs.declared.Refusal.{Refusal}
+use Rattle.format.specs.Record.{fetched}
 
 -- "0xff or 0x00", and the bytes beside them; "0x500 for 0xff and 0x501 for 0x00"
 pub bytes : (map erased_fits (0xff ∷ 0x00 ∷ 0x01 ∷ 0x7f ∷ 0x80 ∷ 0xfe ∷ []) ≡ true ∷ true ∷ false ∷ false ∷ false ∷ false
@@ -87,15 +86,14 @@ record_at n0 n1 rev off etag = record {
   fcrc = sixteen;
 }
 
-abbrev commit : ℕ → List ℕ → List ℕ → List ℕ → Committed
+abbrev commit : ℕ → List ℕ → List ℕ → List ℕ → Result Fetched Refusal
 commit e b0 b1 dat = commit_of geometry b0 b1 0 1 0 0 0 e (deadline ∷ []) dat
 
 -- Of the compaction and of the commit: the images, and the answers; the end tag's bit 31 is set.
 pub written : (compact_images geometry listing (blank 128) 0 1 0 0 0 0x00 unlimited ≡ images listing renewed)
-    × (compact_of geometry listing (blank 128) 0 1 0 0 0 0x00 ≡ committed.Done (record_at 1 0 2 64 0xd01f_fc11)
-    0xfd0e_7d23)
+    × (compact_of geometry listing (blank 128) 0 1 0 0 0 0x00 ≡ Ok (fetched (record_at 1 0 2 64 0xd01f_fc11) 0xfd0e_7d23))
     × (commit_images geometry listing renewed 0 1 0 0 0 0x00 (deadline ∷ []) hour unlimited ≡ images listing hourly)
-    × (commit 0x00 listing renewed hour ≡ committed.Done (record_at 1 0 2 96 0xd01f_fc08) 0x0e58_d16e)
+    × (commit 0x00 listing renewed hour ≡ Ok (fetched (record_at 1 0 2 96 0xd01f_fc08) 0x0e58_d16e))
 unfolding with_forward carried_for carries commit_images commit_of verdict_of commit_fits compact_images compact_of
     compact_verdict compactable placed_anew compacting compact_bytes compaction_items dir_items slot_items dir_of dir acts act
     apply reaching upd empty move_of pair_fits geometry_fits fetch_of too_high view rank log committed walk walk_from walk_in
@@ -107,12 +105,12 @@ written = (refl, refl, refl, refl)
 
 -- Moved, and not compacted first: the validity bit is wrong, either way. Another byte is -22, of a pair that fetch
 -- would refuse with -84 too.
-pub refused : (commit 0x00 listing (blank 128) hour ≡ committed.Refused WrongValidity)
-    × (commit 0xff listing renewed hour ≡ committed.Refused WrongValidity)
-    × (commit 0x01 listing (blank 128) hour ≡ committed.Refused Invalid)
-    × (commit 0x01 (blank 128) (blank 128) hour ≡ committed.Refused Invalid)
-    × (compact_of geometry listing (blank 128) 0 1 0 0 0 0xfe ≡ committed.Refused Invalid)
-    × (compact_of geometry (blank 128) (blank 128) 0 1 0 0 0 0xfe ≡ committed.Refused Invalid)
+pub refused : (commit 0x00 listing (blank 128) hour ≡ Err WrongValidity)
+    × (commit 0xff listing renewed hour ≡ Err WrongValidity)
+    × (commit 0x01 listing (blank 128) hour ≡ Err Invalid)
+    × (commit 0x01 (blank 128) (blank 128) hour ≡ Err Invalid)
+    × (compact_of geometry listing (blank 128) 0 1 0 0 0 0xfe ≡ Err Invalid)
+    × (compact_of geometry (blank 128) (blank 128) 0 1 0 0 0 0xfe ≡ Err Invalid)
 unfolding with_forward carried_for carries commit_images commit_of verdict_of commit_fits compact_images compact_of
     compact_verdict pair_fits geometry_fits fetch_of too_high view rank log committed walk walk_from walk_in class_of read_behind
     body_length tag_length tag_flipped be32 le32 to_be32 to_le32 xor crc crc_byte crc_bits crc_bit mdir_of erased_of
@@ -129,9 +127,8 @@ mixed = take 48 listing
     ∷ [])
     ++ zeros 64
 
-pub both_kinds : (commit 0x00 mixed (blank 128) (0x90 ∷ 0x5f ∷ 0x01 ∷ 0x00 ∷ []) ≡ committed.Done
-    (record_at 0 1 1 96 0xd01f_fc08) 0x259d_0ceb)
-    × (commit 0xff mixed (blank 128) hour ≡ committed.Refused WrongValidity)
+pub both_kinds : (commit 0x00 mixed (blank 128) (0x90 ∷ 0x5f ∷ 0x01 ∷ 0x00 ∷ []) ≡ Ok (fetched (record_at 0 1 1 96 0xd01f_fc08) 0x259d_0ceb))
+    × (commit 0xff mixed (blank 128) hour ≡ Err WrongValidity)
 unfolding with_forward carried_for carries commit_images commit_of verdict_of commit_fits pair_fits geometry_fits fetch_of
     too_high view rank log committed walk walk_from walk_in class_of read_behind body_length tag_length tag_flipped be32 le32
     to_be32 to_le32 xor crc crc_byte crc_bits crc_bit mdir_of erased_of stopped_straight span event_length tag_after count_of
@@ -141,9 +138,9 @@ unfolding with_forward carried_for carries commit_images commit_of verdict_of co
 both_kinds = (refl, refl)
 
 -- ---- stopped: the end that fetch finds after so many stores
-abbrev end_of : Fetched → ℕ
-end_of (fetched.Found m s) = m.off
-end_of (fetched.Refused r) = 0
+abbrev end_of : Result Fetched Refusal → ℕ
+end_of (Ok f) = f.dir.off
+end_of (Err r) = 0
 
 abbrev end_in : Images → ℕ
 end_in i = end_of (fetch_of geometry i.b0 i.b1 0 1 0 0)
@@ -184,7 +181,7 @@ cut =
     ∷ 0xaa ∷ 0xb4 ∷ 0x44 ∷ 0x13 ∷ 0x0f ∷ [])
     ++ zeros 43
 
-pub coincidence : (commit 0x00 listing renewed fatal ≡ committed.Refused Coincidence)
+pub coincidence : (commit 0x00 listing renewed fatal ≡ Err Coincidence)
     × (end_of (fetch_of geometry listing cut 0 1 0 0) ≡ 96)
 unfolding with_forward carried_for carries commit_images commit_of verdict_of commit_fits pair_fits geometry_fits fetch_of
     too_high view rank log committed walk walk_from walk_in class_of read_behind body_length tag_length tag_flipped be32 le32

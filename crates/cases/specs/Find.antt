@@ -1,6 +1,6 @@
 -- Document 02, L4, by computation: a slot by its name, in logs that make, rename and remove slots, and in the listing's
 -- pair; by both rules. Assumes nothing.
-use Rattle.std.specs.Prelude.{◌≡◌, refl, List, [], ◌∷◌, ◌++◌, map, ℕ}
+use Rattle.std.specs.Prelude.{◌≡◌, refl, List, [], ◌∷◌, ◌++◌, map, ℕ, Err, None, Ok, Option, Result, Some}
 use Rattle.format.specs.Word.{be32, le32, to_le32, xor}
 use Rattle.format.specs.Tag.{tag_length, tag_flipped, mk_tag}
 use Rattle.format.specs.Kind.{type_file, type_directory, type_inline_struct, type_create, type_delete}
@@ -19,10 +19,9 @@ use Rattle.format.specs.FindText.{named_text, found_text, find_text_as}
 use Rattle.format.specs.declared.Refusal.TheVariants.{Invalid, Corrupt, Irregular}
 use Rattle.format.specs.declared.Rules.{Rules}
 use Rattle.format.specs.declared.Rules.TheVariants.{Document, Littlefs}
-use Rattle.format.specs.declared.Named.{Named}
-use Rattle.format.specs.declared.Named.TheVariants.{At, Nothing, Refused}
 use Rattle.cases.specs.Listing.{blank}
 use Rattle.cases.specs.Littlefs.{geometry, grown}
+use Rattle.format.specs.declared.Refusal.{Refusal}
 
 -- ---- logs, and who has the name "a"
 abbrev made : ℕ → Event
@@ -45,37 +44,37 @@ struct id = ent (mk_tag type_inline_struct id 1) (0x61 ∷ [])
 
 pub record Try : Type 0 where
   pub events : List Event
-  pub document : Named
-  pub littlefs : Named
+  pub document : Result (Option ℕ) Refusal
+  pub littlefs : Result (Option ℕ) Refusal
 
-abbrev both : List Event → Named → Try
+abbrev both : List Event → Result (Option ℕ) Refusal → Try
 both es n = record { events = es; document = n; littlefs = n }
 
 abbrev pub tries : List Try
 tries =
-    both [] Nothing
-    ∷ both (made 0 ∷ a 0 ∷ []) (At 0)
+    both [] (Ok None)
+    ∷ both (made 0 ∷ a 0 ∷ []) (Ok (Some 0))
     -- "the lowest id"
-    ∷ both (made 0 ∷ made 1 ∷ a 1 ∷ a 0 ∷ []) (At 0)
+    ∷ both (made 0 ∷ made 1 ∷ a 1 ∷ a 0 ∷ []) (Ok (Some 0))
     -- two slots named "a", then delete 0: the other one has the id 0 now
-    ∷ both (made 0 ∷ a 0 ∷ made 1 ∷ a 1 ∷ removed 0 ∷ []) (At 0)
-    ∷ both (made 0 ∷ a 0 ∷ made 1 ∷ a 1 ∷ removed 0 ∷ removed 0 ∷ []) Nothing
+    ∷ both (made 0 ∷ a 0 ∷ made 1 ∷ a 1 ∷ removed 0 ∷ []) (Ok (Some 0))
+    ∷ both (made 0 ∷ a 0 ∷ made 1 ∷ a 1 ∷ removed 0 ∷ removed 0 ∷ []) (Ok None)
     -- "It follows creates, deletes and renames as it goes."
-    ∷ both (made 0 ∷ a 0 ∷ made 0 ∷ []) (At 1)
-    ∷ both (made 0 ∷ a 0 ∷ made 1 ∷ []) (At 0)
-    ∷ both (made 0 ∷ made 1 ∷ a 1 ∷ removed 0 ∷ []) (At 0)
-    ∷ both (made 0 ∷ a 0 ∷ ab 0 ∷ []) Nothing
-    ∷ both (made 0 ∷ ab 0 ∷ a 0 ∷ []) (At 0)
+    ∷ both (made 0 ∷ a 0 ∷ made 0 ∷ []) (Ok (Some 1))
+    ∷ both (made 0 ∷ a 0 ∷ made 1 ∷ []) (Ok (Some 0))
+    ∷ both (made 0 ∷ made 1 ∷ a 1 ∷ removed 0 ∷ []) (Ok (Some 0))
+    ∷ both (made 0 ∷ a 0 ∷ ab 0 ∷ []) (Ok None)
+    ∷ both (made 0 ∷ ab 0 ∷ a 0 ∷ []) (Ok (Some 0))
     -- other bytes, another type, and bytes that are no name's
-    ∷ both (made 0 ∷ ab 0 ∷ []) Nothing
-    ∷ both (made 0 ∷ directory 0 ∷ []) Nothing
-    ∷ both (made 0 ∷ struct 0 ∷ []) Nothing
+    ∷ both (made 0 ∷ ab 0 ∷ []) (Ok None)
+    ∷ both (made 0 ∷ directory 0 ∷ []) (Ok None)
+    ∷ both (made 0 ∷ struct 0 ∷ []) (Ok None)
     -- "an irregular log is -202", by either rule
-    ∷ both (made 0 ∷ a 0 ∷ removed 1 ∷ []) (Refused Irregular)
-    ∷ record { events = a 1 ∷ []; document = Refused Irregular; littlefs = At 1 }
+    ∷ both (made 0 ∷ a 0 ∷ removed 1 ∷ []) (Err Irregular)
+    ∷ record { events = a 1 ∷ []; document = Err Irregular; littlefs = Ok (Some 1) }
     ∷ []
 
-abbrev asked : Rules → Try → Named
+abbrev asked : Rules → Try → Result (Option ℕ) Refusal
 asked r t = find_in r (0x61 ∷ []) type_file t.events
 
 pub by_document : map (asked Document) tries ≡ map (λ t. t.document) tries
@@ -89,14 +88,14 @@ unfolding find_in first_named is_named same_bytes dir_of dir acts act apply reac
 by_littlefs = refl
 
 -- ---- a pair without creates, whose slot 1 has the name q212; by the rule's number, the name and its type
-abbrev find : ℕ → List ℕ → ℕ → Named
+abbrev find : ℕ → List ℕ → ℕ → Result (Option ℕ) Refusal
 find rules name type = find_of geometry grown (blank 128) 0 1 0 0 rules name type
 
-pub calls : (find 1 (ascii "q212") 1 ≡ At 1) × (find 1 (ascii "q21") 1 ≡ Nothing) × (find 1 (ascii "q2122") 1 ≡ Nothing)
-    × (find 1 (ascii "q212") 2 ≡ Nothing) × (find 1 (ascii "q212") 0x1001 ≡ Nothing)
-    × (find 0 (ascii "q212") 1 ≡ Refused Irregular) × (find 2 (ascii "q212") 1 ≡ Refused Invalid)
-    × (find 1 [] 1 ≡ Refused Invalid)
-    × (find_of geometry (blank 128) (blank 128) 0 1 0 0 1 (ascii "q212") 1 ≡ Refused Corrupt)
+pub calls : (find 1 (ascii "q212") 1 ≡ Ok (Some 1)) × (find 1 (ascii "q21") 1 ≡ (Ok None)) × (find 1 (ascii "q2122") 1 ≡ (Ok None))
+    × (find 1 (ascii "q212") 2 ≡ (Ok None)) × (find 1 (ascii "q212") 0x1001 ≡ (Ok None))
+    × (find 0 (ascii "q212") 1 ≡ Err Irregular) × (find 2 (ascii "q212") 1 ≡ Err Invalid)
+    × (find 1 [] 1 ≡ Err Invalid)
+    × (find_of geometry (blank 128) (blank 128) 0 1 0 0 1 (ascii "q212") 1 ≡ Err Corrupt)
 unfolding find_of find_in first_named is_named same_bytes dir_of acts act dir apply reaching upd empty Regular regular_from
     rule_of rule_holds count_after grows_after count_raised fetch_of mdir_of erased_of too_high pair_fits geometry_fits view rank
     seed_of forward_of split_of tail_of count_of counted stopped_straight tag_after span event_length log committed walk walk_from

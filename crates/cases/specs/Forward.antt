@@ -1,7 +1,7 @@
 -- Document 02, L5, at its edges, by computation: a forward check that just fits and one that just doesn't; what the
 -- mark says where none was carried, with an earlier one in the block and without; one that is not committed; a
 -- compaction. Assumes nothing.
-use Rattle.std.specs.Prelude.{◌≡◌, refl, Bool, true, false, List, [], ◌∷◌, ◌++◌, ℕ, replicate}
+use Rattle.std.specs.Prelude.{◌≡◌, refl, Bool, true, false, List, [], ◌∷◌, ◌++◌, ℕ, replicate, Err, Ok, Result}
 use Rattle.format.specs.Crc.{crc, crc_byte, crc_bits, crc_bit}
 use Rattle.format.specs.Word.{be32, le32, to_be32, to_le32, xor}
 use Rattle.format.specs.Tag.{tag_length, tag_flipped, tag_of}
@@ -25,11 +25,10 @@ use Rattle.format.specs.declared.Geometry.{Geometry}
 use Rattle.format.specs.declared.LfsFcrc.{LfsFcrc}
 use Rattle.format.specs.declared.LfsMdir.{LfsMdir}
 use Rattle.format.specs.declared.Entry.{Entry}
-use Rattle.format.specs.declared.Fetched.{Fetched}
-use Rattle.format.specs.declared.Fetched.TheVariants as fetched
-use Rattle.format.specs.declared.Committed.{Committed}
-use Rattle.format.specs.declared.Committed.TheVariants as committed
 use Rattle.cases.specs.Listing.{blank, listing}
+use Rattle.format.specs.declared.Fetched.{Fetched}
+use Rattle.format.specs.declared.Refusal.{Refusal}
+use Rattle.format.specs.Record.{fetched}
 
 abbrev geometry : Geometry
 geometry = record { block_size = 128; prog_size = 16 }
@@ -46,13 +45,13 @@ untold = record { end = 0; erased' = false; fcrc = no_forward }
 abbrev record_told : LfsMdir → Told
 record_told m = record { end = m.off; erased' = m.erased; fcrc = m.fcrc }
 
-abbrev told : Committed → Told
-told (committed.Done m s) = record_told m
-told (committed.Refused r) = untold
+abbrev told : Result Fetched Refusal → Told
+told (Ok f) = record_told f.dir
+told (Err r) = untold
 
-abbrev fetch_told : Fetched → Told
-fetch_told (fetched.Found m s) = record_told m
-fetch_told (fetched.Refused r) = untold
+abbrev fetch_told : Result Fetched Refusal → Told
+fetch_told (Ok f) = record_told f.dir
+fetch_told (Err r) = untold
 
 -- the check of sixteen erased bytes, as littlefs itself writes it
 abbrev sixteen : LfsFcrc
@@ -62,7 +61,7 @@ sixteen = record { seen = true; size = 16; sum = 0xc04c_39e5 }
 abbrev payload : ℕ → Entry
 payload n = record { kind = 0x201; id = 0; off = 0; len = n }
 
-abbrev commit : List ℕ → Entry → List ℕ → Committed
+abbrev commit : List ℕ → Entry → List ℕ → Result Fetched Refusal
 commit b e dat = commit_of geometry b (blank 128) 0 1 0 0 0 0xff (e ∷ []) dat
 
 -- Behind the listing, whose end is 48. Of 40 bytes: with the twelve the check tag stands at 104, the end is 112, and
@@ -123,7 +122,7 @@ renewed =
 
 pub compacted : (compact_images geometry listing (blank 128) 0 1 0 0 0 0xff unlimited ≡ images listing renewed)
     × (compact_of geometry listing (blank 128) 0 1 0 0 0 0xff
-    ≡ committed.Done (record {
+    ≡ Ok (fetched (record {
       pair = record { n0 = 1; n1 = 0 };
       rev = 2;
       off = 64;
@@ -133,7 +132,7 @@ pub compacted : (compact_images geometry listing (blank 128) 0 1 0 0 0 0xff unli
       split = false;
       tail = no_tail;
       fcrc = sixteen;
-    }) 0x5a0f_8cfc)
+    }) 0x5a0f_8cfc))
 unfolding with_forward carried_for carries compact_images compact_of compact_verdict compactable placed_anew compacting
     compact_bytes compaction_items dir_items slot_items dir_of dir acts act apply reaching upd empty move_of pair_fits
     geometry_fits fetch_of too_high view rank log committed walk walk_from walk_in class_of read_behind body_length tag_length

@@ -1,7 +1,7 @@
 -- Document 02, L8, by computation: the tables of logs, each place worked out by hand; what is too much for a table; the
 -- listing's pair, and a pair of two commits, by which a table is extended; what tables answer, also those that no build
 -- made. A place's tag is type * 2^20 + id * 2^10 + size, its offset where the tag stands + 4. Assumes nothing.
-use Rattle.std.specs.Prelude.{◌≡◌, refl, Bool, true, false, List, [], ◌∷◌, ◌++◌, map, ℕ, replicate}
+use Rattle.std.specs.Prelude.{◌≡◌, refl, Bool, true, false, List, [], ◌∷◌, ◌++◌, map, ℕ, replicate, Err, Ok, Result}
 use Rattle.format.specs.Word.{be32, le32, xor}
 use Rattle.format.specs.Tag.{tag_length, tag_flipped, tag_of, mk_tag}
 use Rattle.format.specs.Kind.{type_file, type_directory, type_superblock, type_dir_struct, type_inline_struct, type_create}
@@ -20,13 +20,11 @@ use Rattle.format.specs.Index.{shifted, places_after, ran_on, leading, extend_of
 use Rattle.format.specs.declared.LfsMdir.{LfsMdir}
 use Rattle.format.specs.declared.Refusal.TheVariants.{Invalid, Corrupt, NoEntry, Irregular, TableFull}
 use Rattle.format.specs.declared.Rules.TheVariants.{Document, Littlefs}
-use Rattle.format.specs.declared.Got.{Got}
-use Rattle.format.specs.declared.Got.TheVariants as got
-use Rattle.format.specs.declared.Indexed.{Indexed}
-use Rattle.format.specs.declared.Indexed.TheVariants as indexed
 use Rattle.cases.specs.Listing.{blank, listing}
 use Rattle.cases.specs.Pairs.{listed}
 use Rattle.cases.specs.Littlefs.{geometry, grown}
+use Rattle.format.specs.declared.Found.{Found}
+use Rattle.format.specs.declared.Refusal.{Refusal}
 
 -- ---- logs, and their places
 -- entries without their data: a tag says how long they are
@@ -126,15 +124,15 @@ abbrev peak : List Event
 peak = made 0 ∷ named 0 1 ∷ struct 0 1 ∷ entry 0x374 0 1 ∷ gone 0x374 ∷ []
 
 -- what is answered in n words, and the table
-abbrev answered : ℕ → List Event → Indexed
+abbrev answered : ℕ → List Event → Result ℕ Refusal
 answered n es = indexed_as (built n es)
 
 abbrev table : ℕ → List Event → List ℕ
 table n es = table_as n (built n es)
 
 -- room for two places, also with a word left over; and for three. "the table is then all zero"
-pub peak_counts : (answered 5 peak ≡ indexed.Refused TableFull) × (table 5 peak ≡ 0 ∷ 0 ∷ 0 ∷ 0 ∷ 0 ∷ [])
-    × (answered 6 peak ≡ indexed.Places 2)
+pub peak_counts : (answered 5 peak ≡ Err TableFull) × (table 5 peak ≡ 0 ∷ 0 ∷ 0 ∷ 0 ∷ 0 ∷ [])
+    × (answered 6 peak ≡ Ok 2)
     × (table 6 peak ≡ 0x0010_0001 ∷ 12 ∷ 0x2010_0001 ∷ 17 ∷ 0 ∷ 0 ∷ [])
 unfolding built fit_from dir_places slot_places placed_from placed_act apply_all apply reaching upd empty act tag_of tag_length
 peak_counts = (refl, refl, refl, refl)
@@ -143,7 +141,7 @@ peak_counts = (refl, refl, refl, refl)
 -- for one. And a log without entries needs none.
 pub room_again : (table 2 (made 0 ∷ entry 0x300 0 1 ∷ gone 0x300 ∷ entry 0x301 0 1 ∷ []) ≡ 0x3010_0001 ∷ 21 ∷ [])
     × (table 2 (made 0 ∷ entry 0x300 0 1 ∷ entry 0x301 0 1 ∷ gone 0x300 ∷ []) ≡ 0 ∷ 0 ∷ [])
-    × (answered 0 (made 0 ∷ []) ≡ indexed.Places 0)
+    × (answered 0 (made 0 ∷ []) ≡ Ok 0)
 unfolding built fit_from dir_places slot_places placed_from placed_act apply_all apply reaching upd empty act tag_of tag_length
 room_again = (refl, refl, refl)
 
@@ -200,7 +198,7 @@ second = 0x0010_0002 ∷ 29 ∷ 0x0010_0401 ∷ 12 ∷ []
 abbrev table_of : ℕ → ℕ → List ℕ → List ℕ
 table_of off rules t = index_table geometry two (blank 128) 0 1 (up_to off) rules t
 
-abbrev extend : LfsMdir → LfsMdir → List ℕ → Indexed
+abbrev extend : LfsMdir → LfsMdir → List ℕ → Result ℕ Refusal
 extend old dir t = extend_of geometry two (blank 128) 0 1 old dir 0 t
 
 abbrev extended_to : LfsMdir → LfsMdir → List ℕ → List ℕ
@@ -214,7 +212,7 @@ unfolding index_table record_fits pair_fits geometry_fits Regular regular_from r
     crc crc_byte crc_bits crc_bit
 built_twice = (refl, refl)
 
-pub extended_by_commit : (extend (up_to 21) (up_to 39) first ≡ indexed.Places 2)
+pub extended_by_commit : (extend (up_to 21) (up_to 39) first ≡ Ok 2)
     × (extended_to (up_to 21) (up_to 39) first ≡ second)
 unfolding extend_of extend_table record_fits pair_fits geometry_fits Regular regular_from rule_of rule_holds count_after
     grows_after count_raised ran_on leading places_after shifted halving rank_of seat_class placed_from placed_act act
@@ -223,9 +221,9 @@ unfolding extend_of extend_table record_fits pair_fits geometry_fits Regular reg
 extended_by_commit = (refl, refl)
 
 -- room for one: "On -221 the table is zeroed", by a build and by an extension
-pub room_for_one : (index_of geometry two (blank 128) 0 1 (up_to 39) 0 (nines 3) ≡ indexed.Refused TableFull)
+pub room_for_one : (index_of geometry two (blank 128) 0 1 (up_to 39) 0 (nines 3) ≡ Err TableFull)
     × (table_of 39 0 (nines 3) ≡ 0 ∷ 0 ∷ 0 ∷ [])
-    × (extend (up_to 21) (up_to 39) (0x0010_0001 ∷ 12 ∷ []) ≡ indexed.Refused TableFull)
+    × (extend (up_to 21) (up_to 39) (0x0010_0001 ∷ 12 ∷ []) ≡ Err TableFull)
     × (extended_to (up_to 21) (up_to 39) (0x0010_0001 ∷ 12 ∷ []) ≡ 0 ∷ 0 ∷ [])
 unfolding index_of index_table extend_of extend_table record_fits pair_fits geometry_fits Regular regular_from rule_of rule_holds
     count_after grows_after count_raised built fit_from dir_places slot_places placed_from placed_act apply_all apply
@@ -241,11 +239,11 @@ abbrev grown_in : ℕ → List ℕ
 grown_in rules = index_table geometry grown (blank 128) 0 1 (up_to 32) rules (nines 4)
 
 pub irregular : (grown_in 0 ≡ nines 4) × (grown_in 1 ≡ 0x0010_0404 ∷ 8 ∷ 0x2010_0403 ∷ 16 ∷ [])
-    × (index_of geometry grown (blank 128) 0 1 (up_to 32) 0 (nines 4) ≡ indexed.Refused Irregular)
-    × (index_of geometry two (blank 128) 0 1 (up_to 4) 0 [] ≡ indexed.Refused Irregular)
+    × (index_of geometry grown (blank 128) 0 1 (up_to 32) 0 (nines 4) ≡ Err Irregular)
+    × (index_of geometry two (blank 128) 0 1 (up_to 4) 0 [] ≡ Err Irregular)
     × (map (λ off. table_of off 0 (nines 4)) (0 ∷ 4 ∷ 20 ∷ 25 ∷ 40 ∷ []) ≡ replicate 5 (nines 4))
     × (map (λ off. extended_to (up_to off) (up_to 39) first) (4 ∷ 20 ∷ []) ≡ replicate 2 first)
-    × (extend (up_to 4) (up_to 39) first ≡ indexed.Refused Irregular)
+    × (extend (up_to 4) (up_to 39) first ≡ Err Irregular)
     × (extended_to (up_to 21) (up_to 38) first ≡ first)
 unfolding index_of index_table extend_of extend_table record_fits pair_fits geometry_fits Regular regular_from rule_of rule_holds
     count_after grows_after count_raised built fit_from dir_places slot_places placed_from placed_act apply_all apply
@@ -261,19 +259,19 @@ second_block = record_of 1 0 21
 abbrev elsewhere : LfsMdir
 elsewhere = record_of 0 2 21
 
-abbrev indexed_at : LfsMdir → ℕ → Indexed
+abbrev indexed_at : LfsMdir → ℕ → Result ℕ Refusal
 indexed_at dir rules = index_of geometry two (blank 128) 0 1 dir rules (nines 4)
 
-pub invalid : (map (λ dir. indexed_at dir 0) (up_to 129 ∷ elsewhere ∷ []) ≡ replicate 2 (indexed.Refused Invalid))
-    × (indexed_at (up_to 21) 2 ≡ indexed.Refused Invalid) × (table_of 21 2 (nines 4) ≡ nines 4)
+pub invalid : (map (λ dir. indexed_at dir 0) (up_to 129 ∷ elsewhere ∷ []) ≡ replicate 2 (Err Invalid))
+    × (indexed_at (up_to 21) 2 ≡ Err Invalid) × (table_of 21 2 (nines 4) ≡ nines 4)
     × (map (λ old. extend old (up_to 21) first) (up_to 22 ∷ second_block ∷ elsewhere ∷ [])
-    ≡ replicate 3 (indexed.Refused Invalid))
+    ≡ replicate 3 (Err Invalid))
     × (extended_to (up_to 22) (up_to 21) first ≡ first)
 unfolding index_of index_table extend_of extend_table record_fits pair_fits geometry_fits
 invalid = (refl, refl, refl, refl, refl)
 
 -- the record's block is the second one: it is the blank one, which has no commit
-pub other_block : indexed_at second_block 0 ≡ indexed.Refused Irregular
+pub other_block : indexed_at second_block 0 ≡ Err Irregular
 unfolding index_of record_fits pair_fits geometry_fits span event_length log committed walk walk_from walk_in class_of
     read_behind
     body_length tag_flipped be32 le32 xor tag_length crc crc_byte crc_bits crc_bit
@@ -316,11 +314,11 @@ unfolding ran_on leading places_after shifted halving rank_of seat_class placed_
 foreign_extended = (refl, refl, refl)
 
 -- ---- what a table answers
-abbrev get : List ℕ → ℕ → ℕ → Got
+abbrev get : List ℕ → ℕ → ℕ → Result Found Refusal
 get t type id = index_get_of geometry listing (blank 128) 0 1 listed t type id (nines 6)
 
-abbrev found : ℕ → ℕ → ℕ → Got
-found tag length off = got.Found (record { tag = tag; length = length; off = off })
+abbrev found : ℕ → ℕ → ℕ → Result Found Refusal
+found tag length off = Ok (record { tag = tag; length = length; off = off })
 
 -- "any 0x0xx asks the name, any 0x2xx the struct, 0x300 to 0x3ff that attribute"
 pub got_by_type : (map (λ type. get told type 0) (0x000 ∷ 0x001 ∷ 0x0ff ∷ []) ≡ replicate 3 (found 0x0010_0004 8 0x0c))
@@ -332,9 +330,9 @@ got_by_type = (refl, refl, refl)
 -- "any other type, and an id that the table has not (above 1,023 too), finds nothing: -2". Of 2^11 on a type is another
 -- one, though its lower bits are the name's.
 pub got_nothing : (map (λ type. get told type 0) (0x100 ∷ 0x300 ∷ 0x373 ∷ 0x375 ∷ 0x401 ∷ 0x7ff ∷ 0x800 ∷ 0x1001 ∷ [])
-    ≡ replicate 8 (got.Refused NoEntry))
-    × (map (λ id. get told 0x001 id) (1 ∷ 1_023 ∷ 1_024 ∷ 2_048 ∷ []) ≡ replicate 4 (got.Refused NoEntry))
-    × (get [] 0x001 0 ≡ got.Refused NoEntry) × (get (0 ∷ 0 ∷ 0 ∷ []) 0x000 0 ≡ got.Refused NoEntry)
+    ≡ replicate 8 (Err NoEntry))
+    × (map (λ id. get told 0x001 id) (1 ∷ 1_023 ∷ 1_024 ∷ 2_048 ∷ []) ≡ replicate 4 (Err NoEntry))
+    × (get [] 0x001 0 ≡ Err NoEntry) × (get (0 ∷ 0 ∷ 0 ∷ []) 0x000 0 ≡ Err NoEntry)
 unfolding index_get_of getslice_fits index_hit halving rank_of seat_class record_fits pair_fits geometry_fits tag_length
 got_nothing = (refl, refl, refl, refl)
 
@@ -348,25 +346,25 @@ unfolding index_get_buffer getslice_fits index_hit halving rank_of seat_class re
 buffers = (refl, refl, refl)
 
 -- -22: an end past the block, other numbers, "a buffer above 65,536 bytes"
-abbrev got_into : LfsMdir → ℕ → Got
+abbrev got_into : LfsMdir → ℕ → Result Found Refusal
 got_into dir n = index_get_of geometry listing (blank 128) 0 1 dir told 0x001 0 (nines n)
 
-pub got_refused : (got_into (up_to 129) 4 ≡ got.Refused Invalid) × (got_into elsewhere 4 ≡ got.Refused Invalid)
-    × (got_into listed 65_537 ≡ got.Refused Invalid)
+pub got_refused : (got_into (up_to 129) 4 ≡ Err Invalid) × (got_into elsewhere 4 ≡ Err Invalid)
+    × (got_into listed 65_537 ≡ Err Invalid)
 unfolding index_get_of getslice_fits index_hit halving rank_of seat_class record_fits pair_fits geometry_fits tag_length
 got_refused = (refl, refl, refl)
 
 -- "A table that no build made": four bytes at 125 pass a block of 128, three do not; at 129 none are read, and yet that
 -- is past it. The other fields are not looked at: a removal, an id of 1,023, an offset inside the revision.
-abbrev first_of : ℕ → ℕ → ℕ → ℕ → ℕ → Got
+abbrev first_of : ℕ → ℕ → ℕ → ℕ → ℕ → Result Found Refusal
 first_of tag off type id n = index_get_of geometry listing (blank 128) 0 1 listed (tag ∷ off ∷ []) type id (nines n)
 
-pub foreign_got : (map (first_of 0x0010_0004 125 0x001 0) (4 ∷ 3 ∷ []) ≡ got.Refused Corrupt ∷ found 0x0010_0004 8 125
+pub foreign_got : (map (first_of 0x0010_0004 125 0x001 0) (4 ∷ 3 ∷ []) ≡ Err Corrupt ∷ found 0x0010_0004 8 125
     ∷ []) × (map (λ off. first_of 0x0010_0000 off 0x001 0 0) (128 ∷ 129 ∷ 0xffff_ffff ∷ [])
-    ≡ found 0x0010_0000 4 128 ∷ got.Refused Corrupt ∷ got.Refused Corrupt ∷ [])
+    ≡ found 0x0010_0000 4 128 ∷ Err Corrupt ∷ Err Corrupt ∷ [])
     × (first_of 0x3740_03ff 128 0x374 0 6 ≡ found 0x3740_03ff 4 128)
     × (first_of 0x001f_fc01 1 0x001 1_023 6 ≡ found 0x001f_fc01 5 1)
-    × (first_of 0x001f_fc01 1 0x001 2_047 6 ≡ got.Refused NoEntry)
+    × (first_of 0x001f_fc01 1 0x001 2_047 6 ≡ Err NoEntry)
 unfolding index_get_of getslice_fits index_hit halving rank_of seat_class record_fits pair_fits geometry_fits tag_length
 foreign_got = (refl, refl, refl, refl, refl)
 
@@ -376,6 +374,6 @@ abbrev unsorted : List ℕ
 unsorted = 0x3740_0004 ∷ 27 ∷ 0x0010_0004 ∷ 12 ∷ 0x2010_0003 ∷ 20 ∷ []
 
 pub unsorted_got : map (λ type. get unsorted type 0) (0x001 ∷ 0x201 ∷ 0x374 ∷ [])
-    ≡ got.Refused NoEntry ∷ found 0x2010_0003 7 20 ∷ got.Refused NoEntry ∷ []
+    ≡ Err NoEntry ∷ found 0x2010_0003 7 20 ∷ Err NoEntry ∷ []
 unfolding index_get_of getslice_fits index_hit halving rank_of seat_class record_fits pair_fits geometry_fits tag_length
 unsorted_got = refl

@@ -5,7 +5,7 @@ use Rattle.std.specs.Prelude.{◌≡◌, refl, true, false, List, [], ◌∷◌,
 use Rattle.std.proofs.Common.{ap, ◌∙◌, lit<}
 use Rattle.std.specs.Int.Count.{ones}
 use Rattle.std.proofs.lemmas.Nat.{ones_cat}
-use Rattle.format.specs.Answer.{flag_of, word_result, word_value, altered_result}
+use Rattle.format.specs.Answer.{flag_of, result_number, answer_value}
 use Rattle.format.specs.Arith.{align_down, align_up, popc}
 use Rattle.format.specs.Pair.{pair_swapped, pair_null, pair_cmp, pair_sync}
 use Rattle.format.specs.Gstate.{gstate_xor, gstate_zero, gstate_has_orphans, gstate_orphans, gstate_needs_superblock}
@@ -47,23 +47,23 @@ leaves =
     ∷ record { given = pos (mk_tag_if true 0x4ff 0x155 0x3ff); said = pos 0x4ff5_57ff }
     ∷ record { given = pos (mk_tag_if false 0x4ff 0x155 0x3ff); said = pos 0 }
     -- the lowest, or the highest, byte first; "A read whose start plus length passes the block size is -84"; stores too
-    ∷ record { given = pos (word_value (le32_at five 1)); said = pos 0x0504_0302 }
-    ∷ record { given = pos (word_value (be32_at five 1)); said = pos 0x0203_0405 }
-    ∷ record { given = word_result (le32_at five 2); said = neg_ℤ (pos 84) }
-    ∷ record { given = word_result (be32_at [] 0); said = neg_ℤ (pos 84) }
-    ∷ record { given = altered_result (put_answer five 1); said = pos 0 }
-    ∷ record { given = altered_result (put_answer five 2); said = neg_ℤ (pos 84) }
+    ∷ record { given = pos (answer_value (le32_at five 1)); said = pos 0x0504_0302 }
+    ∷ record { given = pos (answer_value (be32_at five 1)); said = pos 0x0203_0405 }
+    ∷ record { given = result_number (le32_at five 2); said = neg_ℤ (pos 84) }
+    ∷ record { given = result_number (be32_at [] 0); said = neg_ℤ (pos 84) }
+    ∷ record { given = result_number (put_answer five 1); said = pos 0 }
+    ∷ record { given = result_number (put_answer five 2); said = neg_ℤ (pos 84) }
     -- "Alignment by 0 is refused with -22", whatever is aligned, and the value is 0
-    ∷ record { given = word_result (align_down 0 0); said = neg_ℤ (pos 22) }
-    ∷ record { given = word_result (align_up 7 0); said = neg_ℤ (pos 22) }
-    ∷ record { given = pos (word_value (align_up 7 0)); said = pos 0 }
+    ∷ record { given = result_number (align_down 0 0); said = neg_ℤ (pos 22) }
+    ∷ record { given = result_number (align_up 7 0); said = neg_ℤ (pos 22) }
+    ∷ record { given = pos (answer_value (align_up 7 0)); said = pos 0 }
     -- the alignment need be no power of two: 26 * 5 = 130 and 27 * 5 = 135, so 130 stays, 134 goes down and 131 up
-    ∷ record { given = pos (word_value (align_down 130 5)); said = pos 130 }
-    ∷ record { given = pos (word_value (align_down 134 5)); said = pos 130 }
-    ∷ record { given = pos (word_value (align_up 130 5)); said = pos 130 }
-    ∷ record { given = pos (word_value (align_up 131 5)); said = pos 135 }
+    ∷ record { given = pos (answer_value (align_down 130 5)); said = pos 130 }
+    ∷ record { given = pos (answer_value (align_down 134 5)); said = pos 130 }
+    ∷ record { given = pos (answer_value (align_up 130 5)); said = pos 130 }
+    ∷ record { given = pos (answer_value (align_up 131 5)); said = pos 135 }
     -- lfs_alignup is lfs_aligndown(a + alignment-1, alignment) on uint32_t: 0xffffffff + 1 wraps to 0
-    ∷ record { given = pos (word_value (align_up 0xffff_ffff 2)); said = pos 0 }
+    ∷ record { given = pos (answer_value (align_up 0xffff_ffff 2)); said = pos 0 }
     -- lfs_pair_swap: each number in the other's place
     ∷ record { given = pos (pair_swapped (two 1 2)).n0; said = pos 2 }
     ∷ record { given = pos (pair_swapped (two 1 2)).n1; said = pos 1 }

@@ -1,7 +1,6 @@
 -- littlefs's rule beside document 01's: logs at its edges, the slots that names make, and a pair that littlefs's own
 -- compaction might have written, listed, committed to and compacted by both. Assumes nothing.
-use Rattle.std.specs.Prelude.{◌≡◌, refl, Bool, true, false, List, [], ◌∷◌, ◌++◌, map, ℕ, length}
-use Rattle.std.proofs.Math.Option.{none, some}
+use Rattle.std.specs.Prelude.{◌≡◌, refl, Bool, true, false, List, [], ◌∷◌, ◌++◌, map, ℕ, length, None, Some}
 use Rattle.format.specs.Word.{be32, le32, to_be32, to_le32, xor}
 use Rattle.format.specs.Tag.{tag_length, tag_flipped, tag_of, mk_tag}
 use Rattle.format.specs.Kind.{type_file, type_superblock, type_inline_struct, type_user_attr, type_create, type_delete}
@@ -96,7 +95,7 @@ abbrev gap : List Event
 gap = ent (mk_tag type_file 2 1) (0x61 ∷ []) ∷ []
 
 pub in_between : map (λ s. s 0) (dir_of gap)
-    ≡ none ∷ none ∷ some (record { type = type_file; bytes = 0x61 ∷ [] }) ∷ []
+    ≡ None ∷ None ∷ Some (record { type = type_file; bytes = 0x61 ∷ [] }) ∷ []
 unfolding dir_of dir acts act apply reaching upd empty
 in_between = refl
 

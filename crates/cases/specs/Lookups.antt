@@ -1,7 +1,8 @@
 -- The lookups over `lfs_dir_getslice`: `lfs_dir_get` and its buffer, a made_up record's move state, and names that are
 -- longer than the longest name read. Expected values are read off the bytes by hand, by the sentences that are quoted.
 -- Assumes nothing.
-use Rattle.std.specs.Prelude.{◌≡◌, refl, false, List, [], ◌∷◌, ◌++◌, ℕ, ◌+◌, ◌-◌, replicate}
+use Rattle.std.specs.Prelude.{◌≡◌, refl, false, List, [], ◌∷◌, ◌++◌, ℕ, ◌+◌, ◌-◌, replicate, Err, Ok, Result}
+use Rattle.format.specs.Answer.{answer_info}
 use Rattle.format.specs.Word.{be32, le32, to_be32, xor, all_ones}
 use Rattle.format.specs.Tag.{tag_length, tag_of}
 use Rattle.format.specs.Kind.{type_file, type_inline_struct}
@@ -14,11 +15,10 @@ use Rattle.format.specs.declared.Geometry.{Geometry}
 use Rattle.format.specs.declared.LfsMdir.{LfsMdir}
 use Rattle.format.specs.declared.LfsGstate.{LfsGstate}
 use Rattle.format.specs.declared.Refusal.TheVariants.{Invalid}
-use Rattle.format.specs.declared.Got.{Got}
-use Rattle.format.specs.declared.Got.TheVariants as got
-use Rattle.format.specs.declared.Altered.TheVariants as altered
 use Rattle.cases.specs.Listing.{blank, listing}
 use Rattle.cases.specs.Pairs.{listed}
+use Rattle.format.specs.declared.Found.{Found}
+use Rattle.format.specs.declared.Refusal.{Refusal}
 
 abbrev sized : ℕ → Geometry
 sized n = record { block_size = n; prog_size = 16 }
@@ -45,7 +45,7 @@ state_of n = record { tag = n; pair = record { n0 = n; n1 = n } }
 abbrev nines : List ℕ
 nines = replicate 6 9
 
-abbrev answered : ℕ → Got
+abbrev answered : ℕ → Result Found Refusal
 answered key = get_of (sized 128) listing (blank 128) 0 1 listed (state_of 0) 0x7fff_fc00 key nines
 
 abbrev left : ℕ → List ℕ
@@ -53,7 +53,7 @@ left key = get_buffer (sized 128) listing (blank 128) 0 1 listed (state_of 0) 0x
 
 -- The listing's deadline, 90 5f 01 00, under a key of size 5: four bytes read, one zeroed, and the sixth of the buffer
 -- stays.
-pub deadline_got : answered 0x3740_0005 ≡ got.Found (record { tag = 0x3740_0004; length = 8; off = 27 })
+pub deadline_got : answered 0x3740_0005 ≡ Ok (record { tag = 0x3740_0004; length = 8; off = 27 })
 unfolding get_of get_fits getslice_of getslice_fits record_fits geometry_fits pair_fits
     searched back backs wlook spliced_at as_ids be32 xor tag_length tag_of
 deadline_got = refl
@@ -64,7 +64,7 @@ unfolding get_buffer get_fits getslice_buffer getslice_fits record_fits geometry
 deadline_left = refl
 
 -- a buffer shorter than the key's size: -22, and it stays
-pub short_refused : answered 0x3740_0007 ≡ got.Refused Invalid
+pub short_refused : answered 0x3740_0007 ≡ Err Invalid
 unfolding get_of get_fits
 short_refused = refl
 
@@ -81,13 +81,13 @@ six_tag = 0x3740_0006
 abbrev six : List ℕ
 six = replicate 4 0 ++ to_be32 (xor all_ones six_tag) ++ (1 ∷ 2 ∷ 3 ∷ 4 ∷ 5 ∷ 6 ∷ []) ++ blank 114
 
-abbrev six_found : ℕ → ℕ → Got
+abbrev six_found : ℕ → ℕ → Result Found Refusal
 six_found offset size = getslice_of (sized 128) six (blank 128) 0 1 (ending 14 six_tag) (state_of 0) 0x7fff_fc00 0x3740_0000
     offset (blank_buffer size)
 
-pub six_told : (six_found 0 4 ≡ got.Found (record { tag = six_tag; length = 10; off = 8 }))
-    × (six_found 0 0 ≡ got.Found (record { tag = six_tag; length = 10; off = 8 }))
-    × (six_found 5 1 ≡ got.Found (record { tag = six_tag; length = 10; off = 8 }))
+pub six_told : (six_found 0 4 ≡ Ok (record { tag = six_tag; length = 10; off = 8 }))
+    × (six_found 0 0 ≡ Ok (record { tag = six_tag; length = 10; off = 8 }))
+    × (six_found 5 1 ≡ Ok (record { tag = six_tag; length = 10; off = 8 }))
 unfolding getslice_of getslice_fits record_fits geometry_fits pair_fits
     searched back backs wlook spliced_at as_ids be32 to_be32 xor tag_length tag_of
 six_told = (refl, refl, refl)
@@ -98,7 +98,7 @@ six_told = (refl, refl, refl)
 abbrev xored : LfsMdir → LfsGstate
 xored dir = getgstate_state (sized 128) (blank 128) (blank 128) 0 1 dir (state_of 0) (state_of 5)
 
-pub made_up : getgstate_of (sized 128) (blank 128) (blank 128) 0 1 (ending 8 0xfff0_0000) (state_of 0) ≡ altered.Done
+pub made_up : getgstate_of (sized 128) (blank 128) (blank 128) 0 1 (ending 8 0xfff0_0000) (state_of 0) ≡ (Ok tt)
 unfolding getgstate_of record_fits geometry_fits pair_fits searched back backs wlook spliced_at be32 xor tag_length tag_of
 made_up = refl
 
@@ -127,7 +127,7 @@ named n =
 
 abbrev name_shown : ℕ → ℕ → List ℕ
 name_shown longest n =
-    (getinfo_of (sized 512) (named n) (blank 512) 0 1 (ending (12 + n) (name_tag n)) (state_of 0) longest 0).info.name
+    (answer_info (getinfo_of (sized 512) (named n) (blank 512) 0 1 (ending (12 + n) (name_tag n)) (state_of 0) longest 0)).name
 
 -- of 255 bytes all, and a zero, the 256th; of 256 and of 300 bytes 256, and no zero; with 3 as the longest 3 + 1
 pub names_shown : (name_shown 255 255 ≡ replicate 255 0x61 ++ (0 ∷ [])) × (name_shown 255 256 ≡ replicate 256 0x61)

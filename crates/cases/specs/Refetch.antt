@@ -1,6 +1,6 @@
 -- Document 02, L6, by computation: the refetch behind a commit; why it needs the record's forward check; a last
 -- checksum that reaches past the end; a compaction, behind which it is no fetch; and its refusals. Assumes nothing.
-use Rattle.std.specs.Prelude.{◌≡◌, refl, Bool, true, false, List, [], ◌∷◌, ◌++◌, ℕ}
+use Rattle.std.specs.Prelude.{◌≡◌, refl, Bool, true, false, List, [], ◌∷◌, ◌++◌, ℕ, Err, Ok, Result}
 use Rattle.format.specs.Crc.{crc, crc_byte, crc_bits, crc_bit}
 use Rattle.format.specs.Word.{be32, le32, to_be32, to_le32, xor}
 use Rattle.format.specs.Tag.{tag_length, tag_flipped, tag_of}
@@ -26,17 +26,18 @@ use Rattle.format.specs.declared.Geometry.{Geometry}
 use Rattle.format.specs.declared.LfsFcrc.{LfsFcrc}
 use Rattle.format.specs.declared.LfsMdir.{LfsMdir}
 use Rattle.format.specs.declared.Refusal.TheVariants.{Invalid, Corrupt, TooMany}
-use Rattle.format.specs.declared.Fetched.{Fetched}
-use Rattle.format.specs.declared.Fetched.TheVariants.{Found, Refused}
 use Rattle.cases.specs.Listing.{blank, listing}
+use Rattle.format.specs.declared.Fetched.{Fetched}
+use Rattle.format.specs.declared.Refusal.{Refusal}
+use Rattle.format.specs.Record.{fetched}
 
 abbrev geometry : Geometry
 geometry = record { block_size = 128; prog_size = 16 }
 
-abbrev fetch : List ℕ → ℕ → Fetched
+abbrev fetch : List ℕ → ℕ → Result Fetched Refusal
 fetch b seed = fetch_of geometry b (blank 128) 0 1 0 seed
 
-abbrev refetch : List ℕ → ℕ → LfsMdir → Fetched
+abbrev refetch : List ℕ → ℕ → LfsMdir → Result Fetched Refusal
 refetch b seed m = refetch_of geometry b (blank 128) 0 1 0 seed m
 
 -- a record of the first block with revision 1, no tail and no slot split off
@@ -67,9 +68,9 @@ hourly = (commit_images geometry listing (blank 128) 0 1 0 0 0 0xff
 abbrev sixteen : LfsFcrc
 sixteen = record { seen = true; size = 16; sum = 0xc04c_39e5 }
 
-pub behind_commit : (fetch listing 0 ≡ Found before 0x1ec4_df69)
-    × (refetch hourly 0x1ec4_df69 before ≡ Found (record_at 80 0x500f_fc08 1 true sixteen) 0x8431_4617)
-    × (fetch hourly 0 ≡ Found (record_at 80 0x500f_fc08 1 true sixteen) 0x8431_4617)
+pub behind_commit : (fetch listing 0 ≡ Ok (fetched before 0x1ec4_df69))
+    × (refetch hourly 0x1ec4_df69 before ≡ Ok (fetched (record_at 80 0x500f_fc08 1 true sixteen) 0x8431_4617))
+    × (fetch hourly 0 ≡ Ok (fetched (record_at 80 0x500f_fc08 1 true sixteen) 0x8431_4617))
 unfolding refetch_of record_fits mdir_behind with_forward carried_for carries commit_images commit_of verdict_of commit_fits
     pair_fits geometry_fits fetch_of too_high view rank log committed walk walk_from walk_in class_of read_behind body_length
     tag_length tag_flipped be32 le32 to_be32 to_le32 xor crc crc_byte crc_bits crc_bit mdir_of erased_of stopped_straight span
@@ -103,16 +104,16 @@ eight = record { seen = true; size = 8; sum = 0xdebb_20e3 }
 -- makes it so. Behind both ends stand the same bytes; and yet behind the commit one is marked erased, the other not. So
 -- nothing that is told record, seed and the bytes from the end on could answer both without the field.
 pub forward_needed : (fetch (with_forward_check ++ blank 104) 0
-    ≡ Found (record_at 24 0x500f_fc04 0 false eight) 0xa0c3_0afc)
+    ≡ Ok (fetched (record_at 24 0x500f_fc04 0 false eight) 0xa0c3_0afc))
     × (fetch (without_forward_check ++ blank 104) 0x63bf_e68a
-    ≡ Found (record_at 24 0x500f_fc04 0 false no_forward) 0xa0c3_0afc)
+    ≡ Ok (fetched (record_at 24 0x500f_fc04 0 false no_forward) 0xa0c3_0afc))
     × (refetch (with_forward_check ++ more ++ blank 96) 0xa0c3_0afc (record_at 24 0x500f_fc04 0 false eight)
-    ≡ Found (record_at 48 0x500f_fc14 0 true eight) 0x0d1b_bcb8)
+    ≡ Ok (fetched (record_at 48 0x500f_fc14 0 true eight) 0x0d1b_bcb8))
     × (refetch (without_forward_check ++ more ++ blank 96) 0xa0c3_0afc (record_at 24 0x500f_fc04 0 false no_forward)
-    ≡ Found (record_at 48 0x500f_fc14 0 false no_forward) 0x0d1b_bcb8)
-    × (fetch (with_forward_check ++ more ++ blank 96) 0 ≡ Found (record_at 48 0x500f_fc14 0 true eight) 0x0d1b_bcb8)
+    ≡ Ok (fetched (record_at 48 0x500f_fc14 0 false no_forward) 0x0d1b_bcb8))
+    × (fetch (with_forward_check ++ more ++ blank 96) 0 ≡ Ok (fetched (record_at 48 0x500f_fc14 0 true eight) 0x0d1b_bcb8))
     × (fetch (without_forward_check ++ more ++ blank 96) 0x63bf_e68a
-    ≡ Found (record_at 48 0x500f_fc14 0 false no_forward) 0x0d1b_bcb8)
+    ≡ Ok (fetched (record_at 48 0x500f_fc14 0 false no_forward) 0x0d1b_bcb8))
 unfolding refetch_of record_fits mdir_behind pair_fits geometry_fits fetch_of too_high view rank log committed walk walk_from
     walk_in class_of read_behind body_length tag_length tag_flipped be32 le32 to_le32 xor crc crc_byte crc_bits crc_bit mdir_of
     erased_of stopped_straight span event_length tag_after count_of counted split_of tail_of forward_of seed_of
@@ -127,11 +128,11 @@ short = 0x01 ∷ 0x00 ∷ 0x00 ∷ 0x00 ∷ 0xaf ∷ 0xf0 ∷ 0x03 ∷ 0xff ∷ 
 abbrev altered : List ℕ
 altered = 0x01 ∷ 0x00 ∷ 0x00 ∷ 0x00 ∷ 0xaf ∷ 0xf0 ∷ 0x03 ∷ 0xff ∷ 0xc5 ∷ 0xe7 ∷ 0x94 ∷ 0xf0 ∷ []
 
-pub past_the_end : (fetch (short ++ blank 116) 0 ≡ Found (record_at 8 0x500f_fc00 0 false no_forward) 0x446c_0f24)
+pub past_the_end : (fetch (short ++ blank 116) 0 ≡ Ok (fetched (record_at 8 0x500f_fc00 0 false no_forward) 0x446c_0f24))
     × (known_to (record_at 8 0x500f_fc00 0 false no_forward) ≡ 12)
-    × (fetch (altered ++ blank 116) 0 ≡ Refused Corrupt)
+    × (fetch (altered ++ blank 116) 0 ≡ Err Corrupt)
     × (refetch (altered ++ blank 116) 0x446c_0f24 (record_at 8 0x500f_fc00 0 false no_forward)
-    ≡ Found (record_at 8 0x500f_fc00 0 false no_forward) 0x446c_0f24)
+    ≡ Ok (fetched (record_at 8 0x500f_fc00 0 false no_forward) 0x446c_0f24))
 unfolding refetch_of record_fits mdir_behind pair_fits geometry_fits fetch_of too_high view rank log committed walk walk_from
     walk_in class_of read_behind body_length tag_length tag_flipped be32 le32 to_le32 xor crc crc_byte crc_bits crc_bit mdir_of
     erased_of stopped_straight span event_length tag_after count_of counted split_of tail_of forward_of seed_of
@@ -141,8 +142,8 @@ past_the_end = (refl, refl, refl, refl)
 abbrev after : Images
 after = compact_images geometry listing (blank 128) 0 1 0 0 0 0xff unlimited
 
-pub behind_compaction : (refetch_of geometry after.b0 after.b1 0 1 0 0x1ec4_df69 before ≡ Found before 0x1ec4_df69)
-    × (fetch_of geometry after.b0 after.b1 0 1 0 0 ≡ Found (record {
+pub behind_compaction : (refetch_of geometry after.b0 after.b1 0 1 0 0x1ec4_df69 before ≡ Ok (fetched before 0x1ec4_df69))
+    × (fetch_of geometry after.b0 after.b1 0 1 0 0 ≡ Ok (fetched (record {
       pair = record { n0 = 1; n1 = 0 };
       rev = 2;
       off = 64;
@@ -152,7 +153,7 @@ pub behind_compaction : (refetch_of geometry after.b0 after.b1 0 1 0 0x1ec4_df69
       split = false;
       tail = no_tail;
       fcrc = sixteen;
-    }) 0x5a0f_8cfc)
+    }) 0x5a0f_8cfc))
 unfolding refetch_of record_fits mdir_behind with_forward carried_for carries compact_images compact_verdict compactable
     placed_anew compacting compact_bytes compaction_items dir_items slot_items dir_of dir acts act apply reaching upd empty
     move_of pair_fits geometry_fits fetch_of too_high view rank log committed walk walk_from walk_in class_of read_behind
@@ -192,14 +193,14 @@ answered = record {
   fcrc = no_forward;
 }
 
-pub refusals : (refetch listing 0 (record_at 7 0 0 false no_forward) ≡ Refused Invalid)
-    × (refetch listing 0 (record_at 129 0 0 false no_forward) ≡ Refused Invalid)
-    × (refetch listing 0 (numbered 0 2) ≡ Refused Invalid)
-    × (refetch listing 9 (numbered 1 0) ≡ Found answered 9)
-    × (refetch_of geometry listing (blank 128) 0 1 1 0 (numbered 0 1) ≡ Refused Corrupt)
-    × (refetch_of geometry listing (blank 128) 0 1 1 0 (numbered 0 2) ≡ Refused Invalid)
+pub refusals : (refetch listing 0 (record_at 7 0 0 false no_forward) ≡ Err Invalid)
+    × (refetch listing 0 (record_at 129 0 0 false no_forward) ≡ Err Invalid)
+    × (refetch listing 0 (numbered 0 2) ≡ Err Invalid)
+    × (refetch listing 9 (numbered 1 0) ≡ Ok (fetched answered 9))
+    × (refetch_of geometry listing (blank 128) 0 1 1 0 (numbered 0 1) ≡ Err Corrupt)
+    × (refetch_of geometry listing (blank 128) 0 1 1 0 (numbered 0 2) ≡ Err Invalid)
     × (refetch listing 9 (record_at 128 0 1_024 false no_forward)
-    ≡ Refused (TooMany (record_at 128 0 1_024 false no_forward) 9))
+    ≡ Err (TooMany (fetched (record_at 128 0 1_024 false no_forward) 9)))
 unfolding refetch_of record_fits mdir_behind pair_fits geometry_fits fetch_of too_high view rank log committed walk walk_from
     walk_in class_of read_behind body_length tag_length tag_flipped be32 le32 to_le32 xor crc crc_byte crc_bits crc_bit mdir_of
     erased_of stopped_straight span event_length tag_after count_of counted split_of tail_of forward_of seed_of

@@ -46,7 +46,7 @@ fn show(rt: &impl Print, pair: &[u8]) -> io::Result<()> {
             text(rt, b"found")?;
             record(rt, m)
         }
-        Fetched::Refused(r) => refused(rt, r),
+        Err(r) => refused(rt, r),
     }
 }
 

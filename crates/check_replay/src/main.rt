@@ -3,9 +3,7 @@
 // layout). Prints how many of each kind were equal.
 #![tactic(auto)]
 
-use format::{
-    Altered, Fetched, Geometry, Got, LfsFcrc, LfsGstate, LfsMdir, LfsPair, Refusal, Word,
-};
+use format::{Fetched, Geometry, LfsFcrc, LfsGstate, LfsMdir, LfsPair, Refusal};
 use std::io;
 use std::io::Read;
 
@@ -96,8 +94,8 @@ fn at(head: [u8; 128], k: usize) -> u32 {
         return 0;
     }
     match word::lfs_le32_at(&head, k * 4) {
-        Word::Is(v) => v,
-        Word::Refused(_) => 0,
+        Ok(v) => v,
+        Err(_) => 0,
     }
 }
 
@@ -188,7 +186,7 @@ fn same_fetch(head: [u8; 128], b0: &[u8], b1: &[u8]) -> bool {
         at(head, SEED),
     ) {
         Fetched::Found(m, s) => (result == 0) & same_mdir(m, want) & (s == seed),
-        Fetched::Refused(r) => match r {
+        Err(r) => match r {
             Refusal::TooMany(m, s) => (result == number(r)) & same_mdir(m, want) & (s == seed),
             _ => result == number(r),
         },
@@ -211,8 +209,8 @@ fn slice_into(head: [u8; 128], b0: &[u8], b1: &[u8], want: &[u8], buffer: &mut [
         at(head, GOFF),
         buffer,
     ) {
-        Got::Found(e) => (result == 0) & (e.tag == at(head, WANT_TAG)),
-        Got::Refused(r) => result == number(r),
+        Ok(e) => (result == 0) & (e.tag == at(head, WANT_TAG)),
+        Err(r) => result == number(r),
     };
     equal & (&*buffer == want)
 }
@@ -247,8 +245,8 @@ fn same_info(head: [u8; 128], b0: &[u8], b1: &[u8], want: &[u8]) -> bool {
     let name = info.name;
     let result = at(head, WANT_RESULT);
     let equal = match answer {
-        Altered::Done => result == 0,
-        Altered::Refused(r) => result == number(r),
+        Ok(()) => result == 0,
+        Err(r) => result == number(r),
     };
     equal
         & (info.kind as u32 == at(head, WANT_TYPE))
@@ -272,8 +270,8 @@ fn same_state(head: [u8; 128], b0: &[u8], b1: &[u8]) -> bool {
     let want = gstate(head, WANT_STATE);
     let result = at(head, WANT_RESULT);
     let equal = match answer {
-        Altered::Done => result == 0,
-        Altered::Refused(r) => result == number(r),
+        Ok(()) => result == 0,
+        Err(r) => result == number(r),
     };
     equal & (state.tag == want.tag) & same_pair(state.pair, want.pair)
 }

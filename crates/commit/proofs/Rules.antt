@@ -11,15 +11,16 @@ use Rattle.format.specs.Stopped.{CommitStopped, CommitLeaves, CommitStoresLeaves
 use Rattle.format.specs.declared.Geometry.{Geometry}
 use Rattle.format.specs.declared.LfsMdir.{LfsMdir}
 use Rattle.format.specs.declared.Entry.{Entry}
-use Rattle.format.specs.declared.Fetched.TheVariants as fetched
-use Rattle.format.specs.declared.Committed.{Committed}
-use Rattle.format.specs.declared.Stored.{Stored}
 use Rattle.theory.proofs.Stopped.Commit.{stopped_commit}
 use Rattle.theory.proofs.Stopped.Refetch.{refetch_behind}
 use Rattle.commit_steps.specs.State.{Trio, trio, begun_of, decided_of, sealed_of, answered_of, made_of}
 use Rattle.commit_steps.specs.declared.State.{State}
 use Rattle.commit.proofs.Whole.{ran}
 use Rattle.commit.specs.Passes.{entry_at, step_e, each_of, decide_t, seal_t, judged_from, laid_from, ran_of}
+use Rattle.std.specs.Prelude.{Ok, Result}
+use Rattle.format.specs.declared.Fetched.{Fetched}
+use Rattle.format.specs.declared.Refusal.{Refusal}
+use Rattle.format.specs.Record.{fetched}
 
 -- ---- the loop
 module _ (es : List Entry) (dat b0 b1 : List ℕ) (st : State) where
@@ -68,7 +69,7 @@ module _ (b0 b1 : List ℕ) (es : List Entry) (dat : List ℕ) (g : Geometry) (n
   all n s0 s1 x1 y1 s2 x2 y2 e0 e1 e2 = e2 ∙ ap (λ (t : Trio). laid_from t.st t.b0 t.b1 es dat)
       (e1 ∙ ap (λ (s : State). judged_from s g b0 b1 byte es dat n) e0)
 
-  pub commit_glue : (n : ℕ) (s0 s1 : State) (x1 y1 : List ℕ) (r0 : State) (x0 y0 : List ℕ) (r1 : Committed)
+  pub commit_glue : (n : ℕ) (s0 s1 : State) (x1 y1 : List ℕ) (r0 : State) (x0 y0 : List ℕ) (r1 : Result Fetched Refusal)
       → n ≡ unlimited
       → s0 ≡ begun_of g b0 b1 n0 n1 count seed rules byte (length es) dat
       → trio s1 x1 y1 ≡ judged_from s0 g b0 b1 byte es dat n
@@ -86,7 +87,7 @@ module _ (b0 b1 : List ℕ) (es : List Entry) (dat : List ℕ) (g : Geometry) (n
       ap (λ (u : Trio). u.b0) e ∙ t.first in
       let ey : y0 ≡ (commit_images g b0 b1 n0 n1 count seed rules byte es dat unlimited).b1 =
       ap (λ (u : Trio). u.b1) e ∙ t.second in
-      let again : (m : LfsMdir) (s : ℕ) → fetch_of g b0 b1 n0 n1 count seed ≡ fetched.Found m s
+      let again : (m : LfsMdir) (s : ℕ) → fetch_of g b0 b1 n0 n1 count seed ≡ Ok (fetched m s)
       → refetch_of g x0 y0 n0 n1 count s m ≡ fetch_of g x0 y0 n0 n1 count seed =
       λ m s h. rw (ex, ey) (refetch_behind g b0 b1 n0 n1 count seed rules byte es dat unlimited m s (inl h)) in
       let answers : r1 ≡ commit_of g b0 b1 n0 n1 count seed rules byte es dat =
@@ -96,7 +97,7 @@ module _ (b0 b1 : List ℕ) (es : List Entry) (dat : List ℕ) (g : Geometry) (n
       (verdict_of g b0 b1 n0 n1 count seed rules byte es dat)) in
       (answers, (ex, ey, stopped_commit g b0 b1 n0 n1 count seed rules byte es dat))
 
-  pub stores_glue : (stores : ℕ) (s0 s1 : State) (x1 y1 : List ℕ) (r0 : State) (x0 y0 : List ℕ) (r1 : Stored)
+  pub stores_glue : (stores : ℕ) (s0 s1 : State) (x1 y1 : List ℕ) (r0 : State) (x0 y0 : List ℕ) (r1 : Result ℕ Refusal)
       → s0 ≡ begun_of g b0 b1 n0 n1 count seed rules byte (length es) dat
       → trio s1 x1 y1 ≡ judged_from s0 g b0 b1 byte es dat stores
       → trio r0 x0 y0 ≡ laid_from s1 x1 y1 es dat

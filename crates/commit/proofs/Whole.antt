@@ -24,7 +24,7 @@ use Rattle.format.specs.Entries.{items_of, Judged, judge, bad, good}
 use Rattle.format.specs.Room.{room_of}
 use Rattle.format.specs.Writer.{rounded_end, check_size, check_at, all_stores, most_data, most_entries, commit_fits}
 use Rattle.format.specs.Writer.{Verdict, refused, accepted, block_at, room_then, placed, judged_by, appended, is_second}
-use Rattle.format.specs.Writer.{writes_fit, fetched_then, verdict_of, images_after, stored_to, committed_as, answer_of}
+use Rattle.format.specs.Writer.{writes_fit, fetched_then, verdict_of, images_after, stored_to, answer_of}
 use Rattle.format.specs.Writer.{stores_made}
 use Rattle.format.specs.Writer.{unit_check, forward_tag, forward_item, carries, carried_for, forward_items, with_forward}
 use Rattle.format.specs.declared.LfsFcrc.{LfsFcrc}
@@ -33,11 +33,6 @@ use Rattle.format.specs.declared.LfsMdir.{LfsMdir}
 use Rattle.format.specs.declared.Entry.{Entry}
 use Rattle.format.specs.declared.Refusal.{Refusal}
 use Rattle.format.specs.declared.Refusal.TheVariants.{Invalid, BadEntry, Irregular, NoSpace, Coincidence}
-use Rattle.format.specs.declared.Room.{Room}
-use Rattle.format.specs.declared.Room.TheVariants as room
-use Rattle.format.specs.declared.Fetched.{Fetched}
-use Rattle.format.specs.declared.Fetched.TheVariants as fetched
-use Rattle.format.specs.declared.Stored.TheVariants as stored
 use Rattle.theory.specs.Walk.Step.{both_true}
 use Rattle.theory.specs.Directory.Machine.{most_slots}
 use Rattle.theory.specs.Commit.Tested.{regular_count}
@@ -62,17 +57,20 @@ use Rattle.commit.proofs.Folded.{fold_e, pass_fold, laid_refused, decided_refuse
 use Rattle.commit.proofs.Chained.{last_tag, last_sum, tag_app, sum_app, meets_last, bytes_length}
 use Rattle.commit.proofs.Judges.{after, phase_of, judge_pass, items_long}
 use Rattle.commit.proofs.Lays.{Tagged, judged_tagged, all_laid, lay_first, lay_second, sealed_done}
+use Rattle.std.specs.Prelude.{Err, Ok, Result}
+use Rattle.format.specs.declared.Fetched.{Fetched}
+use Rattle.format.specs.Record.{fetched}
 
 -- what a state and two blocks must be behind a commit with the limit n and the verdict v. F is what was fetched first;
 -- the answer is f, if that is what is fetched again behind it.
-pub record Ran (byte : ℕ) (F : Fetched) (b0 b1 : List ℕ) (n : ℕ) (v : Verdict) (t : Trio) : Type 0 where
+pub record Ran (byte : ℕ) (F : Result Fetched Refusal) (b0 b1 : List ℕ) (n : ℕ) (v : Verdict) (t : Trio) : Type 0 where
   pub first : t.b0 ≡ (images_after byte n b0 b1 v).b0
   pub second : t.b1 ≡ (images_after byte n b0 b1 v).b1
-  pub answers : (on : ℕ → LfsMdir → Fetched) (f : Fetched)
-      → ((m : LfsMdir) (s : ℕ) → F ≡ fetched.Found m s → on s m ≡ f) → answered_of t.st on ≡ answer_of f v
+  pub answers : (on : ℕ → LfsMdir → Result Fetched Refusal) (f : Result Fetched Refusal)
+      → ((m : LfsMdir) (s : ℕ) → F ≡ Ok (fetched m s) → on s m ≡ f) → answered_of t.st on ≡ answer_of f v
   pub made : made_of t.st n ≡ stores_made n v
 
-ran_refused : (byte : ℕ) (F : Fetched) (b0 b1 : List ℕ) (n : ℕ) (w : Bool) (r : Refusal) (t : Trio)
+ran_refused : (byte : ℕ) (F : Result Fetched Refusal) (b0 b1 : List ℕ) (n : ℕ) (w : Bool) (r : Refusal) (t : Trio)
     → t ≡ trio (state w (Refused r)) b0 b1 → Ran byte F b0 b1 n (refused r) t
 unfolding answered_of made_of
 ran_refused byte F b0 b1 n w r t e =
@@ -101,9 +99,9 @@ module _ (byte : ℕ) (b : List ℕ) (is : List Item) (size n : ℕ) (made : All
       ∙ rw l
 
 -- the block at place w holds them
-ran_accepted : (byte : ℕ) (F : Fetched) (b0 b1 : List ℕ) (n : ℕ) (w : Bool) (is : List Item) (size a : ℕ) (l : Laying)
+ran_accepted : (byte : ℕ) (F : Result Fetched Refusal) (b0 b1 : List ℕ) (n : ℕ) (w : Bool) (is : List Item) (size a : ℕ) (l : Laying)
     (p : ℕ)
-    (t : Trio) → F ≡ fetched.Found l.old.dir l.old.seed → t ≡ into w b0 b1 (laid_to l p (laid (run_at a
+    (t : Trio) → F ≡ Ok (fetched l.old.dir l.old.seed) → t ≡ into w b0 b1 (laid_to l p (laid (run_at a
     (n - all_stores is)) (stored_to byte (block_at w b0 b1) is size n)))
     → Ran byte F b0 b1 n (accepted w is size) t
 unfolding answered_of made_of
@@ -112,16 +110,16 @@ ran_accepted byte F b0 b1 n false is size a l p t found e =
       first = ap (λ (u : Trio). u.b0) e;
       second = ap (λ (u : Trio). u.b1) e;
       answers = λ on f h. ap (λ (u : Trio). answered_of u.st on) e
-          ∙ ap committed_as (h l.old.dir l.old.seed found);
-      made = ap (λ (u : Trio). made_of u.st n) e ∙ ap stored.Made (made_count n (all_stores is));
+          ∙ h l.old.dir l.old.seed found;
+      made = ap (λ (u : Trio). made_of u.st n) e ∙ ap Ok (made_count n (all_stores is));
     }
 ran_accepted byte F b0 b1 n true is size a l p t found e =
     record {
       first = ap (λ (u : Trio). u.b0) e;
       second = ap (λ (u : Trio). u.b1) e;
       answers = λ on f h. ap (λ (u : Trio). answered_of u.st on) e
-          ∙ ap committed_as (h l.old.dir l.old.seed found);
-      made = ap (λ (u : Trio). made_of u.st n) e ∙ ap stored.Made (made_count n (all_stores is));
+          ∙ h l.old.dir l.old.seed found;
+      made = ap (λ (u : Trio). made_of u.st n) e ∙ ap Ok (made_count n (all_stores is));
     }
 
 lay_both : (dat : List ℕ) (es : List Entry) (l : Laying) (w : Bool) (b0 b1 : List ℕ) → Tagged es
@@ -130,9 +128,9 @@ lay_both dat es l false b0 b1 h = lay_first dat es l b0 b1 h
 lay_both dat es l true b0 b1 h = lay_second dat es l b0 b1 h
 
 -- ---- good entries: the block B at place w answers, the record m was found, with the seed s behind it
-module _ (byte : ℕ) (F : Fetched) (dat : List ℕ) (entries : List Entry) (w : Bool) (b0 b1 : List ℕ) (n prog : ℕ)
+module _ (byte : ℕ) (F : Result Fetched Refusal) (dat : List ℕ) (entries : List Entry) (w : Bool) (b0 b1 : List ℕ) (n prog : ℕ)
     (m : LfsMdir)
-    (s : ℕ) (found : F ≡ fetched.Found m s) (ends : m.off ≡ log_end (log (block_at w b0 b1)))
+    (s : ℕ) (found : F ≡ Ok (fetched m s)) (ends : m.off ≡ log_end (log (block_at w b0 b1)))
     (end_tag_lem : m.etag ≡ log_end_tag (log (block_at w b0 b1))) where
   abbrev B : List ℕ
   B = block_at w b0 b1
@@ -175,10 +173,10 @@ module _ (byte : ℕ) (F : Fetched) (dat : List ℕ) (entries : List Entry) (w :
     sum = all_ones;
   }
 
-  abbrev tests : Bool → Room → Bool → Phase
+  abbrev tests : Bool → Result Unit Refusal → Bool → Phase
   tests x y z = cond x (Refused NoSpace) (room_then_laid y (cond z (Refused Coincidence) (Lay laying)))
 
-  abbrev verdict : Bool → Room → Bool → Verdict
+  abbrev verdict : Bool → Result Unit Refusal → Bool → Verdict
   verdict x y z = cond x (refused NoSpace)
       (room_then y
       (cond z (refused Coincidence) (accepted w I (check_size prog (check_at (log B) I)))))
@@ -245,13 +243,13 @@ module _ (byte : ℕ) (F : Fetched) (dat : List ℕ) (entries : List Entry) (w :
       ∙ tested_phase (forward_summed j fcrc) (behind_forward len c few)
 
   module _ (some : 4 ≤ prog) (h : Tagged entries) (made : AllMade I) where
-    ran_tests : (x : Bool) (y : Room) (z : Bool) → ltb (length B) (rounded_end prog (check_at (log B) I)) ≡ x
+    ran_tests : (x : Bool) (y : Result Unit Refusal) (z : Bool) → ltb (length B) (rounded_end prog (check_at (log B) I)) ≡ x
         → Ran byte F b0 b1 n (verdict x y z) (laid_by (tests x y z))
     ran_tests true y z e = ran_refused byte F b0 b1 n w NoSpace _ (laid_refused w NoSpace b0 b1 entries dat)
-    ran_tests false (room.Refused r) z e = ran_refused byte F b0 b1 n w r _ (laid_refused w r b0 b1 entries dat)
-    ran_tests false room.Clean true e =
+    ran_tests false (Err r) z e = ran_refused byte F b0 b1 n w r _ (laid_refused w r b0 b1 entries dat)
+    ran_tests false (Ok x) true e =
         ran_refused byte F b0 b1 n w Coincidence _ (laid_refused w Coincidence b0 b1 entries dat)
-    ran_tests false room.Clean false e =
+    ran_tests false (Ok x) false e =
         let fit : rounded_end prog (check_at (log B) I) ≤ length B =
         ltb-false (length B) (rounded_end prog (check_at (log B) I)) e in
         ran_accepted byte F b0 b1 n w I (check_size prog (check_at (log B) I))
@@ -272,7 +270,7 @@ module _ (byte : ℕ) (F : Fetched) (dat : List ℕ) (entries : List Entry) (w :
 -- ---- all of it
 module _ (g : Geometry) (b0 b1 : List ℕ) (n0 n1 count seed rules byte : ℕ) (entries : List Entry) (dat : List ℕ)
     (n : ℕ) where
-  abbrev F : Fetched
+  abbrev F : Result Fetched Refusal
   F = fetch_of g b0 b1 n0 n1 count seed
 
   abbrev decided_t : Trio → Trio
@@ -303,7 +301,7 @@ module _ (g : Geometry) (b0 b1 : List ℕ) (n0 n1 count seed rules byte : ℕ) (
     geometry = fits_geometry g (length b0) (length b1) n0 n1 rules byte (length entries) (length dat) fits
 
     -- the block at place w answers, m was found with the seed s; its log is regular, by littlefs's rule, the wider one
-    module _ (w : Bool) (m : LfsMdir) (s : ℕ) (found : F ≡ fetched.Found m s)
+    module _ (w : Bool) (m : LfsMdir) (s : ℕ) (found : F ≡ Ok (fetched m s))
         (ends : m.off ≡ log_end (log (block_at w b0 b1))) (end_tag_lem : m.etag ≡ log_end_tag (log (block_at w b0 b1)))
         (regular : Regular Littlefs (log (block_at w b0 b1)) ≡ true) where
       low : count_of 0 (log (block_at w b0 b1)) ≤ most_slots
@@ -351,7 +349,7 @@ module _ (g : Geometry) (b0 b1 : List ℕ) (n0 n1 count seed rules byte : ℕ) (
           (sym p)
           (ran_judged (judge dat 0 (count_of 0 (log (block_at w b0 b1))) entries) refl)
 
-    ran_started : (w : Bool) (m : LfsMdir) (s : ℕ) → F ≡ fetched.Found m s → m.off ≡ log_end (log (block_at w b0 b1))
+    ran_started : (w : Bool) (m : LfsMdir) (s : ℕ) → F ≡ Ok (fetched m s) → m.off ≡ log_end (log (block_at w b0 b1))
         → m.etag ≡ log_end_tag (log (block_at w b0 b1)) → m.count ≡ count_of 0 (log (block_at w b0 b1))
         → Ran byte F b0 b1 n (appended (rules_of rules) byte g.prog_size w (block_at w b0 b1) (log (block_at w b0 b1))
         entries dat) (T (started_of (rules_of rules) w (block_at w b0 b1) m s))
@@ -384,15 +382,15 @@ module _ (g : Geometry) (b0 b1 : List ℕ) (n0 n1 count seed rules byte : ℕ) (
     on m = appended (rules_of rules) byte g.prog_size (is_second n0 m) (block_at (is_second n0 m) b0 b1)
         (log (block_at (is_second n0 m) b0 b1)) entries dat
 
-    ran_fetched : (f : Fetched) → fetch_of g b0 b1 n0 n1 count seed ≡ f
+    ran_fetched : (f : Result Fetched Refusal) → fetch_of g b0 b1 n0 n1 count seed ≡ f
         → Ran byte F b0 b1 n (fetched_then f on) (T (fetched_by (rules_of rules) f n0 b0 b1))
-    ran_fetched (fetched.Refused r) e = ran_refused byte F b0 b1 n false r _
+    ran_fetched (Err r) e = ran_refused byte F b0 b1 n false r _
         (all_refused false r b0 b1 byte g n entries dat)
-    ran_fetched (fetched.Found m s) e =
-        let a = found_answers g b0 b1 n0 n1 count seed m s e in
+    ran_fetched (Ok f) e =
+        let a = found_answers g b0 b1 n0 n1 count seed f.dir f.seed e in
         subst (λ (v : Bool). Ran byte F b0 b1 n (appended (rules_of rules) byte g.prog_size v (block_at v b0 b1)
-        (log (block_at v b0 b1)) entries dat) (T (started_of (rules_of rules) v (block_at v b0 b1) m s))) (sym a.place)
-        (ran_started a.w m s e a.end a.end_tag a.count)
+        (log (block_at v b0 b1)) entries dat) (T (started_of (rules_of rules) v (block_at v b0 b1) f.dir f.seed))) (sym a.place)
+        (ran_started a.w f.dir f.seed e a.end a.end_tag a.count)
 
   pub ran : Ran byte F b0 b1 n (verdict_of g b0 b1 n0 n1 count seed rules byte entries dat)
       (ran_of g b0 b1 n0 n1 count seed rules byte entries dat n)

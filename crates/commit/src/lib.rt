@@ -11,7 +11,7 @@ ghost use Rattle.commit_steps.specs.State.{trio};
 ghost use Rattle.commit.specs.Passes.{each_of, judged_from, laid_from};
 
 use commit_steps::State;
-use format::{Committed, Entry, Geometry, Stored};
+use format::{Entry, Geometry};
 
 // One pass over the entries.
 fn each(es: &[Entry], dat: &[u8], b0: &mut [u8], b1: &mut [u8], st: State) -> State
@@ -71,7 +71,7 @@ pub fn lfs_dir_commit(
     erased: u8,
     entries: &[Entry],
     dat: &[u8],
-) -> Committed
+) -> Result<Fetched, Refusal>
     ensures { (result ≡ commit_of g b0.old b1.old n0 n1 block_count seed rules erased
         entries.now dat.now)
         × CommitLeaves g b0.old b1.old n0 n1 block_count seed rules erased
@@ -111,7 +111,7 @@ pub fn lfs_dir_commit_stores(
     entries: &[Entry],
     dat: &[u8],
     stores: u32,
-) -> Stored
+) -> Result<u32, Refusal>
     ensures { (result ≡ commit_stores_of g b0.old b1.old n0 n1 block_count seed rules erased
         entries.now dat.now stores)
         × CommitStoresLeaves g b0.old b1.old n0 n1 block_count seed rules erased

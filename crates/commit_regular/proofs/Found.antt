@@ -11,13 +11,14 @@ use Rattle.format.specs.Fetch.{fetch_of}
 use Rattle.format.specs.Writer.{block_at, is_second}
 use Rattle.format.specs.declared.Geometry.{Geometry}
 use Rattle.format.specs.declared.LfsMdir.{LfsMdir}
-use Rattle.format.specs.declared.Fetched.TheVariants.{Found}
 use Rattle.theory.specs.Fetch.FoundBlock.{Sized, found_sized, found_reads}
 use Rattle.commit_regular.specs.Ends.{CommittedTo}
+use Rattle.std.specs.Prelude.{Ok}
+use Rattle.format.specs.Record.{fetched}
 
 -- m is the record
 module _ (g : Geometry) (b0 b1 : List ℕ) (n0 n1 count seed : ℕ) (m : LfsMdir) (s : ℕ)
-    (f : Found m s ≡ fetch_of g b0 b1 n0 n1 count seed) where
+    (f : Ok (fetched m s) ≡ fetch_of g b0 b1 n0 n1 count seed) where
   long : (w : Bool) → Sized g b0 b1 → 128 ≤ length (block_at w b0 b1)
   long false z = omega (arith, z.first, z.block.0)
   long true z = omega (arith, z.second, z.block.0)

@@ -9,7 +9,7 @@ use Rattle.format.specs.Tag.{tag_id, tag_size}
 use Rattle.format.specs.Walk.{Event, ent, chk}
 use Rattle.format.specs.Regular.{between, rule_holds, count_after, grows_after, logged_rule, count_at, regular_from}
 use Rattle.commit_rules.specs.Rules.{counted_as, passed_by}
-use Rattle.commit_rules.specs.declared.Ruled.TheVariants.{Bad, To}
+use Rattle.std.specs.Prelude.{None, Some}
 
 -- ---- a check; x is what `check_fits` answers
 module _ (g : Bool) (c t s : ℕ) (es : List Event) (x : Bool) (ex : x ≡ between 4 1_022 (tag_size t)) where
@@ -26,13 +26,13 @@ never : {A : Type 0} → ◌≡◌ {A = ℕ} 0 1 → A
 never e = absurd (omega arith)
 
 module _ (g : Bool) (c t : ℕ) where
-  pub entry_bad : Bad ≡ passed_by (logged_rule t) (count_at g c t) (tag_id t) (tag_size t) → (d : List ℕ) (es : List Event)
+  pub entry_bad : None ≡ passed_by (logged_rule t) (count_at g c t) (tag_id t) (tag_size t) → (d : List ℕ) (es : List Event)
       → regular_from g c (ent t d ∷ es) ≡ false
   unfolding regular_from
   entry_bad e d es = go (rule_holds (logged_rule t) (count_at g c t) (tag_id t) (tag_size t)) refl e
     where
       go : (h : Bool) → rule_holds (logged_rule t) (count_at g c t) (tag_id t) (tag_size t) ≡ h
-          → Bad ≡ counted_as h (count_after (logged_rule t) (count_at g c t))
+          → None ≡ counted_as h (count_after (logged_rule t) (count_at g c t))
           → regular_from g c (ent t d ∷ es) ≡ false
       go true eh e = never (cc)
       go false eh e = rw eh
@@ -44,12 +44,12 @@ module _ (g : Bool) (c t : ℕ) where
     pub on : (d : List ℕ) (es : List Event)
         → regular_from g c (ent t d ∷ es) ≡ regular_from (grows_after g (logged_rule t)) n es
 
-  pub entry_good : (n : ℕ) → To n ≡ passed_by (logged_rule t) (count_at g c t) (tag_id t) (tag_size t) → Enters n
+  pub entry_good : (n : ℕ) → Some n ≡ passed_by (logged_rule t) (count_at g c t) (tag_id t) (tag_size t) → Enters n
   unfolding regular_from
   entry_good n e = go (rule_holds (logged_rule t) (count_at g c t) (tag_id t) (tag_size t)) refl e
     where
       go : (h : Bool) → rule_holds (logged_rule t) (count_at g c t) (tag_id t) (tag_size t) ≡ h
-          → To n ≡ counted_as h (count_after (logged_rule t) (count_at g c t)) → Enters n
+          → Some n ≡ counted_as h (count_after (logged_rule t) (count_at g c t)) → Enters n
       go false eh e = never (cc)
       go true eh e =
           let is : n ≡ count_after (logged_rule t) (count_at g c t) = cc in

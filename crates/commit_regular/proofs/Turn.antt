@@ -19,11 +19,10 @@ use Rattle.format.proofs.Words.{tag_length_ge}
 use Rattle.format.proofs.Classes.{Whole}
 use Rattle.fetch_walk.specs.State.{from}
 use Rattle.commit_rules.specs.Rules.{passed_by}
-use Rattle.commit_rules.specs.declared.Ruled.{Ruled}
-use Rattle.commit_rules.specs.declared.Ruled.TheVariants.{Bad, To}
 use Rattle.commit_regular.specs.Ends.{CommittedTo}
 use Rattle.commit_regular.proofs.Passed.{check_bad, check_on, entry_bad, Enters, entry_good}
 use Rattle.commit_regular.proofs.Place.{rest, tag_on, Behind, Met, more_met, none_left}
+use Rattle.std.specs.Prelude.{None, Option, Some}
 
 -- ---- what a pass keeps: the log that is still to come ends at `end`, and all is regular if that is. g₀: whether names
 -- might make slots at the beginning
@@ -150,7 +149,7 @@ module _ (b : List ℕ) (g₀ : Bool) (end count : ℕ) (g : Bool) (at prev : �
 
         -- k is the tag's type, R its rule, y what `entered` answers
         module _ (h : x ≡ false) (k : ℕ) (ek : k ≡ tag_type3 (bit_xor w prev)) (R : Rule) (eR : R ≡ rule_of true k)
-            (y : Ruled)
+            (y : Option ℕ)
             (ey : y ≡ passed_by R (count_raised g R count (tag_id (bit_xor w prev))) (tag_id (bit_xor w prev))
             (tag_size (bit_xor w prev))) where
           rule : R ≡ logged_rule (tag_on b at prev)
@@ -160,12 +159,12 @@ module _ (b : List ℕ) (g₀ : Bool) (end count : ℕ) (g : Bool) (at prev : �
               (tag_id (tag_on b at prev)) (tag_size (tag_on b at prev))
           asked = rw (rule, same) at ey
 
-          pub turn_bad : Bad ≡ y → (r : Rules) → g₀ ≡ grows r → Regular r (log b) ≡ false
+          pub turn_bad : None ≡ y → (r : Rules) → g₀ ≡ grows r → Regular r (log b) ≡ false
           turn_bad e = stops _ _ (met.entry (plain false h))
               (λ es. entry_bad g count (tag_on b at prev) (e ∙ asked) (body_of (tag_on b at prev) (drop at b)) es)
 
           -- c is the count behind it
-          module _ (c : ℕ) (e : To c ≡ y) where
+          module _ (c : ℕ) (e : Some c ≡ y) where
             enters : Enters g count (tag_on b at prev) c
             enters = entry_good g count (tag_on b at prev) c (e ∙ asked)
 

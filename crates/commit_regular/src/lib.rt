@@ -11,7 +11,7 @@ ghost use Rattle.format.specs.Regular.{Regular, rules_of, count_raised};
 ghost use Rattle.commit_rules.specs.Rules.{rule_as, passed_by};
 ghost use Rattle.commit_regular.specs.Ends.{CommittedTo};
 
-use commit_rules::{Rule, Ruled};
+use commit_rules::Rule;
 use fetch_walk::cursor;
 use format::Rules;
 use format::types::FIRST_PREV;
@@ -28,7 +28,7 @@ pub fn rules_of(rules: u32) -> Rules
 
 // The count behind an entry, or that it is bad, where the count is `count` before it and names may make slots or not.
 // `find_pass` has one too: with two callers it would stay a call, which for each entry costs a tenth of fetch's time.
-fn entered(rule: Rule, grows: bool, count: u32, tag: u32) -> Ruled
+fn entered(rule: Rule, grows: bool, count: u32, tag: u32) -> Option<u32>
     ensures { result ≡ passed_by (rule_as rule) (count_raised grows (rule_as rule) count (tag_id tag)) (tag_id tag)
         (tag_size tag) }
 {
@@ -58,7 +58,7 @@ pub fn log_regular(b: &[u8], end: usize, rules: Rules) -> bool
             at = next;
         } else {
             let rule = commit_rules::rule_of(true, tag::lfs_tag_type3(tag));
-            let Ruled::To(behind) = entered(rule, grows, count, tag) else {
+            let Some(behind) = entered(rule, grows, count, tag) else {
                 return false;
             };
             count = behind;

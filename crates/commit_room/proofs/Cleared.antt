@@ -16,8 +16,8 @@ use Rattle.format.specs.Erased.{erased, validity_fits}
 use Rattle.format.specs.Stores.{fill, tag_coincides}
 use Rattle.format.specs.Room.{erased_run, first_unerased, room_of}
 use Rattle.format.specs.declared.Refusal.TheVariants.{Misaligned, WrongValidity, NotErased}
-use Rattle.format.specs.declared.Room.TheVariants.{Clean, Refused}
 use Rattle.format.proofs.Rooms.{inside_block}
+use Rattle.std.specs.Prelude.{Err, Ok}
 
 module _ (e : ℕ) (b : List ℕ) (i : ℕ) where
   pub unerased_end : length b ≤ i → i ≡ first_unerased e b i
@@ -74,21 +74,21 @@ module _ (e etag : ℕ) (v : Bool) (ev : v ≡ tag_valid etag) where
 
 -- ---- `room`: v is what `validity_fits` answers, d what `first_unerased` does
 module _ (e prog : ℕ) (b : List ℕ) (end etag : ℕ) where
-  pub room_misaligned : (end % prog ≡ 0 → ⊥) → Refused Misaligned ≡ room_of e prog b end etag
+  pub room_misaligned : (end % prog ≡ 0 → ⊥) → Err Misaligned ≡ room_of e prog b end etag
   unfolding room_of
   room_misaligned h = rw (ne_eqb (end % prog) 0 h)
 
   module _ (h : end % prog ≡ 0) (v : Bool) (ev : v ≡ validity_fits e etag) where
-    pub room_validity : not v ≡ true → Refused WrongValidity ≡ room_of e prog b end etag
+    pub room_validity : not v ≡ true → Err WrongValidity ≡ room_of e prog b end etag
     unfolding room_of
     room_validity k = rw (eq-eqb (end % prog) 0 h, ← ev, k)
 
     module _ (k : not v ≡ false) (d : ℕ) (ed : d ≡ first_unerased e b end) where
-      pub room_unerased : d < length b → Refused (NotErased d) ≡ room_of e prog b end etag
+      pub room_unerased : d < length b → Err (NotErased d) ≡ room_of e prog b end etag
       unfolding room_of
       room_unerased l = rw (eq-eqb (end % prog) 0 h, ← ev, k, ← inside_block e b end, ← ed, lt-ltb d (length b) l)
 
-      pub room_clean_lem : length b ≤ d → Clean ≡ room_of e prog b end etag
+      pub room_clean_lem : length b ≤ d → (Ok tt) ≡ room_of e prog b end etag
       unfolding room_of
       room_clean_lem l = rw (eq-eqb (end % prog) 0 h, ← ev, k, ← inside_block e b end, ← ed, le-ltb d (length b) l)
 

@@ -12,7 +12,7 @@ ghost use Rattle.format.specs.Writer.{rounded_end, check_size, forward_length, u
 ghost use Rattle.commit_room.specs.Tests.{Prog};
 
 use format::types::CRC_START;
-use format::{LfsFcrc, Refusal, Room};
+use format::{LfsFcrc, Refusal};
 
 // Tag and checksum of a check.
 const CHECK_LENGTH: usize = 8;
@@ -134,23 +134,23 @@ fn validity_fits(erased: u8, etag: u32) -> bool
 
 // "Tell a misaligned end, an end tag with its top bit set, and a first byte that isn't erased apart, the last with its
 // offset in the block. Test them in that order"; the second "is now 'wrong validity bit'".
-pub fn room(erased: u8, prog: u32, b: &[u8], end: usize, etag: u32) -> Room
+pub fn room(erased: u8, prog: u32, b: &[u8], end: usize, etag: u32) -> Result<(), Refusal>
     requires le_prog { 4 ≤ prog }
     requires b_len_bound { length b.now ≤ 32_768 }
     ensures { result ≡ room_of erased prog b.now end etag }
 {
     let unit = prog as usize;
     if end % unit != 0 {
-        return Room::Refused(Refusal::Misaligned);
+        return Err(Refusal::Misaligned);
     }
     if !validity_fits(erased, etag) {
-        return Room::Refused(Refusal::WrongValidity);
+        return Err(Refusal::WrongValidity);
     }
     let dirty = first_unerased(erased, b, end);
     if dirty < b.len() {
-        return Room::Refused(Refusal::NotErased(dirty as u32));
+        return Err(Refusal::NotErased(dirty as u32));
     }
-    Room::Clean
+    Ok(())
 }
 
 // "put 1, 2 or 3 bytes of the check tag and fill its four" with erased bytes; if any of the three checksums is what

@@ -10,7 +10,7 @@ use Rattle.format.specs.Regular.{eight, attribute, tail, move, forward, bad}
 use Rattle.commit_rules.specs.Rules.{rule_as, passed_by}
 use Rattle.commit_rules.specs.declared.Rule as declared
 use Rattle.commit_rules.specs.declared.Rule.TheVariants as told
-use Rattle.commit_rules.specs.declared.Ruled.TheVariants as ruled
+use Rattle.std.specs.Prelude.{None, Some}
 
 both : (a b : Bool) → a && b ≡ true → (a ≡ true) × (b ≡ true)
 both true b e = (refl, e)
@@ -33,10 +33,10 @@ count_fits forward c id size h k = h
 count_fits bad c id size h k = h
 
 module _ (R : Rule) (c id size : ℕ) (x : Bool) (tested : x ≡ rule_holds R c id size) where
-  pub passes : (n : ℕ) → x ≡ true → n ≡ count_after R c → ruled.To n ≡ passed_by R c id size
-  passes n h e = rw (sym tested ∙ h) (ap ruled.To e)
+  pub passes : (n : ℕ) → x ≡ true → n ≡ count_after R c → Some n ≡ passed_by R c id size
+  passes n h e = rw (sym tested ∙ h) (ap Some e)
 
-  pub fails : x ≡ false → ruled.Bad ≡ passed_by R c id size
+  pub fails : x ≡ false → None ≡ passed_by R c id size
   fails h = rw (sym tested ∙ h)
 
 -- ---- littlefs's rule: what the code's one test of a name says

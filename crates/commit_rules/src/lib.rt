@@ -24,13 +24,6 @@ pub enum Rule {
     Bad,
 }
 
-// The count behind an entry that passes its rule, or that it doesn't pass.
-#[derive(Clone, Copy)]
-pub enum Ruled {
-    Bad,
-    To(u32),
-}
-
 // The rule of a type. `logged`: in a log superblock names and forward checks are allowed, which are bad in a commit.
 pub fn rule_of(logged: bool, kind: u16) -> Rule
     ensures { rule_as result ≡ rule_of logged kind }
@@ -126,17 +119,17 @@ pub fn check_fits(size: u32) -> bool
 }
 
 // The count behind an entry that falls under a rule, or that it is bad.
-pub fn count_behind(rule: Rule, count: u32, id: u32, size: u32) -> Ruled
+pub fn count_behind(rule: Rule, count: u32, id: u32, size: u32) -> Option<u32>
     ensures { result ≡ passed_by (rule_as rule) count id size }
 {
     if rule_holds(rule, count, id, size) {
-        return Ruled::To(count_after(rule, count));
+        return Some(count_after(rule, count));
     }
-    Ruled::Bad
+    None
 }
 
 // The count behind an entry of a type, or that it is bad.
-pub fn counted(logged: bool, kind: u16, count: u32, id: u32, size: u32) -> Ruled
+pub fn counted(logged: bool, kind: u16, count: u32, id: u32, size: u32) -> Option<u32>
     ensures { result ≡ counted_by logged kind count id size }
 {
     let rule = rule_of(logged, kind);

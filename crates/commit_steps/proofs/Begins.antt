@@ -9,10 +9,11 @@ use Rattle.format.specs.declared.Geometry.{Geometry}
 use Rattle.format.specs.declared.LfsMdir.{LfsMdir}
 use Rattle.format.specs.declared.Refusal.{Refusal}
 use Rattle.format.specs.declared.Refusal.TheVariants.{Invalid, Irregular}
-use Rattle.format.specs.declared.Fetched.TheVariants as fetched
 use Rattle.commit_steps.specs.State.{state, refused_state, judging_from, started_of, begun_of}
 use Rattle.commit_steps.specs.declared.State.{State}
 use Rattle.commit_steps.specs.declared.Phase.TheVariants.{Judge}
+use Rattle.std.specs.Prelude.{Err, Ok}
+use Rattle.format.specs.Record.{fetched}
 
 -- ---- `start`: r is what `rules_of` answers, x what `log_regular` does
 module _ (second : Bool) (b : List ℕ) (m : LfsMdir) (seed rules : ℕ) (r : Rules) (asked : r ≡ rules_of rules) (x : Bool)
@@ -43,12 +44,12 @@ module _ (g : Geometry) (b0 b1 : List ℕ) (n0 n1 count seed rules e entries : �
   begins_broken s h q = rw (← tested_is, h) q
 
   module _ (h : not tested ≡ false) where
-    pub begins_refused : (s : State) (r : Refusal) → fetch_of g b0 b1 n0 n1 count seed ≡ fetched.Refused r
+    pub begins_refused : (s : State) (r : Refusal) → fetch_of g b0 b1 n0 n1 count seed ≡ Err r
         → s ≡ refused_state r → s ≡ begun_of g b0 b1 n0 n1 count seed rules e entries dat
     unfolding begun_of
     begins_refused s r f q = rw (← tested_is, h, f) q
 
-    module _ (m : LfsMdir) (u : ℕ) (f : fetch_of g b0 b1 n0 n1 count seed ≡ fetched.Found m u) where
+    module _ (m : LfsMdir) (u : ℕ) (f : fetch_of g b0 b1 n0 n1 count seed ≡ Ok (fetched m u)) where
       pub begins_first : (s : State) → m.pair.n0 ≡ n0 → s ≡ started_of (rules_of rules) false b0 m u
           → s ≡ begun_of g b0 b1 n0 n1 count seed rules e entries dat
       unfolding begun_of

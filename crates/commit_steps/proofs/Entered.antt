@@ -10,7 +10,6 @@ use Rattle.format.specs.declared.LfsFcrc.{LfsFcrc}
 use Rattle.format.specs.declared.Refusal.{Refusal}
 use Rattle.format.specs.declared.Refusal.TheVariants.{BadEntry}
 use Rattle.commit_rules.specs.Rules.{counted_by}
-use Rattle.commit_rules.specs.declared.Ruled.TheVariants.{Bad, To}
 use Rattle.commit_lay.specs.Laid.{Laid, laid, puts_of, body_of, in_buffer_of}
 use Rattle.commit_lay.specs.declared.Run.{Run}
 use Rattle.commit_lay.proofs.Parts.{pair_body}
@@ -22,16 +21,17 @@ use Rattle.commit_steps.specs.declared.Laying.{Laying}
 use Rattle.commit_steps.specs.declared.Phase.{Phase}
 use Rattle.commit_steps.specs.declared.Phase.TheVariants.{Refused, Judge, Lay}
 use Rattle.commit_steps.specs.declared.State.{State}
+use Rattle.std.specs.Prelude.{None, Some}
 
 -- ---- `judge_entry`
 module _ (j : Judging) (dat : List ℕ) (kind id off len : ℕ) where
-  pub judged_bad : counted_by false kind j.count id len ≡ Bad
+  pub judged_bad : counted_by false kind j.count id len ≡ None
       → Refused (BadEntry j.index) ≡ judged_of j dat kind id off len
   unfolding judged_of
   judged_bad e = rw e
 
   -- x is what `in_buffer` answers
-  module _ (n : ℕ) (e : counted_by false kind j.count id len ≡ To n) (x : Bool)
+  module _ (n : ℕ) (e : counted_by false kind j.count id len ≡ Some n) (x : Bool)
       (is : x ≡ in_buffer_of dat off len) where
     pub judged_outside : not x ≡ true → Refused (BadEntry j.index) ≡ judged_of j dat kind id off len
     unfolding judged_of

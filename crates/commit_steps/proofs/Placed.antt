@@ -12,14 +12,13 @@ use Rattle.format.specs.declared.LfsFcrc.{LfsFcrc}
 use Rattle.format.specs.declared.Geometry.{Geometry}
 use Rattle.format.specs.declared.Refusal.{Refusal}
 use Rattle.format.specs.declared.Refusal.TheVariants.{Invalid, NoSpace, Coincidence}
-use Rattle.format.specs.declared.Room.{Room}
-use Rattle.format.specs.declared.Room.TheVariants as room
 use Rattle.commit_steps.specs.State.{state, refused_state, forward_summed, tested_of, placed_of, decided_by, decided_of}
 use Rattle.commit_steps.specs.declared.Judging.{Judging}
 use Rattle.commit_steps.specs.declared.Laying.{Laying}
 use Rattle.commit_steps.specs.declared.Phase.{Phase}
 use Rattle.commit_steps.specs.declared.Phase.TheVariants.{Refused, Judge, Lay}
 use Rattle.commit_steps.specs.declared.State.{State}
+use Rattle.std.specs.Prelude.{Err, Ok, Result}
 
 -- ---- `test`: z, x, t and y are what `rounded_end`, `room`, `check_tag` and `coincides` answer
 module _ (e : ℕ) (j : Judging) (f : LfsFcrc) (prog : ℕ) (b : List ℕ) (stores z : ℕ)
@@ -28,12 +27,12 @@ module _ (e : ℕ) (j : Judging) (f : LfsFcrc) (prog : ℕ) (b : List ℕ) (stor
   unfolding tested_of
   tested_full h = rw (← ez, lt-ltb (length b) z h)
 
-  module _ (h : z ≤ length b) (x : Room) (ex : x ≡ room_of e prog b j.old.dir.off j.old.dir.etag) where
-    pub tested_no_room : (r : Refusal) → x ≡ room.Refused r → Refused r ≡ tested_of e j f prog b stores
+  module _ (h : z ≤ length b) (x : Result Unit Refusal) (ex : x ≡ room_of e prog b j.old.dir.off j.old.dir.etag) where
+    pub tested_no_room : (r : Refusal) → x ≡ Err r → Refused r ≡ tested_of e j f prog b stores
     unfolding tested_of
     tested_no_room r k = rw (← ez, le-ltb (length b) z h, ← ex, k)
 
-    module _ (k : x ≡ room.Clean) (t : ℕ) (et : t ≡ check_tag e (check_size prog (j.old.dir.off + j.size))) (y : Bool)
+    module _ (k : x ≡ (Ok tt)) (t : ℕ) (et : t ≡ check_tag e (check_size prog (j.old.dir.off + j.size))) (y : Bool)
         (ey : y ≡ tag_coincides e j.sum (bit_xor t j.prev)) where
       word_is : bit_xor t j.prev ≡ xor (check_tag e (check_size prog (j.old.dir.off + j.size))) j.prev
       unfolding xor

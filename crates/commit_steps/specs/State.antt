@@ -1,5 +1,5 @@
 -- A commit's steps as the code makes them, on a state and two blocks. Assumes nothing.
-use Rattle.std.specs.Prelude.{ℕ, ◌+◌, ◌-◌, Bool, true, false, cond, not, List, ◌++◌, length, nat_lt}
+use Rattle.std.specs.Prelude.{ℕ, ◌+◌, ◌-◌, Bool, true, false, cond, not, List, ◌++◌, length, nat_lt, Err, Ok, Result, None, Option, Some}
 use Rattle.format.specs.Word.{to_be32, to_le32, xor, all_ones, plus32}
 use Rattle.format.specs.Tag.{tag_length, mk_tag}
 use Rattle.format.specs.Crc.{crc}
@@ -10,30 +10,22 @@ use Rattle.format.specs.Commit.{check_tag}
 use Rattle.format.specs.Stores.{tag_coincides}
 use Rattle.format.specs.Room.{room_of}
 use Rattle.format.specs.Writer.{rounded_end, check_size, forward_tag, forward_item, carried_for, commit_fits, block_at}
-use Rattle.format.specs.Writer.{is_second, committed_as}
+use Rattle.format.specs.Writer.{is_second}
 use Rattle.format.specs.declared.Rules.{Rules}
 use Rattle.format.specs.declared.Geometry.{Geometry}
 use Rattle.format.specs.declared.LfsFcrc.{LfsFcrc}
 use Rattle.format.specs.declared.LfsMdir.{LfsMdir}
 use Rattle.format.specs.declared.Refusal.{Refusal}
 use Rattle.format.specs.declared.Refusal.TheVariants.{Invalid, BadEntry, Irregular, NoSpace, Coincidence}
-use Rattle.format.specs.declared.Room.{Room}
-use Rattle.format.specs.declared.Room.TheVariants as room
-use Rattle.format.specs.declared.Fetched.{Fetched}
-use Rattle.format.specs.declared.Fetched.TheVariants as fetched
-use Rattle.format.specs.declared.Committed.{Committed}
-use Rattle.format.specs.declared.Committed.TheVariants as committed
-use Rattle.format.specs.declared.Stored.{Stored}
-use Rattle.format.specs.declared.Stored.TheVariants as stored
 use Rattle.commit_rules.specs.Rules.{counted_by}
-use Rattle.commit_rules.specs.declared.Ruled.{Ruled}
-use Rattle.commit_rules.specs.declared.Ruled.TheVariants.{Bad, To}
 use Rattle.commit_lay.specs.Laid.{Laid, laid, puts_of, body_of, in_buffer_of}
 use Rattle.commit_steps.specs.declared.Judging.{Judging}
 use Rattle.commit_steps.specs.declared.Laying.{Laying}
 use Rattle.commit_steps.specs.declared.Phase.{Phase}
 use Rattle.commit_steps.specs.declared.Phase.TheVariants.{Refused, Judge, Lay}
 use Rattle.commit_steps.specs.declared.State.{State}
+use Rattle.format.specs.declared.Fetched.{Fetched}
+use Rattle.format.specs.Record.{fetched}
 
 -- a state and the two blocks
 pub record Trio : Type 0 where
@@ -73,9 +65,9 @@ unfoldable pub started_of : Rules → Bool → List ℕ → LfsMdir → ℕ → 
 started_of r second b m s =
     cond (not (Regular r (log b))) (refused_state Irregular) (state second (Judge (judging_from m s)))
 
-abbrev pub fetched_by : Rules → Fetched → ℕ → List ℕ → List ℕ → State
-fetched_by r (fetched.Refused q) n0 b0 b1 = refused_state q
-fetched_by r (fetched.Found m s) n0 b0 b1 = started_of r (is_second n0 m) (block_at (is_second n0 m) b0 b1) m s
+abbrev pub fetched_by : Rules → Result Fetched Refusal → ℕ → List ℕ → List ℕ → State
+fetched_by r (Err q) n0 b0 b1 = refused_state q
+fetched_by r (Ok f) n0 b0 b1 = started_of r (is_second n0 f.dir) (block_at (is_second n0 f.dir) b0 b1) f.dir f.seed
 
 unfoldable pub begun_of : Geometry → List ℕ → List ℕ → ℕ → ℕ → ℕ → ℕ → ℕ → ℕ → ℕ → List ℕ → State
 begun_of g b0 b1 n0 n1 count seed rules e entries dat =
@@ -95,9 +87,9 @@ summed_of j count t body =
       sum = crc j.sum (to_be32 (xor t j.prev) ++ body);
     }
 
-abbrev pub judged_as : Ruled → Bool → Judging → ℕ → List ℕ → Phase
-judged_as Bad inside j t body = Refused (BadEntry j.index)
-judged_as (To count) inside j t body = cond inside (Judge (summed_of j count t body)) (Refused (BadEntry j.index))
+abbrev pub judged_as : Option ℕ → Bool → Judging → ℕ → List ℕ → Phase
+judged_as None inside j t body = Refused (BadEntry j.index)
+judged_as (Some count) inside j t body = cond inside (Judge (summed_of j count t body)) (Refused (BadEntry j.index))
 
 unfoldable pub judged_of : Judging → List ℕ → ℕ → ℕ → ℕ → ℕ → Phase
 judged_of j dat kind id off len =
@@ -156,9 +148,9 @@ laying_from j f word stores =
     }
 
 -- the room refuses, or the tests go on
-abbrev pub room_then_laid : Room → Phase → Phase
-room_then_laid (room.Refused r) p = Refused r
-room_then_laid room.Clean p = p
+abbrev pub room_then_laid : Result Unit Refusal → Phase → Phase
+room_then_laid (Err r) p = Refused r
+room_then_laid (Ok x) p = p
 
 -- j is behind all entries, the forward check f included
 unfoldable pub tested_of : ℕ → Judging → LfsFcrc → ℕ → List ℕ → ℕ → Phase
@@ -200,18 +192,18 @@ sealed_of st b0 b1 = sealed_by st.phase st.second b0 b1
 
 -- ---- the answers
 -- `on`: what is fetched again, from a seed and a record
-abbrev pub answered_by : Phase → (ℕ → LfsMdir → Fetched) → Committed
-answered_by (Refused r) on = committed.Refused r
-answered_by (Judge j) on = committed.Refused Invalid
-answered_by (Lay l) on = committed_as (on l.old.seed l.old.dir)
+abbrev pub answered_by : Phase → (ℕ → LfsMdir → Result Fetched Refusal) → Result Fetched Refusal
+answered_by (Refused r) on = Err r
+answered_by (Judge j) on = Err Invalid
+answered_by (Lay l) on = on l.old.seed l.old.dir
 
-unfoldable pub answered_of : State → (ℕ → LfsMdir → Fetched) → Committed
+unfoldable pub answered_of : State → (ℕ → LfsMdir → Result Fetched Refusal) → Result Fetched Refusal
 answered_of st on = answered_by st.phase on
 
-abbrev pub made_by : Phase → ℕ → Stored
-made_by (Refused r) n = stored.Refused r
-made_by (Judge j) n = stored.Refused Invalid
-made_by (Lay l) n = stored.Made (n - l.run.left)
+abbrev pub made_by : Phase → ℕ → Result ℕ Refusal
+made_by (Refused r) n = Err r
+made_by (Judge j) n = Err Invalid
+made_by (Lay l) n = Ok (n - l.run.left)
 
-unfoldable pub made_of : State → ℕ → Stored
+unfoldable pub made_of : State → ℕ → Result ℕ Refusal
 made_of st n = made_by st.phase n

@@ -15,10 +15,9 @@ ghost use Rattle.format.specs.Regular.{rules_of};
 ghost use Rattle.format.specs.Writer.{unlimited};
 
 use commit_lay::Run;
-use commit_rules::Ruled;
 use fetch::{lfs_dir_fetch, lfs_dir_refetch};
 use format::types::{CRC_START, UNLIMITED};
-use format::{Committed, Fetched, Geometry, LfsFcrc, LfsMdir, Refusal, Room, Stored};
+use format::{Fetched, Geometry, LfsFcrc, LfsMdir, Refusal};
 
 // "Lookup buffer and entry data at most 65,536 bytes each; at most 8,192 entries"
 const MOST_DATA: usize = 65_536;
@@ -97,7 +96,7 @@ pub fn begin(
         return refused(Refusal::Invalid);
     }
     match lfs_dir_fetch(g, b0, b1, n0, n1, block_count, seed) {
-        Fetched::Refused(r) => refused(r),
+        Err(r) => refused(r),
         Fetched::Found(m, s) => {
             if m.pair.n0 == n0 {
                 start(b0, false, m, s, rules)
@@ -181,8 +180,8 @@ fn judge_entry(j: Judging, dat: &[u8], kind: u16, id: u16, off: u32, len: u32) -
     ensures { result ≡ judged_of j dat.now kind id off len }
 {
     match commit_rules::counted(false, kind, j.count, id as u32, len) {
-        Ruled::Bad => Phase::Refused(Refusal::BadEntry(j.index)),
-        Ruled::To(count) => {
+        None => Phase::Refused(Refusal::BadEntry(j.index)),
+        Some(count) => {
             if !commit_lay::in_buffer(dat, off, len) {
                 return Phase::Refused(Refusal::BadEntry(j.index));
             }
@@ -299,8 +298,8 @@ fn test(erased: u8, j: Judging, fcrc: LfsFcrc, prog: u32, b: &[u8], stores: u32)
         return Phase::Refused(Refusal::NoSpace);
     }
     match commit_room::room(erased, prog, b, off, old.dir.etag) {
-        Room::Refused(r) => Phase::Refused(r),
-        Room::Clean => {
+        Err(r) => Phase::Refused(r),
+        Ok(()) => {
             let word = commit_room::check_tag(erased, prog, at) ^ j.prev;
             if commit_room::coincides(erased, j.sum, word) {
                 return Phase::Refused(Refusal::Coincidence);
@@ -387,19 +386,19 @@ pub fn answer(
     n0: u32,
     n1: u32,
     block_count: u32,
-) -> Committed
+) -> Result<Fetched, Refusal>
     ensures { result ≡ answered_of st (refetch_of g b0.now b1.now n0 n1 block_count) }
 {
     let phase = st.phase;
     match phase {
-        Phase::Refused(r) => Committed::Refused(r),
+        Phase::Refused(r) => Err(r),
         // never: `decide` leaves no state that judges, and neither `step` nor `seal` makes one that does not
-        Phase::Judge(_) => Committed::Refused(Refusal::Invalid),
+        Phase::Judge(_) => Err(Refusal::Invalid),
         Phase::Lay(l) => {
             let old = l.old;
             match lfs_dir_refetch(g, b0, b1, n0, n1, block_count, old.seed, old.dir) {
-                Fetched::Found(m, s) => Committed::Done(m, s),
-                Fetched::Refused(r) => Committed::Refused(r),
+                Fetched::Found(m, s) => Ok(Fetched { dir: m, seed: s }),
+                Err(r) => Err(r),
             }
         }
     }
@@ -413,20 +412,20 @@ pub fn unlimited() -> u32
 }
 
 // "the number made is the answer": what is left of the limit was not made.
-pub fn made(st: State, stores: u32) -> Stored
+pub fn made(st: State, stores: u32) -> Result<u32, Refusal>
     ensures { result ≡ made_of st stores }
 {
     let phase = st.phase;
     match phase {
-        Phase::Refused(r) => Stored::Refused(r),
+        Phase::Refused(r) => Err(r),
         // never, as in `answer`
-        Phase::Judge(_) => Stored::Refused(Refusal::Invalid),
+        Phase::Judge(_) => Err(Refusal::Invalid),
         Phase::Lay(l) => {
             let left = l.run.left;
             if stores < left {
-                return Stored::Made(0);
+                return Ok(0);
             }
-            Stored::Made(stores - left)
+            Ok(stores - left)
         }
     }
 }

@@ -16,7 +16,7 @@ use Rattle.format.specs.Regular.{Regular, rules_of}
 use Rattle.format.specs.declared.Rules.{Rules}
 use Rattle.format.specs.Commit.{check_tag}
 use Rattle.format.specs.Stores.{coincides}
-use Rattle.format.specs.Writer.{rounded_end, check_size, writes_fit, block_at, is_second, unlimited, committed_as}
+use Rattle.format.specs.Writer.{rounded_end, check_size, writes_fit, block_at, is_second, unlimited}
 use Rattle.format.specs.Compaction.{compact_check_at, CompactVerdict, compact_refused, compact_accepted}
 use Rattle.format.specs.Compaction.{placed_anew, compactable, compact_verdict, compact_images_after, compact_answer}
 use Rattle.format.specs.Compaction.{compact_made, compact_images, compact_of, compact_stores_of}
@@ -26,15 +26,12 @@ use Rattle.format.specs.declared.Geometry.{Geometry}
 use Rattle.format.specs.declared.LfsMdir.{LfsMdir}
 use Rattle.format.specs.declared.Refusal.{Refusal}
 use Rattle.format.specs.declared.Refusal.TheVariants.{Invalid, Irregular, NoSpace, Coincidence}
-use Rattle.format.specs.declared.Fetched.{Fetched}
-use Rattle.format.specs.declared.Fetched.TheVariants as fetched
-use Rattle.format.specs.declared.Committed.{Committed}
-use Rattle.format.specs.declared.Committed.TheVariants as committed
-use Rattle.format.specs.declared.Stored.{Stored}
-use Rattle.format.specs.declared.Stored.TheVariants as stored
 use Rattle.theory.specs.Fetch.FoundBlock.{Sized, found_sized, found_reads}
 use Rattle.theory.proofs.Stopped.Compaction.{stopped_compaction}
 use Rattle.compact_block.specs.Renewed.{renewed_items, Renewable, renewed_to}
+use Rattle.std.specs.Prelude.{Err, Ok, Result}
+use Rattle.format.specs.declared.Fetched.{Fetched}
+use Rattle.format.specs.Record.{fetched}
 
 -- ---- a verdict with the place of the block that answers
 abbrev placed_at : Bool → CompactVerdict → CompactVerdict
@@ -66,23 +63,23 @@ placed_at_lem r e prog w x =
     go false false false = refl
 
 -- ---- what the call with a limit answers and leaves
-abbrev pub Leaves : ℕ → ℕ → List ℕ → List ℕ → CompactVerdict → Stored → List ℕ → List ℕ → Type 0
+abbrev pub Leaves : ℕ → ℕ → List ℕ → List ℕ → CompactVerdict → Result ℕ Refusal → List ℕ → List ℕ → Type 0
 Leaves e n b0 b1 v r c0 c1 = (r ≡ compact_made n v) × ((c0 ≡ (compact_images_after e n b0 b1 v).b0)
     × (c1 ≡ (compact_images_after e n b0 b1 v).b1))
 
-first_leaves : (e n : ℕ) (b0 b1 : List ℕ) (v : CompactVerdict) (r : Stored) (c : List ℕ) → r ≡ compact_made n v
+first_leaves : (e n : ℕ) (b0 b1 : List ℕ) (v : CompactVerdict) (r : Result ℕ Refusal) (c : List ℕ) → r ≡ compact_made n v
     → c ≡ renewed_to e n b1 v → Leaves e n b0 b1 (placed_at false v) r b0 c
 first_leaves e n b0 b1 (compact_refused x) r c er ec = (er, (refl, ec))
 first_leaves e n b0 b1 (compact_accepted w rev is size) r c er ec = (er, (refl, ec))
 
-second_leaves : (e n : ℕ) (b0 b1 : List ℕ) (v : CompactVerdict) (r : Stored) (c : List ℕ) → r ≡ compact_made n v
+second_leaves : (e n : ℕ) (b0 b1 : List ℕ) (v : CompactVerdict) (r : Result ℕ Refusal) (c : List ℕ) → r ≡ compact_made n v
     → c ≡ renewed_to e n b0 v → Leaves e n b0 b1 (placed_at true v) r c b1
 second_leaves e n b0 b1 (compact_refused x) r c er ec = (er, (ec, refl))
 second_leaves e n b0 b1 (compact_accepted w rev is size) r c er ec = (er, (ec, refl))
 
 module _ (g : Geometry) (b0 b1 : List ℕ) (n0 n1 count seed rules e : ℕ) where
   -- the contract of the call with a limit of n stores, without demand 3: `left` is what it leaves in the table
-  abbrev pub Called : ℕ → Stored → List ℕ → List ℕ → List ℕ → List ℕ → Type 0
+  abbrev pub Called : ℕ → Result ℕ Refusal → List ℕ → List ℕ → List ℕ → List ℕ → Type 0
   Called n r c0 c1 table left =
       (r ≡ compact_stores_of g b0 b1 n0 n1 count seed rules e n)
       × ((c0 ≡ (compact_images g b0 b1 n0 n1 count seed rules e n).b0)
@@ -90,7 +87,7 @@ module _ (g : Geometry) (b0 b1 : List ℕ) (n0 n1 count seed rules e : ℕ) wher
       × (left ≡ compact_table g b0 b1 n0 n1 count seed rules e table)))
 
   -- with demand 3, which a call keeps whatever it leaves
-  pub kept : (n : ℕ) (r : Stored) (c0 c1 table left : List ℕ) → Bytes b0 → Bytes b1 → Called n r c0 c1 table left
+  pub kept : (n : ℕ) (r : Result ℕ Refusal) (c0 c1 table left : List ℕ) → Bytes b0 → Bytes b1 → Called n r c0 c1 table left
       → (r ≡ compact_stores_of g b0 b1 n0 n1 count seed rules e n)
       × (CompactStoresLeaves g b0 b1 n0 n1 count seed rules e n c0 c1
       × (left ≡ compact_table g b0 b1 n0 n1 count seed rules e table))
@@ -99,7 +96,7 @@ module _ (g : Geometry) (b0 b1 : List ℕ) (n0 n1 count seed rules e : ℕ) wher
       let e1 = h.1.1.0 in
       (h.0, ((e0, e1, rw (e0, e1) (stopped_compaction g b0 b1 n0 n1 count seed rules e n y0 y1)), h.1.1.1))
 
-  leaves : (n : ℕ) (v : CompactVerdict) → compact_verdict g b0 b1 n0 n1 count seed rules e ≡ v → (r : Stored)
+  leaves : (n : ℕ) (v : CompactVerdict) → compact_verdict g b0 b1 n0 n1 count seed rules e ≡ v → (r : Result ℕ Refusal)
       (c0 c1 : List ℕ) → Leaves e n b0 b1 v r c0 c1 → (table left : List ℕ)
       → left ≡ compact_table g b0 b1 n0 n1 count seed rules e table → Called n r c0 c1 table left
   unfolding compact_stores_of compact_images
@@ -107,19 +104,19 @@ module _ (g : Geometry) (b0 b1 : List ℕ) (n0 n1 count seed rules e : ℕ) wher
 
   -- t is what `writes_fit` answers
   module _ (t : Bool) (et : t ≡ writes_fit rules e) where
-    pub called_invalid : (n : ℕ) (table : List ℕ) → not t ≡ true → Called n (stored.Refused Invalid) b0 b1 table table
+    pub called_invalid : (n : ℕ) (table : List ℕ) → not t ≡ true → Called n (Err Invalid) b0 b1 table table
     unfolding compact_verdict compact_table
-    called_invalid n table h = leaves n (compact_refused Invalid) (rw (← et, h)) (stored.Refused Invalid) b0 b1
+    called_invalid n table h = leaves n (compact_refused Invalid) (rw (← et, h)) (Err Invalid) b0 b1
         (refl, (refl, refl)) table table (rw (← et, h))
 
     module _ (k : not t ≡ false) where
       pub called_refused : (n : ℕ) (table : List ℕ) (r : Refusal)
-          → fetched.Refused r ≡ fetch_of g b0 b1 n0 n1 count seed → Called n (stored.Refused r) b0 b1 table table
+          → Err r ≡ fetch_of g b0 b1 n0 n1 count seed → Called n (Err r) b0 b1 table table
       unfolding compact_verdict compact_table
-      called_refused n table r f = leaves n (compact_refused r) (rw (← et, k, ← f)) (stored.Refused r) b0 b1
+      called_refused n table r f = leaves n (compact_refused r) (rw (← et, k, ← f)) (Err r) b0 b1
           (refl, (refl, refl)) table table (rw (← et, k, ← f))
 
-      module _ (m : LfsMdir) (s : ℕ) (f : fetched.Found m s ≡ fetch_of g b0 b1 n0 n1 count seed) where
+      module _ (m : LfsMdir) (s : ℕ) (f : Ok (fetched m s) ≡ fetch_of g b0 b1 n0 n1 count seed) where
         verdict_of_lem : (w : Bool) → is_second n0 m ≡ w → compact_verdict g b0 b1 n0 n1 count seed rules e
             ≡ placed_at w (compactable (rules_of rules) e g.prog_size false (block_at w b0 b1)
             (log (block_at w b0 b1)))
@@ -169,7 +166,7 @@ module _ (g : Geometry) (b0 b1 : List ℕ) (n0 n1 count seed rules e : ℕ) wher
           pub renews_first : Renewable g.prog_size b0 b1 m
           renews_first = renewable false place_first
 
-          pub called_first : (n : ℕ) (r : Stored) (c : List ℕ)
+          pub called_first : (n : ℕ) (r : Result ℕ Refusal) (c : List ℕ)
               → r ≡ compact_made n (compactable (rules_of rules) e g.prog_size false b0 (log b0))
               → c ≡ renewed_to e n b1 (compactable (rules_of rules) e g.prog_size false b0 (log b0))
               → (table left : List ℕ) → left ≡ table_renewed (rules_of rules) (log b0) table
@@ -186,7 +183,7 @@ module _ (g : Geometry) (b0 b1 : List ℕ) (n0 n1 count seed rules e : ℕ) wher
           pub renews_second : Renewable g.prog_size b1 b0 m
           renews_second = renewable true place_second
 
-          pub called_second : (n : ℕ) (r : Stored) (c : List ℕ)
+          pub called_second : (n : ℕ) (r : Result ℕ Refusal) (c : List ℕ)
               → r ≡ compact_made n (compactable (rules_of rules) e g.prog_size false b1 (log b1))
               → c ≡ renewed_to e n b0 (compactable (rules_of rules) e g.prog_size false b1 (log b1))
               → (table left : List ℕ) → left ≡ table_renewed (rules_of rules) (log b1) table
@@ -196,7 +193,7 @@ module _ (g : Geometry) (b0 b1 : List ℕ) (n0 n1 count seed rules e : ℕ) wher
               table left (et' ∙ table_of true place_second table)
 
   -- ---- the call with no limit: c0, c1 and `left` are what the other leaves
-  abbrev pub Answered : Committed → List ℕ → List ℕ → List ℕ → List ℕ → Type 0
+  abbrev pub Answered : Result Fetched Refusal → List ℕ → List ℕ → List ℕ → List ℕ → Type 0
   Answered r c0 c1 table left = (r ≡ compact_of g b0 b1 n0 n1 count seed rules e)
       × (CompactLeaves g b0 b1 n0 n1 count seed rules e c0 c1
       × (left ≡ compact_table g b0 b1 n0 n1 count seed rules e table))
@@ -214,26 +211,26 @@ module _ (g : Geometry) (b0 b1 : List ℕ) (n0 n1 count seed rules e : ℕ) wher
         × (left ≡ compact_table g b0 b1 n0 n1 count seed rules e table)
     all_left = ((e0, e1, λ n. stopped_compaction g b0 b1 n0 n1 count seed rules e n y0 y1), l.1)
 
-    pub answered_refused : (r : Refusal) → stored.Refused r ≡ compact_stores_of g b0 b1 n0 n1 count seed rules e unlimited
-        → Answered (committed.Refused r) c0 c1 table left
+    pub answered_refused : (r : Refusal) → Err r ≡ compact_stores_of g b0 b1 n0 n1 count seed rules e unlimited
+        → Answered (Err r) c0 c1 table left
     unfolding compact_of compact_stores_of
     answered_refused r h = (go (compact_verdict g b0 b1 n0 n1 count seed rules e) h, all_left)
       where
-        go : (v : CompactVerdict) → stored.Refused r ≡ compact_made unlimited v
-            → committed.Refused r ≡ compact_answer (fetch_of g (compact_images g b0 b1 n0 n1 count seed rules e unlimited
+        go : (v : CompactVerdict) → Err r ≡ compact_made unlimited v
+            → Err r ≡ compact_answer (fetch_of g (compact_images g b0 b1 n0 n1 count seed rules e unlimited
             ).b0 (compact_images g b0 b1 n0 n1 count seed rules e unlimited).b1 n0 n1 count seed) v
-        go (compact_refused x) k = let q : r ≡ x = cc in ap committed.Refused q
+        go (compact_refused x) k = let q : r ≡ x = cc in ap Err q
         go (compact_accepted w rev is size) k = cc
 
-    pub answered_made : (k : ℕ) → stored.Made k ≡ compact_stores_of g b0 b1 n0 n1 count seed rules e unlimited
-        → (f : Fetched)
+    pub answered_made : (k : ℕ) → Ok k ≡ compact_stores_of g b0 b1 n0 n1 count seed rules e unlimited
+        → (f : Result Fetched Refusal)
         → f ≡ fetch_of g c0 c1 n0 n1 count seed
-        → Answered (committed_as f) c0 c1 table left
+        → Answered f c0 c1 table left
     unfolding compact_of compact_stores_of
     answered_made k h f ef = (go (compact_verdict g b0 b1 n0 n1 count seed rules e) h, all_left)
       where
-        go : (v : CompactVerdict) → stored.Made k ≡ compact_made unlimited v
-            → committed_as f ≡ compact_answer (fetch_of g (compact_images g b0 b1 n0 n1 count seed rules e unlimited).b0
+        go : (v : CompactVerdict) → Ok k ≡ compact_made unlimited v
+            → f ≡ compact_answer (fetch_of g (compact_images g b0 b1 n0 n1 count seed rules e unlimited).b0
             (compact_images g b0 b1 n0 n1 count seed rules e unlimited).b1 n0 n1 count seed) v
         go (compact_refused x) k = cc
-        go (compact_accepted w rev is size) k = ap committed_as ef ∙ rw (e0, e1)
+        go (compact_accepted w rev is size) k = ef ∙ rw (e0, e1)

@@ -11,7 +11,7 @@ ghost use Rattle.format.specs.Index.{compact_table};
 ghost use Rattle.format.specs.Stopped.{CompactLeaves, CompactStoresLeaves};
 
 use format::types::UNLIMITED;
-use format::{Committed, Fetched, Geometry, Refusal, Stored};
+use format::{Fetched, Geometry, Refusal};
 
 // What all three calls do, with a limit of stores and a table. Inlined, so that it shares their frame on the stack.
 #[inline(always)]
@@ -27,7 +27,7 @@ fn run(
     erased: u8,
     stores: u32,
     table: &mut [u32],
-) -> Stored
+) -> Result<u32, Refusal>
     ensures value { result ≡ compact_stores_of g b0.old b1.old n0 n1 block_count seed rules erased
         stores }
     ensures compact_stores_leaves { CompactStoresLeaves g b0.old b1.old n0 n1 block_count seed rules erased
@@ -36,10 +36,10 @@ fn run(
         rules erased table.old }
 {
     if !sizes::writes_fit(rules, erased) {
-        return Stored::Refused(Refusal::Invalid);
+        return Err(Refusal::Invalid);
     }
     match fetch::lfs_dir_fetch(g, b0, b1, n0, n1, block_count, seed) {
-        Fetched::Refused(r) => Stored::Refused(r),
+        Err(r) => Err(r),
         Fetched::Found(dir, _) => {
             let pair = dir.pair;
             if pair.n0 == n0 {
@@ -65,7 +65,7 @@ pub fn lfs_dir_compact_stores(
     rules: u32,
     erased: u8,
     stores: u32,
-) -> Stored
+) -> Result<u32, Refusal>
     ensures value { result ≡ compact_stores_of g b0.old b1.old n0 n1 block_count seed rules erased
         stores }
     ensures compact_stores_leaves { CompactStoresLeaves g b0.old b1.old n0 n1 block_count seed rules erased
@@ -104,7 +104,7 @@ pub fn lfs_dir_compact_with(
     rules: u32,
     erased: u8,
     table: &mut [u32],
-) -> Committed
+) -> Result<Fetched, Refusal>
     ensures value { result ≡ compact_of g b0.old b1.old n0 n1 block_count seed rules erased }
     ensures compact_leaves { CompactLeaves g b0.old b1.old n0 n1 block_count seed rules erased
         b0.new b1.new }
@@ -124,10 +124,10 @@ pub fn lfs_dir_compact_with(
         UNLIMITED,
         table,
     ) {
-        Stored::Refused(r) => Committed::Refused(r),
-        Stored::Made(_) => match fetch::lfs_dir_fetch(g, b0, b1, n0, n1, block_count, seed) {
-            Fetched::Found(dir, read) => Committed::Done(dir, read),
-            Fetched::Refused(r) => Committed::Refused(r),
+        Err(r) => Err(r),
+        Ok(_) => match fetch::lfs_dir_fetch(g, b0, b1, n0, n1, block_count, seed) {
+            Fetched::Found(dir, read) => Ok(Fetched { dir: dir, seed: read }),
+            Err(r) => Err(r),
         },
     }
 }
@@ -143,7 +143,7 @@ pub fn lfs_dir_compact(
     seed: u32,
     rules: u32,
     erased: u8,
-) -> Committed
+) -> Result<Fetched, Refusal>
     ensures value { result ≡ compact_of g b0.old b1.old n0 n1 block_count seed rules erased }
     ensures compact_leaves { CompactLeaves g b0.old b1.old n0 n1 block_count seed rules erased
         b0.new b1.new }

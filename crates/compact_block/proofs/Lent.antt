@@ -10,14 +10,12 @@ use Rattle.format.specs.Compaction.{CompactVerdict, compactable, compact_made}
 use Rattle.format.specs.Index.{places_of, indexed_as, table_as, built, table_renewed}
 use Rattle.format.specs.declared.LfsMdir.{LfsMdir}
 use Rattle.format.specs.declared.Refusal.TheVariants.{Irregular}
-use Rattle.format.specs.declared.Stored.{Stored}
-use Rattle.format.specs.declared.Stored.TheVariants as stored
-use Rattle.format.specs.declared.Indexed.{Indexed}
-use Rattle.format.specs.declared.Indexed.TheVariants as indexed
 use Rattle.format.proofs.Growing.{widest}
 use Rattle.index_theory.proofs.Extended.{built_front}
 use Rattle.index_pass.specs.Run.{Buildable}
 use Rattle.compact_block.specs.Renewed.{Recorded, renewed_to, anew}
+use Rattle.std.specs.Prelude.{Err, Ok, Result}
+use Rattle.format.specs.declared.Refusal.{Refusal}
 
 -- what is lent of the table t: its first `used` words, which are the log's places if y says so
 pub record Lends (old t : List ℕ) (used : ℕ) (y : Bool) : Type 0 where
@@ -35,17 +33,17 @@ module _ (old : List ℕ) (rules : ℕ) (r : Rules) (asked : r ≡ rules_of rule
     abbrev v : CompactVerdict
     v = compactable (rules_of rules) byte prog false old (log old)
 
-    abbrev pub Renewed : Stored → List ℕ → List ℕ → Type 0
+    abbrev pub Renewed : Result ℕ Refusal → List ℕ → List ℕ → Type 0
     Renewed s b t = (s ≡ compact_made n v) × ((b ≡ renewed_to byte n new v)
         × (t ≡ table_renewed (rules_of rules) (log old) table))
 
-    pub renew_irregular : not x ≡ true → Renewed (stored.Refused Irregular) new table
+    pub renew_irregular : not x ≡ true → Renewed (Err Irregular) new table
     unfolding compactable
     renew_irregular h = rw (ruled false (not-true x h)) (refl, (refl, refl))
 
     -- t is the table behind the build, s and b are what `rewrite` answers and leaves
     pub renew_done : not x ≡ false → (t : List ℕ) → t ≡ table_as (length table) (built (length table) (log old))
-        → (s : Stored) (b : List ℕ) → s ≡ compact_made n (anew byte prog old)
+        → (s : Result ℕ Refusal) (b : List ℕ) → s ≡ compact_made n (anew byte prog old)
         → b ≡ renewed_to byte n new (anew byte prog old) → Renewed s b t
     unfolding compactable
     renew_done h t et s b es eb = rw (ruled true (not-false x h)) (es, (eb, et))
@@ -63,16 +61,16 @@ module _ (old : List ℕ) (rules : ℕ) (r : Rules) (asked : r ≡ rules_of rule
     }
 
     -- the build answered q in n words and left t
-    module _ (n : ℕ) (q : Indexed) (eq : q ≡ indexed_as (built n (log old))) (t : List ℕ)
+    module _ (n : ℕ) (q : Result ℕ Refusal) (eq : q ≡ indexed_as (built n (log old))) (t : List ℕ)
         (et : t ≡ table_as n (built n (log old))) (long : length t ≡ n) where
-      front : (k : ℕ) → q ≡ indexed.Places k
+      front : (k : ℕ) → q ≡ Ok k
           → (2 * k ≤ n) × (take (2 * k) (table_as n (built n (log old))) ≡ places_of (log old))
       front k is = built_front n old renew_regular k (sym is ∙ eq)
 
-      pub places_few : (k : ℕ) → q ≡ indexed.Places k → 2 * k ≤ n
+      pub places_few : (k : ℕ) → q ≡ Ok k → 2 * k ≤ n
       places_few k is = (front k is).0
 
-      pub lends_places : (k : ℕ) → q ≡ indexed.Places k → (used : ℕ) → used ≡ 2 * k → (y : Bool) → Lends old t used y
+      pub lends_places : (k : ℕ) → q ≡ Ok k → (used : ℕ) → used ≡ 2 * k → (y : Bool) → Lends old t used y
       lends_places k is used eu y =
           let e : used - 0 ≡ 2 * k = omega arith in
           record { inside = omega (arith, (front k is).0); are = λ h. rw (e, et) (front k is).1 }

@@ -13,8 +13,6 @@ use Rattle.format.specs.Compaction.{compact_check_at, compact_stores, CompactVer
 use Rattle.format.specs.Compaction.{compact_accepted, placed_anew, compact_made}
 use Rattle.format.specs.declared.LfsMdir.{LfsMdir}
 use Rattle.format.specs.declared.Refusal.{Refusal}
-use Rattle.format.specs.declared.Stored.{Stored}
-use Rattle.format.specs.declared.Stored.TheVariants as stored
 use Rattle.format.specs.declared.Refusal.TheVariants.{NoSpace, Coincidence}
 use Rattle.theory.specs.Commit.AcceptedVerdict.{rounded}
 use Rattle.theory.proofs.Compact.AcceptedVerdict.{slots_few}
@@ -26,6 +24,7 @@ use Rattle.compact_entries.specs.declared.Emit.{Emit}
 use Rattle.compact_entries.proofs.Joined.{emits_end, emits_coincides, laid_most}
 use Rattle.compact_block.specs.Renewed.{begins, renewed_items, Renewable, Writable, written_to, renewed_to}
 use Rattle.compact_block.specs.Renewed.{anew}
+use Rattle.std.specs.Prelude.{Err, Ok, Result}
 
 -- ---- with no store left to make nothing is altered
 puts_spent : (bs : List ℕ) (l : Laid) → l.run.left ≡ 0 → puts_of l bs ≡ l
@@ -96,11 +95,11 @@ module _ (byte prog : ℕ) (x : List ℕ) where
 
 -- ---- what `rewrite` answers and leaves, by its tests: e stands behind the entries with the block b, z is the rounded
 -- end, ct the check tag, y whether it coincides
-abbrev pub Answered : ℕ → ℕ → List ℕ → CompactVerdict → Stored → List ℕ → Type 0
+abbrev pub Answered : ℕ → ℕ → List ℕ → CompactVerdict → Result ℕ Refusal → List ℕ → Type 0
 Answered byte n new v r b = (r ≡ compact_made n v) × (b ≡ renewed_to byte n new v)
 
 refuses : (byte n : ℕ) (new b : List ℕ) (v : CompactVerdict) (r : Refusal) → v ≡ compact_refused r → b ≡ new
-    → Answered byte n new v (stored.Refused r) b
+    → Answered byte n new v (Err r) b
 refuses byte n new b v r h e = rw h (refl, e)
 
 module _ (byte prog : ℕ) (old new : List ℕ) (dir : LfsMdir) (n : ℕ) (w : Renewable prog old new dir)
@@ -130,7 +129,7 @@ module _ (byte prog : ℕ) (old new : List ℕ) (dir : LfsMdir) (n : ℕ) (w : R
     rounded_is : z ≡ rounded_end prog (at byte prog old)
     rounded_is = ez ∙ ap (rounded_end prog) end_is
 
-    pub rewrite_full : length old < z → Answered byte n new v (stored.Refused NoSpace) b
+    pub rewrite_full : length old < z → Answered byte n new v (Err NoSpace) b
     rewrite_full h = refuses byte n new b v NoSpace (verdict_full byte prog old (rw (← rounded_is) h)) same
 
     module _ (hz : z ≤ length old) (ct : ℕ) (ect : ct ≡ check_tag byte (check_size prog e.end)) (y : Bool)
@@ -146,7 +145,7 @@ module _ (byte prog : ℕ) (old new : List ℕ) (dir : LfsMdir) (n : ℕ) (w : R
       coincides_is =
           sym (ey ∙ measured_meets byte rev (renewed_items byte prog old) s e es b new ee ct ∙ rw (next_is, tag_is))
 
-      pub rewrite_coincides : y ≡ true → Answered byte n new v (stored.Refused Coincidence) b
+      pub rewrite_coincides : y ≡ true → Answered byte n new v (Err Coincidence) b
       rewrite_coincides h = refuses byte n new b v Coincidence
           (verdict_coincides byte prog old fits (coincides_is ∙ h)) same
 
@@ -161,7 +160,7 @@ module _ (byte prog : ℕ) (old new : List ℕ) (dir : LfsMdir) (n : ℕ) (w : R
           }
 
       pub rewrite_made : y ≡ false → (k : ℕ) → k ≡ min n (compact_stores (renewed_items byte prog old)) → (c : List ℕ)
-          → c ≡ written_to byte prog old b rev ct n → Answered byte n new v (stored.Made k) c
+          → c ≡ written_to byte prog old b rev ct n → Answered byte n new v (Ok k) c
       rewrite_made h k ek c ec =
           rw (verdict_accepted byte prog old fits (coincides_is ∙ h))
-          (ap stored.Made ek, ec ∙ rw (same, next_is, tag_is))
+          (ap Ok ek, ec ∙ rw (same, next_is, tag_is))

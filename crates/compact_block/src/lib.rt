@@ -19,7 +19,7 @@ ghost use Rattle.compact_block.specs.Renewed.{anew};
 use commit_lay::Run;
 use compact_entries::Emit;
 use format::types::{CRC_START, FIRST_PREV};
-use format::{Indexed, LfsMdir, Refusal, Stored};
+use format::{LfsMdir, Refusal};
 
 // "erases the block ..", to the erased byte: one store.
 fn erase(b: &mut [u8], byte: u8)
@@ -97,7 +97,7 @@ fn rewrite(
     stores: u32,
     places: &[u32],
     indexed: bool,
-) -> Stored
+) -> Result<u32, Refusal>
     requires { Renewable prog old.now new.old dir × (Regular Littlefs (log old.now) ≡ true)
         × Indexes old.now places.now indexed }
     ensures value { result ≡ compact_made stores (anew erased prog old.now) }
@@ -108,13 +108,13 @@ fn rewrite(
     let begun = begin(rev, Run { at: 0, left: 0 });
     let e = compact_entries::entries(erased, prog, old, new, begun, dir, places, indexed);
     if old.len() < commit_room::rounded_end(prog, e.end) {
-        return Stored::Refused(Refusal::NoSpace);
+        return Err(Refusal::NoSpace);
     }
     let tag = commit_room::check_tag(erased, prog, e.end);
     if commit_room::coincides(erased, e.sum, tag ^ e.prev) {
-        return Stored::Refused(Refusal::Coincidence);
+        return Err(Refusal::Coincidence);
     }
-    Stored::Made(write(
+    Ok(write(
         erased, prog, old, new, dir, rev, tag, stores, places, indexed,
     ))
 }
@@ -131,7 +131,7 @@ pub fn renew(
     dir: LfsMdir,
     stores: u32,
     table: &mut [u32],
-) -> Stored
+) -> Result<u32, Refusal>
     requires { Renewable prog old.now new.old dir }
     ensures value { result ≡ compact_made stores
         (compactable (rules_of rules) erased prog false old.now (log old.now)) }
@@ -141,12 +141,12 @@ pub fn renew(
 {
     let end = dir.off as usize;
     if !commit_regular::log_regular(old, end, commit_regular::rules_of(rules)) {
-        return Stored::Refused(Refusal::Irregular);
+        return Err(Refusal::Irregular);
     }
     let mut used = 0;
     let mut indexed = false;
     let built = index_pass::build(old, end, table);
-    if let Indexed::Places(n) = built {
+    if let Ok(n) = built {
         used = 2 * n;
         indexed = true;
     }

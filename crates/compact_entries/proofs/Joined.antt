@@ -1,7 +1,6 @@
 -- Entries join: one after the other, and as the bytes of one commit. Assumes nothing.
 use mathlib.Core.Path.{◌≡◌, refl, sym, ap, ◌∙◌}
 use mathlib.Core.Bool.{Bool, true, false, cond}
-use mathlib.Core.Option.{Option, none, some}
 use mathlib.Core.List.{List, [], ◌∷◌, ◌++◌, append_assoc}
 use Prim.Native.Nat.{ℕ, zero, suc, ◌+◌, ◌*◌, ◌≤◌}
 use native.Mathlib.Nat.{add-zero, add_assoc}
@@ -25,6 +24,7 @@ use Rattle.theory.specs.Commit.ForwardCheck.{length_app, forward_long}
 use Rattle.commit_lay.specs.Laid.{puts_of}
 use Rattle.commit_lay.proofs.Puts.{puts_app, puts_length}
 use Rattle.compact_entries.specs.Emitted.{Standing, item_bytes, emitted, emits, create_item}
+use Rattle.std.specs.Prelude.{None, Option, Some}
 
 pub emits_app : (is js : List Item) (s : Standing) → emits s (is ++ js) ≡ emits (emits s is) js
 unfolding emits
@@ -49,8 +49,8 @@ length_most t = go (tag_delete t) refl
 
 pub class_most : (id : ℕ) (v : Option Load) → entries_length (class_items id v) ≤ 1_026
 unfolding entries_length
-class_most id none = omega arith
-class_most id (some v) = omega (arith, length_most (tag_of v.type id (length v.bytes)))
+class_most id None = omega arith
+class_most id (Some v) = omega (arith, length_most (tag_of v.type id (length v.bytes)))
 
 pub slot_most : (n c id : ℕ) (s : Slot) → entries_length (slot_items n c id s) ≤ n * 1_026
 unfolding entries_length slot_items
@@ -111,13 +111,13 @@ pub items_most : (es : List Event) → length (dir_of es) ≤ 1_023 → entries_
 unfolding compaction_items
 items_most es few =
     let I : List Item = tail_items (split_of false es) (tail_of no_tail es) in
-    let M : List Item = move_items (move_of none es) in
+    let M : List Item = move_items (move_of None es) in
     rw (length_app (dir_items 0 (dir_of es)) (I ++ M), length_app I M)
     (omega (
       arith,
       dir_most (dir_of es) 0,
       tail_most (split_of false es) (tail_of no_tail es),
-      class_most no_slot (move_of none es),
+      class_most no_slot (move_of None es),
     ))
 
 -- and the forward check, or none, behind them

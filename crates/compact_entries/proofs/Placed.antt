@@ -13,7 +13,6 @@ use Rattle.format.specs.Log.{log}
 use Rattle.format.specs.Directory.{classes, Slot, empty, dir_of, apply_all}
 use Rattle.format.specs.Commit.{Item}
 use Rattle.format.specs.Look.{HitIn}
-use Rattle.format.specs.declared.Hit.TheVariants as hit
 use Rattle.format.specs.Compaction.{slot_items, dir_items}
 use Rattle.format.specs.Index.{placed_from, slot_places, dir_places}
 use Rattle.theory.specs.Directory.Machine.{most_slots}
@@ -26,6 +25,7 @@ use Rattle.compact_entries.specs.Placed.{SlotPlaced, Placed, Indexes}
 use Rattle.compact_entries.specs.declared.Emit.{Emit}
 use Rattle.compact_entries.proofs.Joined.{emits_end, entry_within, slot_most, slot_within}
 use Rattle.compact_entries.proofs.Written.{slot_created, dir_slot, dir_done}
+use Rattle.std.specs.Prelude.{Some}
 
 -- ---- a slot: what its loop keeps, with s behind the create and a before the word `at`
 pub record Placing (b : List ℕ) (id : ℕ) (places : List ℕ) (from : ℕ) (s a : Standing) (at : ℕ) : Type 0 where
@@ -95,11 +95,11 @@ module _ (b : List ℕ) (e : Emit) (id : ℕ) (places : List ℕ) (from : ℕ) (
           both : PlacesIn (length b) (t ∷ off ∷ own (at + 2))
           both = rw own_here at k.inside
 
-          pub place_inside : HitIn (length b) (hit.Found (record { tag = t; length = n; off = off }))
+          pub place_inside : HitIn (length b) (Some (record { tag = t; length = n; off = off }))
           place_inside = rw en both.0
 
           pub place_next : (r : Standing)
-              → r ≡ emits a (hit_items b (hit.Found (record { tag = t; length = n; off = off })))
+              → r ≡ emits a (hit_items b (Some (record { tag = t; length = n; off = off })))
               → Placing b id places from s r (at + 2)
           unfolding emits place_items
           place_next r er = record {

@@ -2,7 +2,6 @@
 -- Assumes nothing.
 use mathlib.Core.Path.{◌≡◌, refl, sym, ap, ap₂, ◌∙◌}
 use mathlib.Core.Bool.{Bool, false}
-use mathlib.Core.Option.{Option, none}
 use mathlib.Core.List.{List, ◌++◌}
 use Prim.Native.Nat.{ℕ, ◌+◌, ◌≤◌}
 use native.Mathlib.Omega.{arith}
@@ -23,7 +22,6 @@ use Rattle.theory.specs.Commit.Tested.{regular_log}
 use Rattle.format.specs.Look.{mask_move, HitIn, wlook}
 use Rattle.format.specs.Lookup.{has_ids}
 use Rattle.format.specs.Tag.{mk_tag}
-use Rattle.format.specs.declared.Hit.{Hit}
 use Rattle.format.proofs.Searched.{hit_before}
 use Rattle.theory.specs.Lookup.ByMask.{holds, Answers}
 use Rattle.theory.specs.Lookup.OnBlock.{RegularLog}
@@ -35,6 +33,8 @@ use Rattle.compact_entries.specs.Emitted.{Standing, emits, hit_items, Read, Rene
 use Rattle.compact_entries.specs.declared.Emit.{Emit}
 use Rattle.compact_entries.proofs.Joined.{emits_app, emits_end, dir_within, tail_within, items_most}
 use Rattle.compact_entries.proofs.Written.{hit_items_lem}
+use Rattle.std.specs.Prelude.{Option, None}
+use Rattle.format.specs.declared.Found.{Found}
 
 -- a stands behind the slots, t behind the tail, r behind the move state
 module _ (b : List ℕ) (e : Emit) (dir : LfsMdir) (d : Read b e dir) (s a : Standing)
@@ -56,17 +56,17 @@ module _ (b : List ℕ) (e : Emit) (dir : LfsMdir) (d : Read b e dir) (s a : Sta
     entries_within = omega (arith, slots_within, tail_within t a dir.split dir.tail et)
 
     -- gm and gt are the mask and the key of the move state that LFS_MKTAG makes, h what the search answers
-    pub entries_done : (gm gt : ℕ) → gm ≡ mk_tag 0x7ff 0 0 → gt ≡ mk_tag 0x7ff 0 12 → (h : Hit)
+    pub entries_done : (gm gt : ℕ) → gm ≡ mk_tag 0x7ff 0 0 → gt ≡ mk_tag 0x7ff 0 12 → (h : Option Found)
         → h ≡ wlook (has_ids gm) gm gt 0 (back b dir.off dir.etag) → HitIn dir.off h → (r : Standing)
         → r ≡ emits t (hit_items b h) → r ≡ emits s (compaction_items (log b))
     unfolding compaction_items
     entries_done gm gt em et' h eh i r er =
         let I : List Item = tail_items (split_of false (log b)) (tail_of no_tail (log b)) in
-        let M : List Item = move_items (move_of none (log b)) in
+        let M : List Item = move_items (move_of None (log b)) in
         let R : RegularLog (log b) = regular_log b (log b) refl d.source.slots.regular in
         let u : h ≡ wlook false mask_move (mask_move + 12) 0 (back b (log_end (log b)) (log_end_tag (log b)))
         = eh ∙ rw (em, et', d.source.slots.ends, d.source.slots.end_tag) in
-        let m : holds b h ≡ move_of none (log b)
+        let m : holds b h ≡ move_of None (log b)
         = ap (holds b) u ∙ move_found b (log b) 12 refl d.source.some R.base.reg R.base.eight (omega arith)
         in
         let n : Answers no_slot h = rw u (move_answer_lem b 12 d.source.some d.source.slots.regular R.base.reg

@@ -2,7 +2,6 @@
 -- Assumes nothing.
 use mathlib.Core.Path.{◌≡◌, refl, sym, ap, ap₂, ◌∙◌}
 use mathlib.Core.Bool.{Bool, true, false, not, cond}
-use mathlib.Core.Option.{Option}
 use mathlib.Core.List.{List, [], ◌∷◌, ◌++◌}
 use Prim.Native.Nat.{ℕ, zero, suc, ◌+◌, ◌-◌, ◌^◌, ◌≤◌, ◌<◌}
 use native.Mathlib.Numerals.{add-one}
@@ -28,13 +27,12 @@ use Rattle.commit_lay.proofs.Parts.{pair_body}
 use Rattle.commit_lay.proofs.Puts.{puts_app}
 use Rattle.format.specs.Look.{data_size, bytes_of, FoundIn, HitIn}
 use Rattle.format.specs.declared.Found.{Found}
-use Rattle.format.specs.declared.Hit.{Hit}
-use Rattle.format.specs.declared.Hit.TheVariants as hit
 use Rattle.theory.specs.Lookup.ByMask.{holds, Answers}
 use Rattle.compact_slot.specs.Seat.{hit_at}
 use Rattle.compact_slot.specs.Slots.{slot_in}
 use Rattle.compact_entries.specs.Emitted.{Standing, emitted, emits, create_item, hit_items}
 use Rattle.compact_entries.proofs.Joined.{emits_app}
+use Rattle.std.specs.Prelude.{None, Option, Some}
 
 -- the code's XOR
 pub xor_is : (a b : ℕ) → bit_xor a b ≡ xor a b
@@ -68,26 +66,26 @@ unfolding tag_of
 made_tag k y id z ek hy hid hz = ek ∙ mk_tag_sum y id z hy hid hz
 
 -- ---- an entry that was found
-module _ (b : List ℕ) (s : Standing) (h : Hit) where
-  pub hit_missing : h ≡ hit.Nothing → s ≡ emits s (hit_items b h)
+module _ (b : List ℕ) (s : Standing) (h : Option Found) where
+  pub hit_missing : h ≡ None → s ≡ emits s (hit_items b h)
   unfolding emits
-  hit_missing q = sym (ap (λ (x : Hit). emits s (hit_items b x)) q)
+  hit_missing q = sym (ap (λ (x : Option Found). emits s (hit_items b x)) q)
 
   -- r stands behind it
-  pub hit_made : (f : Found) → h ≡ hit.Found f → HitIn (length b) h → (r : Standing)
+  pub hit_made : (f : Found) → h ≡ Some f → HitIn (length b) h → (r : Standing)
       → r ≡ emitted s (record { tag = f.tag; body = body_of b f.off (f.length - 4) }) → r ≡ emits s (hit_items b h)
   unfolding emits body_of
   hit_made f q i r er =
       let w : FoundIn (length b) f = hit_in (length b) h i q in
       er ∙ rw (ne_eqb (data_size f) removal_size (λ z. omega (arith, w.kept)))
-      (sym (ap (λ (x : Hit). emits s (hit_items b x)) q))
+      (sym (ap (λ (x : Option Found). emits s (hit_items b x)) q))
 
 -- whose tag has the id is the entry of what it holds
-pub hit_items_lem : (b : List ℕ) (id : ℕ) (h : Hit) → HitIn (length b) h → Answers id h
+pub hit_items_lem : (b : List ℕ) (id : ℕ) (h : Option Found) → HitIn (length b) h → Answers id h
     → hit_items b h ≡ class_items id (holds b h)
 unfolding holds
-hit_items_lem b id hit.Nothing i a = refl
-hit_items_lem b id (hit.Found f) i a =
+hit_items_lem b id None i a = refl
+hit_items_lem b id (Some f) i a =
     rw (bytes_length b f i) (ap (λ (t : ℕ). one (record { tag = t; body = bytes_of b f })) a)
   where
     one : Item → List Item
@@ -95,7 +93,7 @@ hit_items_lem b id (hit.Found f) i a =
 
 -- what the seat of class c tells is h; r stands behind it
 pub seat_laid : (b : List ℕ) (id : ℕ) (seats : List ℕ) (c : ℕ) → HitIn (length b) (hit_at seats c)
-    → Answers id (hit_at seats c) → (h : Hit) → h ≡ hit_at seats c → (s r : Standing) → r ≡ emits s (hit_items b h)
+    → Answers id (hit_at seats c) → (h : Option Found) → h ≡ hit_at seats c → (s r : Standing) → r ≡ emits s (hit_items b h)
     → r ≡ emits s (class_items id (slot_in b seats c))
 seat_laid b id seats c i a h eh s r er = er ∙ ap (emits s) (ap (hit_items b) eh ∙ hit_items_lem b id (hit_at seats c) i a)
 

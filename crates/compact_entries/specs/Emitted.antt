@@ -1,6 +1,6 @@
 -- Entries written one after the other: the stores, the end, the previous tag and the checksum run along. Assumes
 -- nothing.
-use Rattle.std.specs.Prelude.{◌≡◌, ◌≢◌, false, List, [], ◌∷◌, ◌++◌, ℕ, ◌+◌, ◌^◌, ◌≤◌, ◌<◌}
+use Rattle.std.specs.Prelude.{◌≡◌, ◌≢◌, false, List, [], ◌∷◌, ◌++◌, ℕ, ◌+◌, ◌^◌, ◌≤◌, ◌<◌, None, Option, Some}
 use Rattle.format.specs.Word.{to_be32, xor}
 use Rattle.format.specs.Tag.{tag_length, tag_of}
 use Rattle.format.specs.Kind.{type_create}
@@ -12,12 +12,11 @@ use Rattle.format.specs.Commit.{Item}
 use Rattle.format.specs.declared.LfsMdir.{LfsMdir}
 use Rattle.commit_lay.specs.Laid.{Laid, laid, puts_of}
 use Rattle.format.specs.Look.{bytes_of}
-use Rattle.format.specs.declared.Hit.{Hit}
-use Rattle.format.specs.declared.Hit.TheVariants as hit
 use Rattle.theory.specs.Lookup.ByMask.{Answers}
 use Rattle.compact_slot.specs.Seat.{hit_at}
 use Rattle.compact_slot.specs.Slots.{Slots, AllInside}
 use Rattle.compact_entries.specs.declared.Emit.{Emit}
+use Rattle.format.specs.declared.Found.{Found}
 
 -- where the writing stands, with the block that is written
 pub record Standing : Type 0 where
@@ -51,9 +50,9 @@ abbrev pub create_item : ℕ → Item
 create_item id = record { tag = tag_of type_create id 0; body = [] }
 
 -- an entry that was found, as it is: its tag and its bytes
-abbrev pub hit_items : List ℕ → Hit → List Item
-hit_items b hit.Nothing = []
-hit_items b (hit.Found f) = record { tag = f.tag; body = bytes_of b f } ∷ []
+abbrev pub hit_items : List ℕ → Option Found → List Item
+hit_items b None = []
+hit_items b (Some f) = record { tag = f.tag; body = bytes_of b f } ∷ []
 
 -- a slot's seats in the block, their tags with its id, an id that fits a tag, and an end that a word still counts
 pub record SlotSeated (b : List ℕ) (e : Emit) (id : ℕ) (seats : List ℕ) : Type 0 where

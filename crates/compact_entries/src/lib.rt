@@ -23,7 +23,7 @@ ghost use Rattle.index_theory.specs.Owned.{own_places};
 
 use commit_lay::Run;
 use format::types::*;
-use format::{Found, Hit, LfsFcrc, LfsMdir, LfsPair};
+use format::{Found, LfsFcrc, LfsMdir, LfsPair};
 
 // Where the writing stands: the stores, the end of what is written, the previous tag and the checksum.
 #[derive(Clone, Copy)]
@@ -58,14 +58,14 @@ fn entry(new: &mut [u8], e: Emit, tag: u32, dat: &[u8], off: u32, len: u32) -> E
 }
 
 // An entry that was found, with the tag that it was found with; or nothing.
-fn found_entry(old: &[u8], new: &mut [u8], e: Emit, h: Hit) -> Emit
+fn found_entry(old: &[u8], new: &mut [u8], e: Emit, h: Option<Found>) -> Emit
     requires { (e.end < 2 ^ 32) × HitIn (length old.now) h }
     ensures { standing result new.new ≡ emits (standing e new.old)
         (hit_items old.now h) }
 {
     match h {
-        Hit::Nothing => e,
-        Hit::Found(f) => entry(new, e, f.tag, old, f.off, f.length - 4),
+        None => e,
+        Some(f) => entry(new, e, f.tag, old, f.off, f.length - 4),
     }
 }
 
@@ -129,7 +129,7 @@ fn placed_slot(old: &[u8], new: &mut [u8], e: Emit, id: u32, places: &[u32], fro
             length: tag::lfs_tag_dsize(tag),
             off: places[at + 1],
         };
-        w = found_entry(old, new, w, Hit::Found(f));
+        w = found_entry(old, new, w, Some(f));
         at += 2;
     }
     Part { emit: w, at }

@@ -10,9 +10,9 @@ use borrow.Author.Tests.{eq-eqb, ne_eqb, lt-ltb, le-ltb, le-leb, lt-leb}
 use Rattle.format.specs.Tag.{tag_type1, tag_type3, tag_chunk, tag_id, tag_size, tag_delete, tag_length, mk_tag, tag_of}
 use Rattle.format.specs.Kind.{type_name, type_dir_struct, type_user_attr, type_create, type_delete}
 use Rattle.format.specs.Directory.{classes, seat_class}
-use Rattle.format.specs.declared.Hit.TheVariants as hit
 use Rattle.format.proofs.Words.{mk_tag_sum}
 use Rattle.compact_slot.specs.Seat.{seat_off, hit_of, created_at, id_before, seated, noted}
+use Rattle.std.specs.Prelude.{None, Some}
 
 module _ (t x : ℕ) (ex : x ≡ tag_type1 t) where
   pub class_name_lem : x ≡ type_name → 0 ≡ seat_class t
@@ -82,16 +82,16 @@ module _ (seats : List ℕ) (t at slot id j : ℕ) (ej : j ≡ tag_id t) where
 
 -- ---- what a seat tells: d whether its tag is a removal's, n its length
 module _ (t off : ℕ) where
-  pub found_free : off ≡ 0 → hit.Nothing ≡ hit_of t off
+  pub found_free : off ≡ 0 → None ≡ hit_of t off
   unfolding hit_of
   found_free h = rw (eq-eqb off 0 h)
 
   module _ (d : Bool) (ed : d ≡ tag_delete t) (some : off ≡ 0 → ⊥) where
-    pub found_removed : d ≡ true → hit.Nothing ≡ hit_of t off
+    pub found_removed : d ≡ true → None ≡ hit_of t off
     unfolding hit_of
     found_removed h = rw (ne_eqb off 0 some, ← ed, h)
 
     pub found_kept : d ≡ false → (n : ℕ) → n ≡ tag_length t
-        → hit.Found (record { tag = t; length = n; off = off }) ≡ hit_of t off
+        → Some (record { tag = t; length = n; off = off }) ≡ hit_of t off
     unfolding hit_of
     found_kept h n en = rw (ne_eqb off 0 some, ← ed, h, en)

@@ -1,7 +1,6 @@
 -- A turn of a slot's walk back: what the search finds behind a tag, and the seats that it leaves. Assumes nothing.
 use mathlib.Core.Path.{◌≡◌, refl, sym, ap, ◌∙◌}
 use mathlib.Core.Bool.{Bool, true, false, cond, ◌&&◌}
-use mathlib.Core.Option.{Option, none, some}
 use mathlib.Core.List.{List, [], ◌∷◌, map}
 use Prim.Native.Nat.{ℕ, ◌+◌, ◌-◌, ◌*◌, ◌/◌, ◌^◌, ◌≤◌, ◌<◌}
 use native.Mathlib.Omega.{arith}
@@ -14,7 +13,6 @@ use Rattle.format.specs.Kind.{is_name, type_name, type_dir_struct, type_user_att
 use Rattle.format.specs.Back.{Met, back}
 use Rattle.format.specs.Directory.{classes, Load, Act, mk, rm, put, skip, is_struct, is_attr, seat_class, load_of, act}
 use Rattle.format.specs.Look.{HitIn}
-use Rattle.format.specs.declared.Hit.TheVariants as hit
 use Rattle.format.proofs.Tags.{of_size}
 use Rattle.format.proofs.Searched.{found_in}
 use Rattle.theory.specs.Walk.Step.{both_true}
@@ -26,9 +24,10 @@ use Rattle.lookup_back.specs.Step.{Ends, tag_before}
 use Rattle.lookup_back.proofs.Step.{back_over, back_on}
 use Rattle.compact_slot.specs.Seat.{seat_tag, seat_off, hit_of, hit_at, created_at, id_before, seated, noted}
 use Rattle.compact_slot.specs.Seat.{Gathered}
+use Rattle.std.specs.Prelude.{None, Some, Option}
 
 -- ---- the search over one act more
-pub found_create : (t : ℕ) (d : List ℕ) (l : List Act) (c i : ℕ) → created_at t i ≡ true → find c i (act t d ∷ l) ≡ none
+pub found_create : (t : ℕ) (d : List ℕ) (l : List Act) (c i : ℕ) → created_at t i ≡ true → find c i (act t d ∷ l) ≡ None
 unfolding created_at act find
 found_create t d l c i h =
     let r = both_true (eqb (tag_type3 t) type_create) (eqb (tag_id t) i) h in
@@ -102,7 +101,7 @@ module _ (b : List ℕ) (t at id : ℕ) (low : id < 2 ^ 10) where
   abbrev m : Met
   m = record { tag = t; off = at }
 
-  seat_is : hit_of (named t id) (at + 4) ≡ cond (tag_delete t) hit.Nothing (hit.Found (met_as m (named t id)))
+  seat_is : hit_of (named t id) (at + 4) ≡ cond (tag_delete t) None (Some (met_as m (named t id)))
   unfolding hit_of
   seat_is = rw (ne_eqb (at + 4) 0 (λ q. omega arith), same_gone, same_length)
 
@@ -113,9 +112,9 @@ module _ (b : List ℕ) (t at id : ℕ) (low : id < 2 ^ 10) where
   seat_held = rw seat_is (go (tag_delete t) refl)
     where
       go : (gone : Bool) → tag_delete t ≡ gone
-          → (holds b (cond gone hit.Nothing (hit.Found (met_as m (named t id))))
-          ≡ cond gone none (some (record { type = tag_type3 t; bytes = bytes_at b m })))
-          × Answers id (cond gone hit.Nothing (hit.Found (met_as m (named t id))))
+          → (holds b (cond gone None (Some (met_as m (named t id))))
+          ≡ cond gone None (Some (record { type = tag_type3 t; bytes = bytes_at b m })))
+          × Answers id (cond gone None (Some (met_as m (named t id))))
       go true e = (refl, tt)
       go false e = bytes_held b m id (named t id) refl low e
 
@@ -123,7 +122,7 @@ module _ (b : List ℕ) (t at id : ℕ) (low : id < 2 ^ 10) where
   seat_inside h = rw seat_is (go (tag_delete t) refl)
     where
       go : (gone : Bool) → tag_delete t ≡ gone
-          → HitIn (length b) (cond gone hit.Nothing (hit.Found (met_as m (named t id))))
+          → HitIn (length b) (cond gone None (Some (met_as m (named t id))))
       go true e = tt
       go false e = let f = found_in t at 0 (length b) e h in
           record { counted = f.counted; kept = f.kept; inside = f.inside }
@@ -156,7 +155,7 @@ starts b l id =
     }
 
 -- it ends where the search finds nothing more
-load_free : (b : List ℕ) (t off : ℕ) → eqb off 0 ≡ true → holds b (hit_of t off) ≡ none
+load_free : (b : List ℕ) (t off : ℕ) → eqb off 0 ≡ true → holds b (hit_of t off) ≡ None
 unfolding hit_of holds
 load_free b t off e = rw e
 
@@ -165,7 +164,7 @@ picked true x y w h = (λ e. h, λ e. cc)
 picked false x y w h = (λ e. cc, λ e. h)
 
 ends : (b : List ℕ) (all : List Act) (id : ℕ) (l : List Act) (slot : ℕ) (seats : List ℕ)
-    → ((c : ℕ) → find c slot l ≡ none) → Gathering b all id l slot seats → Gathered b all id seats
+    → ((c : ℕ) → find c slot l ≡ None) → Gathering b all id l slot seats → Gathered b all id seats
 ends b all id l slot seats none_left g =
     record {
       loads = λ c k. go (seat_tag seats c) (seat_off seats c) (eqb (seat_off seats c) 0) refl c (g.loads c k);

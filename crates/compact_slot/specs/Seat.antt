@@ -1,14 +1,13 @@
 -- What one walk back gathers for a slot: for each class a seat of two words, the newest entry's tag with the slot's id,
 -- and the offset of its first data byte. Assumes nothing.
-use Rattle.std.specs.Prelude.{◌≡◌, Bool, cond, ◌&&◌, List, ℕ, ◌+◌, ◌-◌, ◌*◌, ◌^◌, ◌≤◌, ◌<◌, length, get_or, set, eqb, leb, ltb}
+use Rattle.std.specs.Prelude.{◌≡◌, Bool, cond, ◌&&◌, List, ℕ, ◌+◌, ◌-◌, ◌*◌, ◌^◌, ◌≤◌, ◌<◌, length, get_or, set, eqb, leb, ltb, None, Option, Some}
 use Rattle.format.specs.Tag.{tag_type3, tag_id, tag_size, tag_delete, tag_length, tag_of}
 use Rattle.format.specs.Kind.{type_create, type_delete}
 use Rattle.format.specs.Directory.{classes, seat_class, Act}
 use Rattle.format.specs.Look.{HitIn}
-use Rattle.format.specs.declared.Hit.{Hit}
-use Rattle.format.specs.declared.Hit.TheVariants as hit
 use Rattle.theory.specs.Directory.Machine.{find, most_slots}
 use Rattle.theory.specs.Lookup.ByMask.{holds, Answers}
+use Rattle.format.specs.declared.Found.{Found}
 
 -- the two words of a class's seat
 abbrev pub seat_tag : List ℕ → ℕ → ℕ
@@ -18,12 +17,12 @@ abbrev pub seat_off : List ℕ → ℕ → ℕ
 seat_off seats c = get_or seats (2 * c + 1) 0
 
 -- what they tell: nothing where the offset is 0, and nothing of a removal
-unfoldable pub hit_of : ℕ → ℕ → Hit
+unfoldable pub hit_of : ℕ → ℕ → Option Found
 hit_of t off =
-    cond (eqb off 0) hit.Nothing
-    (cond (tag_delete t) hit.Nothing (hit.Found (record { tag = t; length = tag_length t; off = off })))
+    cond (eqb off 0) None
+    (cond (tag_delete t) None (Some (record { tag = t; length = tag_length t; off = off })))
 
-abbrev pub hit_at : List ℕ → ℕ → Hit
+abbrev pub hit_at : List ℕ → ℕ → Option Found
 hit_at seats c = hit_of (seat_tag seats c) (seat_off seats c)
 
 -- a create of exactly this id: the slot's own

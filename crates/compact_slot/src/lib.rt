@@ -10,26 +10,25 @@ ghost use Rattle.format.specs.Directory.{seat_class};
 ghost use Rattle.compact_slot.specs.Seat.{hit_at, created_at, id_before, noted, Gatherable, Gathered};
 
 use format::types::*;
-use format::{Found, Hit};
-use lookup_back::Back;
+use format::Found;
 
 // A name, a struct, and 256 user attributes.
 pub const CLASSES: usize = 258;
 
 // What a class's seat tells: nothing where it is free, since no data begin at 0, and nothing of a removal.
-pub fn found(seats: &[u32; 516], class: usize) -> Hit
+pub fn found(seats: &[u32; 516], class: usize) -> Option<Found>
     requires { class < 258 }
     ensures { result ≡ hit_at seats.now class }
 {
     let tag = seats[2 * class];
     let off = seats[2 * class + 1];
     if off == 0 {
-        return Hit::Nothing;
+        return None;
     }
     if tag::lfs_tag_isdelete(tag) {
-        return Hit::Nothing;
+        return None;
     }
-    Hit::Found(Found {
+    Some(Found {
         tag,
         length: tag::lfs_tag_dsize(tag),
         off,
@@ -111,7 +110,7 @@ pub fn gather_into(b: &[u8], end: usize, etag: u32, id: u32, seats: &mut [u32; 5
     let mut tag = etag;
     let mut slot = id as usize;
     loop {
-        let Back::At(at) = lookup_back::place(off, tag) else {
+        let Some(at) = lookup_back::place(off, tag) else {
             return;
         };
         if created(tag, slot) {

@@ -13,8 +13,6 @@ use Rattle.format.specs.Refetch.{held_forward, refetch_fits, continued, refetch_
 use Rattle.format.specs.declared.Geometry.{Geometry}
 use Rattle.format.specs.declared.LfsMdir.{LfsMdir}
 use Rattle.format.specs.declared.Refusal.TheVariants.{Invalid, Corrupt}
-use Rattle.format.specs.declared.Fetched.{Fetched}
-use Rattle.format.specs.declared.Fetched.TheVariants.{Refused}
 use Rattle.sizes.proofs.Sized.{both}
 use Rattle.sizes.proofs.Records.{record_sized, end_inside, block_first, block_second}
 use Rattle.fetch_walk.specs.Block.{walked_again}
@@ -26,6 +24,9 @@ use Rattle.fetch_walk.proofs.Folds.{again_within}
 use Rattle.fetch.specs.Read.{Readable, answer_by}
 use Rattle.fetch.specs.Known.{Known, known_by}
 use Rattle.fetch.proofs.FromWalk.{again_is}
+use Rattle.std.specs.Prelude.{Err, Result}
+use Rattle.format.specs.declared.Fetched.{Fetched}
+use Rattle.format.specs.declared.Refusal.{Refusal}
 
 -- ---- a record without a forward check: d is what `empty` answers
 pub held_none : (m : LfsMdir) (d : DirState) → m.fcrc.seen ≡ false → d ≡ empty_dir → d.fcrc ≡ held_forward m
@@ -46,7 +47,7 @@ module _ (prog : ℕ) (b : List ℕ) (m : LfsMdir) (seed : ℕ) (k : Taken) (w :
       }
 
   -- r is what `answer` answers
-  pub known_answers : (r : Fetched) → k ≡ known_by seed m → w ≡ walked_again b k
+  pub known_answers : (r : Result Fetched Refusal) → k ≡ known_by seed m → w ≡ walked_again b k
       → r ≡ answer_by prog m.pair m.rev b w → r ≡ continued prog b seed m
   known_answers r ek ew er =
       er ∙ ap (answer_by prog m.pair m.rev b) (ew ∙ ap (walked_again b) ek) ∙ again_is prog b seed m
@@ -57,7 +58,7 @@ module _ (g : Geometry) (b0 b1 : List ℕ) (n0 n1 count seed : ℕ) (m : LfsMdir
   fits_is : p && leb 8 m.off ≡ refetch_fits g (length b0) (length b1) n0 n1 m
   fits_is = ap (λ (x : Bool). x && leb 8 m.off) is
 
-  pub refetch_invalid : p && leb 8 m.off ≡ false → Refused Invalid ≡ refetch_of g b0 b1 n0 n1 count seed m
+  pub refetch_invalid : p && leb 8 m.off ≡ false → Err Invalid ≡ refetch_of g b0 b1 n0 n1 count seed m
   unfolding refetch_of
   refetch_invalid h = sym (rw (← is, h))
 
@@ -84,12 +85,12 @@ module _ (g : Geometry) (b0 b1 : List ℕ) (n0 n1 count seed : ℕ) (m : LfsMdir
         }
 
     module _ (h0 h1 : Bool) (e0 : h0 ≡ too_high count n0) (e1 : h1 ≡ too_high count n1) where
-      pub refetch_high : h0 || h1 ≡ true → Refused Corrupt ≡ refetch_of g b0 b1 n0 n1 count seed m
+      pub refetch_high : h0 || h1 ≡ true → Err Corrupt ≡ refetch_of g b0 b1 n0 n1 count seed m
       unfolding refetch_of
       refetch_high h = sym (rw (← is, ok, ← e0, ← e1, h))
 
       -- r is what `go_on` answers
-      module _ (low : h0 || h1 ≡ false) (r : Fetched) where
+      module _ (low : h0 || h1 ≡ false) (r : Result Fetched Refusal) where
         pub refetch_first : m.pair.n0 ≡ n0 → r ≡ continued g.prog_size b0 seed m
             → r ≡ refetch_of g b0 b1 n0 n1 count seed m
         unfolding refetch_of

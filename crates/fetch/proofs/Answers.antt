@@ -15,8 +15,6 @@ use Rattle.format.specs.View.{none, at, rank, view}
 use Rattle.format.specs.Fetch.{pair_fits, too_high, viewed, fetch_of}
 use Rattle.format.specs.declared.Geometry.{Geometry}
 use Rattle.format.specs.declared.Refusal.TheVariants.{Invalid, Corrupt}
-use Rattle.format.specs.declared.Fetched.{Fetched}
-use Rattle.format.specs.declared.Fetched.TheVariants.{Refused}
 use Rattle.format.proofs.Words.{tag_length_ge}
 use Rattle.sizes.proofs.Sized.{sized}
 use Rattle.fetch_walk.specs.Block.{walked_of}
@@ -24,6 +22,9 @@ use Rattle.fetch_walk.specs.declared.Walked.{Walked}
 use Rattle.fetch_walk.proofs.Folds.{log_within}
 use Rattle.fetch.specs.Read.{Readable, Readables, answer_by, in_order}
 use Rattle.fetch.proofs.FromWalk.{answer_is}
+use Rattle.std.specs.Prelude.{Err, Result}
+use Rattle.format.specs.declared.Fetched.{Fetched}
+use Rattle.format.specs.declared.Refusal.{Refusal}
 
 -- ---- a log with a commit is at least one check long
 span_some : (es : List Event) → committed es ≢ [] → 4 ≤ span (committed es)
@@ -82,7 +83,7 @@ rank_none r s = refl
 
 -- w and v are what the two walks leave, x the revision that was read, r is what `answer` answers
 module _ (prog n : ℕ) (b : List ℕ) (m : ℕ) (c : List ℕ) (seed : ℕ) (w : Walked) (e : w ≡ walked_of b seed) where
-  pub first_answers : (x : ℕ) (r : Fetched) → (w.taken.off ≡ 4 → ⊥) → x ≡ le32 b
+  pub first_answers : (x : ℕ) (r : Result Fetched Refusal) → (w.taken.off ≡ 4 → ⊥) → x ≡ le32 b
       → r ≡ answer_by prog (record { n0 = n; n1 = m }) x b w → r ≡ in_order prog n b m c seed
   unfolding in_order
   first_answers x r h ex er =
@@ -91,7 +92,7 @@ module _ (prog n : ℕ) (b : List ℕ) (m : ℕ) (c : List ℕ) (seed : ℕ) (w 
       ∙ rw (rank_first (le32 b) (le32 c) (log b) (log c) (some_log b seed w e h))
 
   module _ (empty : w.taken.off ≡ 4) (v : Walked) (f : v ≡ walked_of c seed) where
-    pub second_answers : (x : ℕ) (r : Fetched) → (v.taken.off ≡ 4 → ⊥) → x ≡ le32 c
+    pub second_answers : (x : ℕ) (r : Result Fetched Refusal) → (v.taken.off ≡ 4 → ⊥) → x ≡ le32 c
         → r ≡ answer_by prog (record { n0 = m; n1 = n }) x c v → r ≡ in_order prog n b m c seed
     unfolding in_order
     second_answers x r h ex er =
@@ -99,7 +100,7 @@ module _ (prog n : ℕ) (b : List ℕ) (m : ℕ) (c : List ℕ) (seed : ℕ) (w 
         ∙ answer_is prog m n c seed
         ∙ rw (none_log b seed w e empty, rank_second (le32 b) (le32 c) (log c) (some_log c seed v f h))
 
-    pub none_answers : v.taken.off ≡ 4 → Refused Corrupt ≡ in_order prog n b m c seed
+    pub none_answers : v.taken.off ≡ 4 → Err Corrupt ≡ in_order prog n b m c seed
     unfolding in_order
     none_answers h = rw (none_log b seed w e empty, none_log c seed v f h, rank_none (le32 b) (le32 c))
 
@@ -154,17 +155,17 @@ module _ (prog : ℕ) (b c : List ℕ) (sizes : Readables prog b c) where
 -- ---- fetch, by its tests in order
 module _ (g : Geometry) (b0 b1 : List ℕ) (n0 n1 count seed : ℕ) where
   pub fetch_invalid : pair_fits g (length b0) (length b1) n0 n1 ≡ false
-      → Refused Invalid ≡ fetch_of g b0 b1 n0 n1 count seed
+      → Err Invalid ≡ fetch_of g b0 b1 n0 n1 count seed
   unfolding fetch_of
   fetch_invalid h = simp h
 
   module _ (ok : pair_fits g (length b0) (length b1) n0 n1 ≡ true) where
-    pub fetch_high : too_high count n0 ≡ true → Refused Corrupt ≡ fetch_of g b0 b1 n0 n1 count seed
+    pub fetch_high : too_high count n0 ≡ true → Err Corrupt ≡ fetch_of g b0 b1 n0 n1 count seed
     unfolding fetch_of
     fetch_high h = simp (ok, h)
 
     module _ (low0 : too_high count n0 ≡ false) where
-      pub fetch_high_2 : too_high count n1 ≡ true → Refused Corrupt ≡ fetch_of g b0 b1 n0 n1 count seed
+      pub fetch_high_2 : too_high count n1 ≡ true → Err Corrupt ≡ fetch_of g b0 b1 n0 n1 count seed
       unfolding fetch_of
       fetch_high_2 h = simp (ok, low0, h)
 

@@ -17,11 +17,12 @@ use Rattle.format.specs.Refetch.{mdir_behind, continued}
 use Rattle.format.specs.declared.LfsPair.{LfsPair}
 use Rattle.format.specs.declared.LfsMdir.{LfsMdir}
 use Rattle.format.specs.declared.Refusal.TheVariants.{TooMany}
-use Rattle.format.specs.declared.Fetched.TheVariants.{Found, Refused}
 use Rattle.fetch_walk.specs.Block.{walked_of, walked_again}
 use Rattle.fetch_walk.specs.declared.Walked.{Walked}
 use Rattle.fetch.specs.Read.{erased_by, mdir_by, answer_by}
 use Rattle.fetch.specs.Known.{known_by}
+use Rattle.std.specs.Prelude.{Err, Ok}
+use Rattle.format.specs.Record.{fetched}
 
 -- ---- the erased mark, from the tests in order
 module _ (prog : ℕ) (b : List ℕ) (w : Walked) where
@@ -58,11 +59,11 @@ module _ (prog : ℕ) (b : List ℕ) (w : Walked) where
 -- ---- the answer: k is what `mdir` answers
 module _ (prog : ℕ) (pair : LfsPair) (rev : ℕ) (b : List ℕ) (w : Walked) (k : LfsMdir)
     (e : k ≡ mdir_by prog pair rev b w) where
-  pub too_many : 1_023 < k.count → Refused (TooMany k w.taken.seed) ≡ answer_by prog pair rev b w
+  pub too_many : 1_023 < k.count → Err (TooMany (fetched k w.taken.seed)) ≡ answer_by prog pair rev b w
   unfolding answer_by
   too_many h = sym (ap (λ (d : LfsMdir). few_enough d w.taken.seed) (sym e) ∙ rw (lt-ltb 1_023 k.count h))
 
-  pub few : k.count ≤ 1_023 → Found k w.taken.seed ≡ answer_by prog pair rev b w
+  pub few : k.count ≤ 1_023 → Ok (fetched k w.taken.seed) ≡ answer_by prog pair rev b w
   unfolding answer_by
   few h = sym (ap (λ (d : LfsMdir). few_enough d w.taken.seed) (sym e) ∙ rw (le-ltb 1_023 k.count h))
 

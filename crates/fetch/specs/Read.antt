@@ -1,14 +1,15 @@
 -- What fetch reads off a walk, as the code does it: the record, the erased mark, the answer, the two blocks in rank.
 -- Assumes nothing.
-use Rattle.std.specs.Prelude.{Bool, false, ◌&&◌, List, ℕ, ◌%◌, ◌<◌, ◌≤◌, eqb, length}
+use Rattle.std.specs.Prelude.{Bool, false, ◌&&◌, List, ℕ, ◌%◌, ◌<◌, ◌≤◌, eqb, length, Result}
 use Rattle.format.specs.Word.{le32}
 use Rattle.format.specs.Log.{log}
 use Rattle.format.specs.View.{rank}
 use Rattle.format.specs.Fetch.{forward_fits, few_enough, viewed}
 use Rattle.format.specs.declared.LfsPair.{LfsPair}
 use Rattle.format.specs.declared.LfsMdir.{LfsMdir}
-use Rattle.format.specs.declared.Fetched.{Fetched}
 use Rattle.fetch_walk.specs.declared.Walked.{Walked}
+use Rattle.format.specs.declared.Fetched.{Fetched}
+use Rattle.format.specs.declared.Refusal.{Refusal}
 
 -- the sizes that were tested: no division by zero, room for a revision, and numbers that fit
 pub record Readables (prog : ℕ) (b c : List ℕ) : Type 0 where
@@ -44,9 +45,9 @@ mdir_by prog pair rev b w =
       fcrc = k.dir.fcrc;
     }
 
-unfoldable pub answer_by : ℕ → LfsPair → ℕ → List ℕ → Walked → Fetched
+unfoldable pub answer_by : ℕ → LfsPair → ℕ → List ℕ → Walked → Result Fetched Refusal
 answer_by prog pair rev b w = few_enough (mdir_by prog pair rev b w) w.taken.seed
 
 -- the block n with the bytes b is tried first
-unfoldable pub in_order : ℕ → ℕ → List ℕ → ℕ → List ℕ → ℕ → Fetched
+unfoldable pub in_order : ℕ → ℕ → List ℕ → ℕ → List ℕ → ℕ → Result Fetched Refusal
 in_order prog n b m c seed = viewed prog n m b c seed (rank false (le32 b) (le32 c) (log b) (log c))

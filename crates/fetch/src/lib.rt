@@ -74,20 +74,24 @@ fn mdir(prog: u32, pair: LfsPair, rev: u32, b: &[u8], w: Walked) -> LfsMdir
 }
 
 // "-2 | fetch: count above 1,023 | record and seed as read"
-fn answer(prog: u32, pair: LfsPair, rev: u32, b: &[u8], w: Walked) -> Fetched
+fn answer(prog: u32, pair: LfsPair, rev: u32, b: &[u8], w: Walked) -> Result<Fetched, Refusal>
     requires { Readable prog b.now w }
     ensures { result ≡ answer_by prog pair rev b.now w }
 {
     let dir = mdir(prog, pair, rev, b, w);
+    let read = Fetched {
+        dir,
+        seed: w.taken.seed,
+    };
     if 1_023 < dir.count {
-        return Fetched::Refused(Refusal::TooMany(dir, w.taken.seed));
+        return Err(Refusal::TooMany(read));
     }
-    Fetched::Found(dir, w.taken.seed)
+    Ok(read)
 }
 
 // The two blocks in rank: n with its bytes b, and then m with its bytes c. "The first block with a valid commit
 // answers."
-fn in_order(prog: u32, n: u32, b: &[u8], m: u32, c: &[u8], seed: u32) -> Fetched
+fn in_order(prog: u32, n: u32, b: &[u8], m: u32, c: &[u8], seed: u32) -> Result<Fetched, Refusal>
     requires { Readables prog b.now c.now }
     ensures { result ≡ in_order prog n b.now m c.now seed }
 {
@@ -101,7 +105,7 @@ fn in_order(prog: u32, n: u32, b: &[u8], m: u32, c: &[u8], seed: u32) -> Fetched
         let pair = LfsPair { n0: m, n1: n };
         return answer(prog, pair, word::within::le32(c, 0), c, second);
     }
-    Fetched::Refused(Refusal::Corrupt)
+    Err(Refusal::Corrupt)
 }
 
 // Per lfs.c lfs_dir_fetch. Any geometry, images, numbers, block count and seed: "Fetch tests -22, -84, -2."
@@ -113,18 +117,18 @@ pub fn lfs_dir_fetch(
     n1: u32,
     block_count: u32,
     seed: u32,
-) -> Fetched
+) -> Result<Fetched, Refusal>
     ensures { result ≡ fetch_of g b0.now b1.now n0 n1 block_count seed }
 {
     let prog = g.prog_size;
     if !sizes::pair_fits(g, b0.len(), b1.len(), n0, n1) {
-        return Fetched::Refused(Refusal::Invalid);
+        return Err(Refusal::Invalid);
     }
     if sizes::too_high(block_count, n0) {
-        return Fetched::Refused(Refusal::Corrupt);
+        return Err(Refusal::Corrupt);
     }
     if sizes::too_high(block_count, n1) {
-        return Fetched::Refused(Refusal::Corrupt);
+        return Err(Refusal::Corrupt);
     }
     let rev0 = word::within::le32(b0, 0);
     let rev1 = word::within::le32(b1, 0);
@@ -166,7 +170,7 @@ fn known(m: LfsMdir, seed: u32) -> Taken
 }
 
 // "continue at the end only": b is the block that the record was read from.
-fn go_on(prog: u32, b: &[u8], dir: LfsMdir, seed: u32) -> Fetched
+fn go_on(prog: u32, b: &[u8], dir: LfsMdir, seed: u32) -> Result<Fetched, Refusal>
     requires { Known prog b.now dir }
     ensures { result ≡ continued prog b.now seed dir }
 {
@@ -185,16 +189,16 @@ pub fn lfs_dir_refetch(
     block_count: u32,
     seed: u32,
     dir: LfsMdir,
-) -> Fetched
+) -> Result<Fetched, Refusal>
     ensures { result ≡ refetch_of g b0.now b1.now n0 n1 block_count seed dir }
 {
     let prog = g.prog_size;
     let fits = sizes::record_fits(g, b0.len(), b1.len(), n0, n1, dir);
     if !(fits & (FIRST_END <= dir.off)) {
-        return Fetched::Refused(Refusal::Invalid);
+        return Err(Refusal::Invalid);
     }
     if sizes::too_high(block_count, n0) | sizes::too_high(block_count, n1) {
-        return Fetched::Refused(Refusal::Corrupt);
+        return Err(Refusal::Corrupt);
     }
     let pair = dir.pair;
     if pair.n0 == n0 {

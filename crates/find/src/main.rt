@@ -5,7 +5,7 @@
 use format::LfsPair;
 use std::env::Env;
 use std::io;
-use text_args::{Decimal, Request};
+use text_args::Request;
 
 // The buffer has room for every text, which is a slot's part of a listing. An entry of 4 + n bytes shows at most
 // 4 * (4 + n), as there, and the slot's line of its own 18.
@@ -58,7 +58,7 @@ fn main(rt: HostRuntime) -> io::Result<()> {
     if text_args::count(&rt) < 3 {
         return usage(&rt);
     }
-    let Decimal::Is(kind) = text_args::word(&rt, 1) else {
+    let Some(kind) = text_args::word(&rt, 1) else {
         return usage(&rt);
     };
     match text_args::asked(&rt, 3, true) {

@@ -6,7 +6,7 @@
 ghost use Rattle.std.specs.Prelude.{◌≡◌};
 ghost use Rattle.format.specs.Find.{find_of};
 
-use format::{Fetched, Geometry, Named, Refusal};
+use format::{Fetched, Geometry, Refusal};
 
 // "the lowest id whose live name has the given bytes and type, or none. .. An empty name is -22, and an irregular log
 // is -202." A type that no name has, and a name longer than any, are asked for in vain.
@@ -21,15 +21,15 @@ pub fn lfs_dir_find(
     rules: u32,
     name: &[u8],
     kind: u32,
-) -> Named
+) -> Result<Option<u32>, Refusal>
     ensures { result ≡ find_of g b0.now b1.now n0 n1 block_count seed rules
         name.now kind }
 {
     if (1 < rules) | (name.len() == 0) {
-        return Named::Refused(Refusal::Invalid);
+        return Err(Refusal::Invalid);
     }
     match fetch::lfs_dir_fetch(g, b0, b1, n0, n1, block_count, seed) {
-        Fetched::Refused(r) => Named::Refused(r),
+        Err(r) => Err(r),
         Fetched::Found(dir, _) => {
             let pair = dir.pair;
             let end = dir.off as usize;

@@ -2,7 +2,6 @@
 use mathlib.Core.Path.{◌≡◌, refl, sym, ap, subst, ◌∙◌}
 use mathlib.Core.Logic.{◌≢◌, inl}
 use mathlib.Core.Bool.{Bool, true, false, cond}
-use mathlib.Core.Option.{Option, some}
 use mathlib.Core.List.{List}
 use Prim.Native.Nat.{ℕ, ◌+◌, ◌-◌, ◌≤◌}
 use native.Mathlib.Omega.{arith}
@@ -18,6 +17,7 @@ use Rattle.format.proofs.Tags.{length_size}
 use Rattle.theory.specs.Directory.Types.{type1_of, not_wide, act_name, act_create, act_delete}
 use Rattle.find_set.specs.Set.{made, removed, assigned}
 use Rattle.find_pass.specs.Pass.{Keeps, marked, Followable}
+use Rattle.std.specs.Prelude.{Option, Some}
 
 -- ---- a name's data
 name_type : (t : ℕ) → tag_type1 t ≡ type_name → tag_type3 t ≤ 0xff
@@ -33,7 +33,7 @@ module _ (b : List ℕ) (at t : ℕ) (f : Followable b at t) (h : tag_type1 t �
   pub name_inside : at + 4 + tag_size t ≤ length b
   name_inside = omega (arith, long, f.whole)
 
-  name_load : load_of t (body_of t (drop at b)) ≡ some (record {
+  name_load : load_of t (body_of t (drop at b)) ≡ Some (record {
     type = tag_type3 t;
     bytes = take (tag_size t) (drop (at + 4) b);
   })
@@ -45,12 +45,12 @@ module _ (b : List ℕ) (at t : ℕ) (f : Followable b at t) (h : tag_type1 t �
   -- x is what `is_named` answers
   pub name_followed : (name : List ℕ) (kind j : ℕ) (x : Bool) (old : List ℕ) (any : Bool) (new : List ℕ) (still : Bool)
       → j ≡ tag_id t
-      → x ≡ is_named name kind (some (record { type = tag_type3 t; bytes = take (tag_size t) (drop (at + 4) b) }))
+      → x ≡ is_named name kind (Some (record { type = tag_type3 t; bytes = take (tag_size t) (drop (at + 4) b) }))
       → Keeps old any new still (assigned j x)
       → Keeps old any new still (marked (is_named name kind) (act t (body_of t (drop at b))))
   unfolding marked
   name_followed name kind j x old any new still ej ex k =
-      let e : act t (body_of t (drop at b)) ≡ put (tag_id t) 0 (some (record {
+      let e : act t (body_of t (drop at b)) ≡ put (tag_id t) 0 (Some (record {
         type = tag_type3 t;
         bytes = take (tag_size t) (drop (at + 4) b);
       })) = act_name t (body_of t (drop at b)) (omega (arith, name_type t h)) ∙ ap (put (tag_id t) 0) name_load in

@@ -2,7 +2,6 @@
 use mathlib.Core.Path.{◌≡◌, refl, sym, ap, ◌∙◌}
 use mathlib.Core.Logic.{◌≢◌}
 use mathlib.Core.Bool.{Bool, true, false, cond}
-use mathlib.Core.Option.{Option, none}
 use mathlib.Core.List.{List, [], ◌∷◌, ◌++◌}
 use Prim.Native.Nat.{ℕ, zero, suc, ◌+◌, ◌-◌, ◌≤◌, ◌<◌}
 use native.Mathlib.Omega.{arith}
@@ -12,17 +11,17 @@ use lib.Dec.{eqb, ltb}
 use borrow.Author.Tests.{ne_eqb, eqb-true, eqb-false, lt-ltb, le-ltb, ltb-true, ltb-false}
 use Rattle.format.specs.Directory.{Load, Slot, Act, mk, rm, put, skip, empty, upd, reaching, apply}
 use Rattle.format.specs.Find.{is_named, first_named}
-use Rattle.format.specs.declared.Named.TheVariants.{At}
 use Rattle.format.proofs.Slots.{length_reaching, get_d_reaching}
 use Rattle.theory.specs.Directory.Machine.{Allowed, ins_before, ins_at, ins_after, del_before, del_after}
 use Rattle.find_set.specs.Set.{made, removed, assigned, lowest}
 use Rattle.find_pass.specs.Pass.{marked, answered}
+use Rattle.std.specs.Prelude.{Ok, Some, None, Option}
 
 -- whether the slot i has a name that q takes
 abbrev pub flags : (Option Load → Bool) → List Slot → ℕ → Bool
 flags q D i = q (get_or D i empty 0)
 
-module _ (q : Option Load → Bool) (never : q none ≡ false) where
+module _ (q : Option Load → Bool) (never : q None ≡ false) where
   pub flags_past : (D : List Slot) (i : ℕ) → length D ≤ i → flags q D i ≡ false
   unfolding empty
   flags_past D i h = ap (λ (s : Slot). q (s 0)) (get_or-eq_default D empty h) ∙ never
@@ -119,6 +118,6 @@ lowest_named name kind (suc n) i (s ∷ D) f l e h =
         ∙ ap (flags (is_named name kind) (s ∷ D)) z
 
     go : (x : Bool) → answered (lowest n (suc i) f) ≡ first_named name kind (suc i) D
-        → answered (cond x i (lowest n (suc i) f)) ≡ cond x (At i) (first_named name kind (suc i) D)
+        → answered (cond x i (lowest n (suc i) f)) ≡ cond x (Ok (Some i)) (first_named name kind (suc i) D)
     go true r = rw (lt-ltb i 1_024 (omega arith))
     go false r = r

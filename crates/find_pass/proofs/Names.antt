@@ -2,7 +2,6 @@
 use mathlib.Core.Path.{◌≡◌, refl, sym, ap, ◌∙◌}
 use mathlib.Core.Logic.{◌≢◌}
 use mathlib.Core.Bool.{Bool, true, false, ◌&&◌}
-use mathlib.Core.Option.{some}
 use mathlib.Core.List.{List, [], ◌∷◌}
 use Prim.Native.Nat.{ℕ, suc, ◌+◌, ◌-◌, ◌≤◌, ◌<◌}
 use native.Mathlib.Omega.{arith}
@@ -12,6 +11,7 @@ use lib.Dec.{eqb}
 use borrow.Author.Tests.{eq-eqb, ne_eqb}
 use Rattle.format.specs.Tag.{tag_type3, tag_size}
 use Rattle.format.specs.Find.{same_bytes, is_named}
+use Rattle.std.specs.Prelude.{Some}
 
 -- ---- the loop over the bytes
 other_length : (a b : List ℕ) → length a ≢ length b → same_bytes a b ≡ false
@@ -59,13 +59,13 @@ all_same a b i u e l h = sym (e ∙ rw (ends_empty a i h, ends_empty b i (omega 
 
 -- ---- a name's entry: k is its type, n its size, x what `same_bytes` answers
 pub other_type : (name l : List ℕ) (t kind k : ℕ) → k ≡ tag_type3 t → k ≢ kind
-    → false ≡ is_named name kind (some (record { type = tag_type3 t; bytes = l }))
+    → false ≡ is_named name kind (Some (record { type = tag_type3 t; bytes = l }))
 unfolding is_named
 other_type name l t kind k ek h = rw (← ek, ne_eqb k kind h)
 
 pub same_type : (b name : List ℕ) (from t kind k n : ℕ) (x : Bool) → k ≡ tag_type3 t → k ≡ kind → n ≡ tag_size t
     → x ≡ same_bytes (take (from + n - from) (drop from b)) name
-    → x ≡ is_named name kind (some (record { type = tag_type3 t; bytes = take (tag_size t) (drop from b) }))
+    → x ≡ is_named name kind (Some (record { type = tag_type3 t; bytes = take (tag_size t) (drop from b) }))
 unfolding is_named
 same_type b name from t kind k n x ek h en ex =
     let e : from + n - from ≡ tag_size t = omega arith in

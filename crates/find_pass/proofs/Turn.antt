@@ -1,7 +1,6 @@
 -- A turn of the pass, and what it keeps. Assumes nothing.
 use mathlib.Core.Path.{◌≡◌, refl, sym, ap, ◌∙◌}
 use mathlib.Core.Bool.{Bool, true, false}
-use mathlib.Core.Option.{Option, none}
 use mathlib.Core.List.{List, []}
 use Prim.Native.Nat.{ℕ, ◌+◌, ◌-◌, ◌/◌, ◌%◌, ◌^◌, ◌≤◌}
 use native.Mathlib.Omega.{arith}
@@ -17,8 +16,6 @@ use Rattle.format.specs.Directory.{Load, Slot, act, acts, apply, apply_all, dir,
 use Rattle.format.specs.Find.{is_named, find_in}
 use Rattle.format.specs.declared.Rules.{Rules}
 use Rattle.format.specs.declared.Refusal.TheVariants.{Irregular}
-use Rattle.format.specs.declared.Named.TheVariants.{Refused}
-use Rattle.format.specs.declared.Named.{Named}
 use Rattle.theory.specs.Directory.Acts.{dir_rev}
 use Rattle.theory.specs.Directory.Machine.{Allowed}
 use Rattle.theory.specs.Lookup.SlotCount.{slots_after, length_apply}
@@ -31,6 +28,8 @@ use Rattle.find_set.specs.Set.{has, lowest}
 use Rattle.find_pass.specs.Pass.{Holds, Keeps, marked, Followable, answered}
 use Rattle.find_pass.proofs.Kept.{name_kept}
 use Rattle.find_pass.proofs.Flags.{flags, flags_past, flags_apply, lowest_named}
+use Rattle.std.specs.Prelude.{Err, Option, Result, None}
+use Rattle.format.specs.declared.Refusal.{Refusal}
 
 -- ---- what the pass keeps: the log that is still to come, as every pass does; and of the slots as they are here, which
 -- have the name
@@ -43,7 +42,7 @@ pub record Going (b : List ℕ) (g₀ : Bool) (q : Option Load → Bool) (end : 
   few : count ≤ 1_023
   holds : Holds set any (flags q slots)
 
-no_flags : (q : Option Load → Bool) → q none ≡ false → Holds (replicate 32 0) false (flags q [])
+no_flags : (q : Option Load → Bool) → q None ≡ false → Holds (replicate 32 0) false (flags q [])
 unfolding has
 no_flags q never = record {
   marks = λ i l. ap (λ (w : ℕ). eqb (w / 2 ^ (i % 32) % 2) 1) (get_or-replicate 32 (i / 32) 0 0 (omega arith))
@@ -54,7 +53,7 @@ no_flags q never = record {
     zero_digit : (k : ℕ) → eqb (0 / 2 ^ k % 2) 1 ≡ false
     zero_digit k = rw (zero-div (2 ^ k))
 
-pub starts_going : (b : List ℕ) (q : Option Load → Bool) (end : ℕ) (g₀ : Bool) → q none ≡ false → CommittedTo b end
+pub starts_going : (b : List ℕ) (q : Option Load → Bool) (end : ℕ) (g₀ : Bool) → q None ≡ false → CommittedTo b end
     → Going b g₀ q end (replicate 32 0) false 0 g₀ 4 all_ones
 unfolding dir_of dir
 starts_going b q end g₀ never k = record {
@@ -67,7 +66,7 @@ starts_going b q end g₀ never k = record {
 }
 
 -- ---- a turn, where the event that stands here has passed its rule
-module _ (b : List ℕ) (g₀ : Bool) (q : Option Load → Bool) (never : q none ≡ false) (end : ℕ) (set : List ℕ)
+module _ (b : List ℕ) (g₀ : Bool) (q : Option Load → Bool) (never : q None ≡ false) (end : ℕ) (set : List ℕ)
     (any : Bool) (count : ℕ) (g : Bool) (at prev : ℕ) (v : Going b g₀ q end set any count g at prev) where
   -- a check
   pub check_goes : (t x at' prev' : ℕ) → Onward b g₀ end count g at prev v.ahead (chk t x) count g at' prev'
@@ -121,14 +120,14 @@ module _ (b : List ℕ) (g₀ : Bool) (q : Option Load → Bool) (never : q none
 
 -- ---- the answer: by the rule that was asked for, the log is not regular
 pub refused : (b : List ℕ) (r : Rules) (name : List ℕ) (kind : ℕ) → Regular r (log b) ≡ false
-    → Refused Irregular ≡ find_in r name kind (log b)
+    → Err Irregular ≡ find_in r name kind (log b)
 unfolding find_in
 refused b r name kind h = rw h
 
 -- and at the end; x is what `answer` answers
 pub ends : (b : List ℕ) (g₀ : Bool) (name : List ℕ) (kind end : ℕ) (set : List ℕ) (any : Bool) (count : ℕ) (g : Bool)
     (at prev : ℕ) → Going b g₀ (is_named name kind) end set any count g at prev → end ≤ at → (r : Rules) → g₀ ≡ grows r
-    → (x : Named) → x ≡ answered (lowest 1_024 0 (has set)) → x ≡ find_in r name kind (log b)
+    → (x : Result (Option ℕ) Refusal) → x ≡ answered (lowest 1_024 0 (has set)) → x ≡ find_in r name kind (log b)
 unfolding find_in acts apply_all
 ends b g₀ name kind end set any count g at prev v l r er x ex =
     let z = no_more b g₀ end count g at prev v.ahead l in
@@ -140,6 +139,6 @@ ends b g₀ name kind end set any count g at prev v l r er x ex =
     ex ∙ f ∙ rw (n, d)
 
 -- nothing is no name
-pub none_named : (name : List ℕ) (kind : ℕ) → is_named name kind none ≡ false
+pub none_named : (name : List ℕ) (kind : ℕ) → is_named name kind None ≡ false
 unfolding is_named
 none_named name kind = refl

@@ -1,12 +1,10 @@
 -- What the pass keeps, of the ids whose names are the one that is asked for. Assumes nothing.
-use Rattle.std.specs.Prelude.{◌≡◌, Bool, true, false, cond, List, ℕ, ◌+◌, ◌≤◌, length, eqb, ltb}
-use Rattle.std.proofs.Math.Option.{Option}
+use Rattle.std.specs.Prelude.{◌≡◌, Bool, true, false, cond, List, ℕ, ◌+◌, ◌≤◌, length, eqb, ltb, None, Ok, Option, Result, Some}
 use Rattle.format.specs.Tag.{tag_delete, tag_length}
 use Rattle.format.specs.Kind.{is_name}
 use Rattle.format.specs.Directory.{Load, Act, mk, rm, put, skip}
-use Rattle.format.specs.declared.Named.{Named}
-use Rattle.format.specs.declared.Named.TheVariants.{At, Nothing}
 use Rattle.find_set.specs.Set.{Is, made, removed, assigned}
+use Rattle.format.specs.declared.Refusal.{Refusal}
 
 -- the set has, of every id below 1,024, what f says; and where none was ever put in, f has none
 pub record Holds (set : List ℕ) (any : Bool) (f : ℕ → Bool) : Type 0 where
@@ -31,5 +29,5 @@ pub record Followable (b : List ℕ) (at t : ℕ) : Type 0 where
   pub kept : is_name t ≡ true → tag_delete t ≡ false
 
 -- "the lowest id .. or none"
-abbrev pub answered : ℕ → Named
-answered n = cond (ltb n 1_024) (At n) Nothing
+abbrev pub answered : ℕ → Result (Option ℕ) Refusal
+answered n = cond (ltb n 1_024) (Ok (Some n)) (Ok None)

@@ -4,7 +4,7 @@
 #![tactic(auto)]
 
 ghost use Rattle.std.specs.Prelude.{◌≡◌, ◌+◌, ◌^◌, ◌≤◌, ◌<◌, length, take, drop};
-ghost use Rattle.std.proofs.Math.Option.{some};
+ghost use Rattle.std.specs.Prelude.{Some};
 ghost use Rattle.format.specs.Tag.{tag_type3, tag_id, tag_size};
 ghost use Rattle.format.specs.Log.{log};
 ghost use Rattle.format.specs.Walk.{body_of};
@@ -16,10 +16,10 @@ ghost use Rattle.commit_regular.specs.Ends.{CommittedTo};
 ghost use Rattle.find_set.specs.Set.{has, made, removed, assigned, lowest};
 ghost use Rattle.find_pass.specs.Pass.{Keeps, marked, Followable, answered};
 
-use commit_rules::{Rule, Ruled};
+use commit_rules::Rule;
 use fetch_walk::cursor;
 use format::types::*;
-use format::{Named, Refusal, Rules};
+use format::{Refusal, Rules};
 
 // "exactly these bytes"
 fn same_bytes(a: &[u8], b: &[u8]) -> bool
@@ -42,7 +42,7 @@ fn same_bytes(a: &[u8], b: &[u8]) -> bool
 fn is_named(b: &[u8], from: usize, tag: u32, name: &[u8], kind: u32) -> bool
     requires { from + tag_size tag ≤ length b.now }
     ensures { result ≡ is_named name.now kind
-        (some (record { type = tag_type3 tag; bytes = take (tag_size tag) (drop from b.now) })) }
+        (Some (record { type = tag_type3 tag; bytes = take (tag_size tag) (drop from b.now) })) }
 {
     if tag::lfs_tag_type3(tag) as u32 != kind {
         return false;
@@ -115,19 +115,19 @@ fn follow(
 }
 
 // "the lowest id .. or none"
-fn answer(set: &[u32; 32]) -> Named
+fn answer(set: &[u32; 32]) -> Result<Option<u32>, Refusal>
     ensures { result ≡ answered (lowest 1_024 0 (has set.now)) }
 {
     let id = find_set::first(set);
     if id < 1024 {
-        return Named::At(id);
+        return Ok(Some(id));
     }
-    Named::Nothing
+    Ok(None)
 }
 
 // The count behind an entry, or that it is bad, where the count is `count` before it and names may make slots or not:
 // as in `commit_regular`, which says why there are two.
-fn entered(rule: Rule, grows: bool, count: u32, tag: u32) -> Ruled
+fn entered(rule: Rule, grows: bool, count: u32, tag: u32) -> Option<u32>
     ensures { result ≡ passed_by (rule_as rule) (count_raised grows (rule_as rule) count (tag_id tag)) (tag_id tag)
         (tag_size tag) }
 {
@@ -138,7 +138,7 @@ fn entered(rule: Rule, grows: bool, count: u32, tag: u32) -> Ruled
 
 // The pass over the log that ends at `end`, by a rule: the lowest id whose name is the one that is asked for. The rules
 // run against the count as in crate `commit_regular`, and the first bad entry or check ends the pass.
-pub fn find_in(b: &[u8], end: usize, rules: Rules, wanted: &[u8], kind: u32) -> Named
+pub fn find_in(b: &[u8], end: usize, rules: Rules, wanted: &[u8], kind: u32) -> Result<Option<u32>, Refusal>
     requires { CommittedTo b.now end }
     ensures { result ≡ find_in rules wanted.now kind (log b.now) }
 {
@@ -153,14 +153,14 @@ pub fn find_in(b: &[u8], end: usize, rules: Rules, wanted: &[u8], kind: u32) -> 
         let next = at + tag::lfs_tag_dsize(tag) as usize;
         if cursor::is_check(tag) {
             if !commit_rules::check_fits(tag::lfs_tag_size(tag)) {
-                return Named::Refused(Refusal::Irregular);
+                return Err(Refusal::Irregular);
             }
             prev = cursor::flipped(tag);
             at = next;
         } else {
             let rule = commit_rules::rule_of(true, tag::lfs_tag_type3(tag));
-            let Ruled::To(behind) = entered(rule, grows, count, tag) else {
-                return Named::Refused(Refusal::Irregular);
+            let Some(behind) = entered(rule, grows, count, tag) else {
+                return Err(Refusal::Irregular);
             };
             any = follow(&mut set, any, b, at, tag, wanted, kind);
             count = behind;

@@ -17,7 +17,7 @@ use Rattle.format.specs.Writer.{refused, appended}
 use Rattle.format.specs.declared.Entry.{Entry}
 use Rattle.format.specs.declared.Rules.{Rules}
 use Rattle.format.specs.declared.Refusal.TheVariants.{BadEntry, Irregular, Misaligned, WrongValidity, NotErased}
-use Rattle.format.specs.declared.Room.TheVariants.{Refused}
+use Rattle.std.specs.Prelude.{Err}
 
 module _ (r : Rules) (e prog : ℕ) (second : Bool) (b : List ℕ) (es : List Event) (entries : List Entry)
     (dat : List ℕ) where
@@ -34,17 +34,17 @@ module _ (r : Rules) (e prog : ℕ) (second : Bool) (b : List ℕ) (es : List Ev
 
 module _ (e prog : ℕ) (b : List ℕ) (end etag : ℕ) where
   -- an end that is no multiple of the program size is refused for it, whatever the end tag and the bytes
-  pub misaligned_first : end % prog ≢ 0 → room_of e prog b end etag ≡ Refused Misaligned
+  pub misaligned_first : end % prog ≢ 0 → room_of e prog b end etag ≡ Err Misaligned
   unfolding room_of
   misaligned_first h = rw (ne_eqb (end % prog) 0 h)
 
   -- of one that is, the end tag's validity bit, whatever the bytes
-  pub validity_next : end % prog ≡ 0 → validity_fits e etag ≡ false → room_of e prog b end etag ≡ Refused WrongValidity
+  pub validity_next : end % prog ≡ 0 → validity_fits e etag ≡ false → room_of e prog b end etag ≡ Err WrongValidity
   unfolding room_of
   validity_next h t = rw (eq-eqb (end % prog) 0 h, t)
 
   -- and of one whose validity bit fits, the first byte that isn't erased
   pub byte_last : end % prog ≡ 0 → validity_fits e etag ≡ true → all_erased e (drop end b) ≡ false
-      → room_of e prog b end etag ≡ Refused (NotErased (first_unerased e b end))
+      → room_of e prog b end etag ≡ Err (NotErased (first_unerased e b end))
   unfolding room_of
   byte_last h t k = rw (eq-eqb (end % prog) 0 h, t, k)

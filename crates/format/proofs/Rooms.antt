@@ -12,41 +12,41 @@ use borrow.Author.Tests.{eqb-true, eqb-false, lt-ltb, le-ltb}
 use Rattle.format.specs.Erased.{all_erased, validity_fits}
 use Rattle.format.specs.Room.{room_clean, erased_run, first_unerased, room_of}
 use Rattle.format.specs.declared.Refusal.TheVariants.{Misaligned, WrongValidity, NotErased}
-use Rattle.format.specs.declared.Room.{Room}
-use Rattle.format.specs.declared.Room.TheVariants.{Clean, Refused}
+use Rattle.std.specs.Prelude.{Err, Ok, Result}
+use Rattle.format.specs.declared.Refusal.{Refusal}
 
 -- ---- the condition and the reasons
 module _ (e prog : ℕ) (b : List ℕ) (end etag : ℕ) where
   -- the room, by what the three tests answer
-  abbrev pub tested : Bool → Bool → Bool → Room
+  abbrev pub tested : Bool → Bool → Bool → Result Unit Refusal
   tested aligned fits erased =
-      cond (not aligned) (Refused Misaligned)
-      (cond (not fits) (Refused WrongValidity)
-      (cond (not erased) (Refused (NotErased (first_unerased e b end)))
-      Clean))
+      cond (not aligned) (Err Misaligned)
+      (cond (not fits) (Err WrongValidity)
+      (cond (not erased) (Err (NotErased (first_unerased e b end)))
+      (Ok tt)))
 
   pub room_tested : room_of e prog b end etag ≡ tested (eqb (end % prog) 0) (validity_fits e etag)
       (all_erased e (drop end b))
   unfolding room_of
   room_tested = refl
 
-  from_tests : (a p c : Bool) → tested a p c ≡ Clean → c && a && p ≡ true
+  from_tests : (a p c : Bool) → tested a p c ≡ (Ok tt) → c && a && p ≡ true
   from_tests false p c h = cc
   from_tests true false c h = cc
   from_tests true true false h = cc
   from_tests true true true h = refl
 
-  to_tests : (a p c : Bool) → c && a && p ≡ true → tested a p c ≡ Clean
+  to_tests : (a p c : Bool) → c && a && p ≡ true → tested a p c ≡ (Ok tt)
   to_tests a p false h = cc
   to_tests false p true h = cc
   to_tests true false true h = cc
   to_tests true true true h = refl
 
-  pub clean_holds : room_of e prog b end etag ≡ Clean → room_clean e prog b end etag ≡ true
+  pub clean_holds : room_of e prog b end etag ≡ (Ok tt) → room_clean e prog b end etag ≡ true
   unfolding room_clean
   clean_holds h = from_tests (eqb (end % prog) 0) (validity_fits e etag) (all_erased e (drop end b)) (sym room_tested ∙ h)
 
-  pub holds_clean : room_clean e prog b end etag ≡ true → room_of e prog b end etag ≡ Clean
+  pub holds_clean : room_clean e prog b end etag ≡ true → room_of e prog b end etag ≡ (Ok tt)
   unfolding room_clean
   holds_clean h = room_tested ∙ to_tests (eqb (end % prog) 0) (validity_fits e etag) (all_erased e (drop end b)) h
 

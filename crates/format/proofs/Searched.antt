@@ -14,10 +14,8 @@ use Rattle.format.specs.Look.{found_at, data_size, bytes_of, FoundIn, HitIn}
 use Rattle.format.specs.Lookup.{slice_end, slice_answer}
 use Rattle.format.specs.declared.Refusal.TheVariants.{Corrupt}
 use Rattle.format.specs.declared.Found.{Found}
-use Rattle.format.specs.declared.Hit.{Hit}
-use Rattle.format.specs.declared.Hit.TheVariants as hit
-use Rattle.format.specs.declared.Got.TheVariants as got
 use Rattle.format.proofs.Tags.{length_size}
+use Rattle.std.specs.Prelude.{Err, None, Ok, Option, Some}
 
 module _ (t off diff : ℕ) where
   pub found_bytes : (b : List ℕ) → bytes_of b (found_at t off diff) ≡ take (tag_length t - 4) (drop 4 (drop off b))
@@ -30,13 +28,13 @@ module _ (t off diff : ℕ) where
       record { counted = omega arith; kept = omega arith; inside = omega arith }
 
 -- what a search's answer says of the entry in it
-pub hit_in : (n : ℕ) (h : Hit) {e : Found} → HitIn n h → h ≡ hit.Found e → FoundIn n e
+pub hit_in : (n : ℕ) (h : Option Found) {e : Found} → HitIn n h → h ≡ Some e → FoundIn n e
 hit_in n h i q = rw q at i
 
 -- what stands before an end stands before a later one
-pub hit_before : (n m : ℕ) (h : Hit) → n ≤ m → HitIn n h → HitIn m h
-hit_before n m hit.Nothing l i = tt
-hit_before n m (hit.Found e) l i = record {
+pub hit_before : (n m : ℕ) (h : Option Found) → n ≤ m → HitIn n h → HitIn m h
+hit_before n m None l i = tt
+hit_before n m (Some e) l i = record {
   counted = i.counted;
   kept = i.kept;
   inside = omega (arith, i.inside);
@@ -55,11 +53,11 @@ module _ (b : List ℕ) (e : Found) where
       let n : e.off + data_size e - e.off ≡ data_size e = omega arith in
       ap (λ (k : ℕ). take k (drop e.off b)) n
 
-pub slice_is : (b : List ℕ) (offset size : ℕ) (f : Hit) (e : Found) → slice_answer b offset size f ≡ got.Found e
-    → f ≡ hit.Found e
-slice_is b offset size hit.Nothing e h = cc
-slice_is b offset size (hit.Found u) e h = go (leb (slice_end u offset size) (length b)) h
+pub slice_is : (b : List ℕ) (offset size : ℕ) (f : Option Found) (e : Found) → slice_answer b offset size f ≡ Ok e
+    → f ≡ Some e
+slice_is b offset size None e h = cc
+slice_is b offset size (Some u) e h = go (leb (slice_end u offset size) (length b)) h
   where
-    go : (c : Bool) → cond c (got.Found u) (got.Refused Corrupt) ≡ got.Found e → hit.Found u ≡ hit.Found e
+    go : (c : Bool) → cond c (Ok u) (Err Corrupt) ≡ Ok e → Some u ≡ Some e
     go true h = cc
     go false h = cc

@@ -1,21 +1,20 @@
 -- The small arithmetic of lfs_util.h. Assumes nothing.
-use Rattle.std.specs.Prelude.{cond, ℕ, zero, suc, ◌-◌, ◌*◌, ◌/◌, max, eqb}
+use Rattle.std.specs.Prelude.{cond, ℕ, zero, suc, ◌-◌, ◌*◌, ◌/◌, max, eqb, Err, Ok, Result}
 use Rattle.std.specs.Int.Count.{count_leading_zeros, count_trailing_zeros, ones}
 use Rattle.format.specs.Word.{plus32, minus32}
-use Rattle.format.specs.declared.Word.{Word}
-use Rattle.format.specs.declared.Word.TheVariants.{Is, Refused}
 use Rattle.format.specs.declared.Refusal.TheVariants.{Invalid}
+use Rattle.format.specs.declared.Refusal.{Refusal}
 
 -- a, or the next lower multiple of m
 abbrev pub down_to : ℕ → ℕ → ℕ
 down_to a m = a / m * m
 
 -- `lfs_aligndown`; "Alignment by 0 is refused with -22."
-unfoldable pub align_down : ℕ → ℕ → Word
-align_down a m = cond (eqb m 0) (Refused Invalid) (Is (down_to a m))
+unfoldable pub align_down : ℕ → ℕ → Result ℕ Refusal
+align_down a m = cond (eqb m 0) (Err Invalid) (Ok (down_to a m))
 
 -- `lfs_alignup`: a + m - 1, wrapping, brought down
-unfoldable pub align_up : ℕ → ℕ → Word
+unfoldable pub align_up : ℕ → ℕ → Result ℕ Refusal
 align_up a m = align_down (minus32 (plus32 a m) 1) m
 
 -- `lfs_npw2`: the digits of a - 1 (in 32 bits that wrap), and 1 where there are none; so the least n from 1 on with a

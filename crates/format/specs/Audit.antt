@@ -1,8 +1,7 @@
 -- The audit of a pair's instructions: the text that names each slot with a payload and no deadline, or a deadline and
 -- no payload. Either is left where the two went into separate commits. An input is taken, and refused, as the listing
 -- takes it. Assumes nothing.
-use Rattle.std.specs.Prelude.{Bool, true, false, not, cond, ◌&&◌, ◌||◌, List, [], ◌∷◌, ◌++◌, ℕ, suc, ◌+◌, length, ltb, eqb}
-use Rattle.std.proofs.Math.Option.{Option, none, some}
+use Rattle.std.specs.Prelude.{Bool, true, false, not, cond, ◌&&◌, ◌||◌, List, [], ◌∷◌, ◌++◌, ℕ, suc, ◌+◌, length, ltb, eqb, None, Option, Some}
 use Rattle.format.specs.Log.{log}
 use Rattle.format.specs.Regular.{Regular, rules_of}
 use Rattle.format.specs.Directory.{Load, Slot, dir_of}
@@ -16,23 +15,23 @@ use Rattle.format.specs.declared.Refusal.TheVariants.{Irregular}
 -- ---- what a slot lacks
 -- A slot is an instruction unless its name says directory (0x002) or superblock (0x0ff). With no name it is one.
 unfoldable pub is_instruction : Option Load → Bool
-is_instruction none = true
-is_instruction (some v) = not (eqb v.type 0x002) && not (eqb v.type 0x0ff)
+is_instruction None = true
+is_instruction (Some v) = not (eqb v.type 0x002) && not (eqb v.type 0x0ff)
 
 -- It has a payload if its struct is CTZ (0x202), or inline (0x201) of one byte or more.
 unfoldable pub is_payload : Option Load → Bool
-is_payload none = false
-is_payload (some v) = eqb v.type 0x202 || (eqb v.type 0x201 && ltb 0 (length v.bytes))
+is_payload None = false
+is_payload (Some v) = eqb v.type 0x202 || (eqb v.type 0x201 && ltb 0 (length v.bytes))
 
 -- Its deadline is the user attribute 0x74, of four bytes. Of any other length it can't be read: it is there, and is no
 -- deadline to go by.
 unfoldable pub is_deadline : Option Load → Bool
-is_deadline none = false
-is_deadline (some v) = eqb (length v.bytes) 4
+is_deadline None = false
+is_deadline (Some v) = eqb (length v.bytes) 4
 
 unfoldable pub is_there : Option Load → Bool
-is_there none = false
-is_there (some v) = true
+is_there None = false
+is_there (Some v) = true
 
 abbrev pub deadline_class : ℕ
 deadline_class = 2 + 0x74
@@ -48,8 +47,8 @@ lacks_payload s = is_instruction (s 0) && (is_there (s deadline_class) && not (i
 -- ---- the lines
 -- The name as in the listing; `-` where there is none.
 unfoldable pub name_or_dash : Option Load → List ℕ
-name_or_dash none = ascii "-"
-name_or_dash (some v) = name_bytes v.bytes
+name_or_dash None = ascii "-"
+name_or_dash (Some v) = name_bytes v.bytes
 
 -- `slot ID NAME`, and what it lacks: ` no deadline` or ` no payload`
 unfoldable pub lack_line : ℕ → Option Load → List ℕ → List ℕ
@@ -57,8 +56,8 @@ lack_line id name what = ascii "slot " ++ (decimal id ++ (ascii " " ++ (name_or_
 
 -- A deadline that can't be read is told apart from a missing one: `slot ID NAME deadline of N bytes`.
 unfoldable pub deadline_line : ℕ → Option Load → Option Load → List ℕ
-deadline_line id name none = lack_line id name (ascii " no deadline\n")
-deadline_line id name (some v) = lack_line id name (ascii " deadline of ")
+deadline_line id name None = lack_line id name (ascii " no deadline\n")
+deadline_line id name (Some v) = lack_line id name (ascii " deadline of ")
     ++ (decimal (length v.bytes) ++ ascii " bytes\n")
 
 -- A slot has one of the two lines, or none.

@@ -1,8 +1,7 @@
 -- Document 01, The added writer: compaction. It "erases the block that fetch did not answer from", to the erased byte,
 -- "and writes revision plus one (wrapping) and one commit". Which are accepted, what is stored, and what both calls
 -- answer and leave. Assumes nothing.
-use Rattle.std.specs.Prelude.{Bool, true, false, not, cond, ◌&&◌, List, [], ◌∷◌, ◌++◌, ℕ, zero, suc, ◌+◌, ◌-◌, min, length, ltb, eqb}
-use Rattle.std.proofs.Math.Option.{Option, none, some}
+use Rattle.std.specs.Prelude.{Bool, true, false, not, cond, ◌&&◌, List, [], ◌∷◌, ◌++◌, ℕ, zero, suc, ◌+◌, ◌-◌, min, length, ltb, eqb, Err, None, Ok, Option, Result, Some}
 use Rattle.format.specs.Word.{le32, to_le32, plus32, all_ones}
 use Rattle.format.specs.Kind.{type_create, type_tail, type_hard_tail, no_slot}
 use Rattle.format.specs.Crc.{crc}
@@ -16,24 +15,19 @@ use Rattle.format.specs.Tag.{tag_of}
 use Rattle.format.specs.Commit.{Item, check_tag}
 use Rattle.format.specs.Stores.{entries_length, coincides, compacting}
 use Rattle.format.specs.Writer.{check_length, rounded_end, check_size, block_at, is_second, Images, images}
-use Rattle.format.specs.Writer.{with_forward, committed_as, writes_fit, unlimited}
+use Rattle.format.specs.Writer.{with_forward, writes_fit, unlimited}
 use Rattle.format.specs.declared.Geometry.{Geometry}
 use Rattle.format.specs.declared.LfsPair.{LfsPair}
 use Rattle.format.specs.declared.Rules.{Rules}
 use Rattle.format.specs.declared.Refusal.{Refusal}
 use Rattle.format.specs.declared.Refusal.TheVariants.{Invalid, Irregular, NoSpace, Coincidence}
 use Rattle.format.specs.declared.Fetched.{Fetched}
-use Rattle.format.specs.declared.Fetched.TheVariants as fetched
-use Rattle.format.specs.declared.Committed.{Committed}
-use Rattle.format.specs.declared.Committed.TheVariants as committed
-use Rattle.format.specs.declared.Stored.{Stored}
-use Rattle.format.specs.declared.Stored.TheVariants as stored
 
 -- ---- the entries, in order
 -- what stands under a class, as an entry of the id; nothing where nothing stands there
 abbrev pub class_items : ℕ → Option Load → List Item
-class_items id none = []
-class_items id (some v) = record { tag = tag_of v.type id (length v.bytes); body = v.bytes } ∷ []
+class_items id None = []
+class_items id (Some v) = record { tag = tag_of v.type id (length v.bytes); body = v.bytes } ∷ []
 
 -- "newest name .., struct .., user attributes by rising type": what a slot holds under n classes from c on
 unfoldable pub slot_items : ℕ → ℕ → ℕ → Slot → List Item
@@ -62,7 +56,7 @@ move_items v = class_items no_slot v
 
 unfoldable pub compaction_items : List Event → List Item
 compaction_items es = dir_items 0 (dir_of es) ++ (tail_items (split_of false es) (tail_of no_tail es)
-    ++ move_items (move_of none es))
+    ++ move_items (move_of None es))
 
 -- ---- which compactions are accepted Refused, or accepted: whether the second block answers (so that the first is
 -- written), the new revision, the entries, their check's size.
@@ -90,10 +84,10 @@ compactable r e prog second b es =
     (placed_anew e prog (length b) second (plus32 (le32 b) 1) (with_forward e prog (length b) 4 (compaction_items es)))
 
 -- "Compaction: the same without -201 and -203": -22 of the sizes and numbers, and fetch's own refusals, come from fetch
-abbrev pub compact_fetched : Rules → ℕ → ℕ → List ℕ → List ℕ → ℕ → Fetched → CompactVerdict
-compact_fetched r e prog b0 b1 n0 (fetched.Refused q) = compact_refused q
-compact_fetched r e prog b0 b1 n0 (fetched.Found m s) =
-    compactable r e prog (is_second n0 m) (block_at (is_second n0 m) b0 b1) (log (block_at (is_second n0 m) b0 b1))
+abbrev pub compact_fetched : Rules → ℕ → ℕ → List ℕ → List ℕ → ℕ → Result Fetched Refusal → CompactVerdict
+compact_fetched r e prog b0 b1 n0 (Err q) = compact_refused q
+compact_fetched r e prog b0 b1 n0 (Ok f) =
+    compactable r e prog (is_second n0 f.dir) (block_at (is_second n0 f.dir) b0 b1) (log (block_at (is_second n0 f.dir) b0 b1))
 
 unfoldable pub compact_verdict : Geometry → List ℕ → List ℕ → ℕ → ℕ → ℕ → ℕ → ℕ → ℕ → CompactVerdict
 compact_verdict g b0 b1 n0 n1 count seed rules e =
@@ -115,13 +109,13 @@ compact_images_after e n b0 b1 (compact_refused r) = images b0 b1
 compact_images_after e n b0 b1 (compact_accepted false rev is size) = images b0 (compacted_to e b1 rev is size n)
 compact_images_after e n b0 b1 (compact_accepted true rev is size) = images (compacted_to e b0 rev is size n) b1
 
-abbrev pub compact_answer : Fetched → CompactVerdict → Committed
-compact_answer f (compact_refused r) = committed.Refused r
-compact_answer f (compact_accepted second rev is size) = committed_as f
+abbrev pub compact_answer : Result Fetched Refusal → CompactVerdict → Result Fetched Refusal
+compact_answer f (compact_refused r) = Err r
+compact_answer f (compact_accepted second rev is size) = f
 
-abbrev pub compact_made : ℕ → CompactVerdict → Stored
-compact_made n (compact_refused r) = stored.Refused r
-compact_made n (compact_accepted second rev is size) = stored.Made (min n (compact_stores is))
+abbrev pub compact_made : ℕ → CompactVerdict → Result ℕ Refusal
+compact_made n (compact_refused r) = Err r
+compact_made n (compact_accepted second rev is size) = Ok (min n (compact_stores is))
 
 module _ (g : Geometry) (b0 b1 : List ℕ) (n0 n1 count seed rules e : ℕ) where
   -- the images after n stores: of the call with a limit, and, all stores made, of `lfs_dir_compact`
@@ -129,11 +123,11 @@ module _ (g : Geometry) (b0 b1 : List ℕ) (n0 n1 count seed rules e : ℕ) wher
   compact_images n = compact_images_after e n b0 b1 (compact_verdict g b0 b1 n0 n1 count seed rules e)
 
   -- `lfs_dir_compact`: "An accepted call answers what fetch gives on the finished pair from the same seed."
-  unfoldable pub compact_of : Committed
+  unfoldable pub compact_of : Result Fetched Refusal
   compact_of =
       compact_answer (fetch_of g (compact_images unlimited).b0 (compact_images unlimited).b1 n0 n1 count seed)
       (compact_verdict g b0 b1 n0 n1 count seed rules e)
 
   -- `lfs_dir_compact_stores`
-  unfoldable pub compact_stores_of : ℕ → Stored
+  unfoldable pub compact_stores_of : ℕ → Result ℕ Refusal
   compact_stores_of n = compact_made n (compact_verdict g b0 b1 n0 n1 count seed rules e)

@@ -2,8 +2,7 @@
 -- its entries make of an empty one. It is one machine for both rules: what is set in a slot that is not there makes it,
 -- which in a log that is regular by document 01 never happens, and by littlefs's rule for a name alone. Assumes
 -- nothing.
-use Rattle.std.specs.Prelude.{Bool, cond, List, [], ◌∷◌, ◌++◌, reverse, ℕ, suc, ◌+◌, ◌-◌, ◌^◌, length, take, drop, replicate, set, get_or, eqb}
-use Rattle.std.proofs.Math.Option.{Option, none, some}
+use Rattle.std.specs.Prelude.{Bool, cond, List, [], ◌∷◌, ◌++◌, reverse, ℕ, suc, ◌+◌, ◌-◌, ◌^◌, length, take, drop, replicate, set, get_or, eqb, None, Option, Some}
 use Rattle.format.specs.Tag.{tag_type1, tag_type3, tag_chunk, tag_id, tag_delete}
 use Rattle.format.specs.Kind.{is_name, type_dir_struct, type_user_attr, type_create, type_delete, type_move}
 use Rattle.format.specs.Walk.{Event, ent, chk, inv}
@@ -22,7 +21,7 @@ abbrev pub Slot : Type 0
 Slot = ℕ → Option Load
 
 unfoldable pub empty : Slot
-empty c = none
+empty c = None
 
 unfoldable pub upd : Slot → ℕ → Option Load → Slot
 upd s c v k = cond (eqb k c) v (s k)
@@ -69,7 +68,7 @@ seat_class t = cond (is_name t) 0 (cond (is_struct t) 1 (cond (is_attr t) (2 + t
 
 -- "Size 0x3ff means removal."
 abbrev pub load_of : ℕ → List ℕ → Option Load
-load_of t d = cond (tag_delete t) none (some (record { type = tag_type3 t; bytes = d }))
+load_of t d = cond (tag_delete t) None (Some (record { type = tag_type3 t; bytes = d }))
 
 -- a tag and its bytes as an act
 unfoldable pub act : ℕ → List ℕ → Act

@@ -1,6 +1,6 @@
 -- Document 01, Fetch: the answer of `lfs_dir_fetch`, a function of the two blocks' view, their numbers and, for the
 -- erased mark, the answering block's bytes. Assumes nothing.
-use Rattle.std.specs.Prelude.{Bool, true, false, not, cond, ◌&&◌, ◌||◌, List, ℕ, ◌+◌, ◌%◌, length, take, drop, leb, ltb, eqb}
+use Rattle.std.specs.Prelude.{Bool, true, false, not, cond, ◌&&◌, ◌||◌, List, ℕ, ◌+◌, ◌%◌, length, take, drop, leb, ltb, eqb, Err, Ok, Result}
 use Rattle.format.specs.Word.{all_ones}
 use Rattle.format.specs.Crc.{crc}
 use Rattle.format.specs.Walk.{Event, walk}
@@ -12,7 +12,8 @@ use Rattle.format.specs.declared.LfsFcrc.{LfsFcrc}
 use Rattle.format.specs.declared.LfsMdir.{LfsMdir}
 use Rattle.format.specs.declared.Refusal.TheVariants.{Invalid, Corrupt, TooMany}
 use Rattle.format.specs.declared.Fetched.{Fetched}
-use Rattle.format.specs.declared.Fetched.TheVariants.{Found, Refused}
+use Rattle.format.specs.declared.Refusal.{Refusal}
+use Rattle.format.specs.Record.{fetched}
 
 -- "Block size 128 to 32,768; program size 4 to 512; block size a multiple of it."
 unfoldable pub geometry_fits : Geometry → Bool
@@ -61,18 +62,18 @@ mdir_of prog n m b rev es =
     }
 
 -- "-2 | fetch: count above 1,023 | fetch: record and seed as read"
-abbrev pub few_enough : LfsMdir → ℕ → Fetched
-few_enough m seed = cond (ltb 1_023 m.count) (Refused (TooMany m seed)) (Found m seed)
+abbrev pub few_enough : LfsMdir → ℕ → Result Fetched Refusal
+few_enough m seed = cond (ltb 1_023 m.count) (Err (TooMany (fetched m seed))) (Ok (fetched m seed))
 
 -- "neither block has a valid commit" is -84; else the block of the view answers
-abbrev pub viewed : ℕ → ℕ → ℕ → List ℕ → List ℕ → ℕ → View → Fetched
-viewed prog n0 n1 b0 b1 seed none = Refused Corrupt
+abbrev pub viewed : ℕ → ℕ → ℕ → List ℕ → List ℕ → ℕ → View → Result Fetched Refusal
+viewed prog n0 n1 b0 b1 seed none = Err Corrupt
 viewed prog n0 n1 b0 b1 seed (at false rev es) = few_enough (mdir_of prog n0 n1 b0 rev es) (seed_of seed es)
 viewed prog n0 n1 b0 b1 seed (at true rev es) = few_enough (mdir_of prog n1 n0 b1 rev es) (seed_of seed es)
 
 -- "Fetch tests -22, -84, -2."
-unfoldable pub fetch_of : Geometry → List ℕ → List ℕ → ℕ → ℕ → ℕ → ℕ → Fetched
+unfoldable pub fetch_of : Geometry → List ℕ → List ℕ → ℕ → ℕ → ℕ → ℕ → Result Fetched Refusal
 fetch_of g b0 b1 n0 n1 count seed =
-    cond (not (pair_fits g (length b0) (length b1) n0 n1)) (Refused Invalid)
-    (cond (too_high count n0 || too_high count n1) (Refused Corrupt)
+    cond (not (pair_fits g (length b0) (length b1) n0 n1)) (Err Invalid)
+    (cond (too_high count n0 || too_high count n1) (Err Corrupt)
     (viewed g.prog_size n0 n1 b0 b1 seed (view b0 b1)))

@@ -1,8 +1,7 @@
 -- Document 02, L4: "a pass over the chosen block that answers the lowest id whose live name has the given bytes and
 -- type, or none". What it answers, said of the directory machine; that it is what asking slot by slot gives is a theorem
 -- (`find_is_asking` of promises). Assumes nothing.
-use Rattle.std.specs.Prelude.{Bool, true, false, not, cond, ◌&&◌, List, [], ◌∷◌, ℕ, suc, length, eqb}
-use Rattle.std.proofs.Math.Option.{Option, none, some}
+use Rattle.std.specs.Prelude.{Bool, true, false, not, cond, ◌&&◌, List, [], ◌∷◌, ℕ, suc, length, eqb, Err, None, Ok, Option, Result, Some}
 use Rattle.format.specs.Walk.{Event}
 use Rattle.format.specs.Log.{log}
 use Rattle.format.specs.Fetch.{fetch_of}
@@ -13,9 +12,7 @@ use Rattle.format.specs.declared.Geometry.{Geometry}
 use Rattle.format.specs.declared.Rules.{Rules}
 use Rattle.format.specs.declared.Refusal.TheVariants.{Invalid, Irregular}
 use Rattle.format.specs.declared.Fetched.{Fetched}
-use Rattle.format.specs.declared.Fetched.TheVariants as fetched
-use Rattle.format.specs.declared.Named.{Named}
-use Rattle.format.specs.declared.Named.TheVariants.{At, Nothing, Refused}
+use Rattle.format.specs.declared.Refusal.{Refusal}
 
 -- "exactly these bytes"
 unfoldable pub same_bytes : List ℕ → List ℕ → Bool
@@ -26,29 +23,29 @@ same_bytes (x ∷ xs) (y ∷ ys) = eqb x y && same_bytes xs ys
 
 -- what stands under a slot's name has "the given bytes and type"
 unfoldable pub is_named : List ℕ → ℕ → Option Load → Bool
-is_named name type none = false
-is_named name type (some v) = eqb v.type type && same_bytes v.bytes name
+is_named name type None = false
+is_named name type (Some v) = eqb v.type type && same_bytes v.bytes name
 
 -- "the lowest id .. or none": of slots whose ids begin at id
-unfoldable pub first_named : List ℕ → ℕ → ℕ → List Slot → Named
-first_named name type id [] = Nothing
-first_named name type id (s ∷ D) = cond (is_named name type (s 0)) (At id) (first_named name type (suc id) D)
+unfoldable pub first_named : List ℕ → ℕ → ℕ → List Slot → Result (Option ℕ) Refusal
+first_named name type id [] = (Ok None)
+first_named name type id (s ∷ D) = cond (is_named name type (s 0)) (Ok (Some id)) (first_named name type (suc id) D)
 
 -- of a log: "an irregular log is -202"
-unfoldable pub find_in : Rules → List ℕ → ℕ → List Event → Named
-find_in r name type es = cond (Regular r es) (first_named name type 0 (dir_of es)) (Refused Irregular)
+unfoldable pub find_in : Rules → List ℕ → ℕ → List Event → Result (Option ℕ) Refusal
+find_in r name type es = cond (Regular r es) (first_named name type 0 (dir_of es)) (Err Irregular)
 
 -- fetch's own refusals, or the block that it answers from
-abbrev pub find_fetched : Rules → List ℕ → ℕ → List ℕ → List ℕ → ℕ → Fetched → Named
-find_fetched r name type b0 b1 n0 (fetched.Refused q) = Refused q
-find_fetched r name type b0 b1 n0 (fetched.Found m s) = find_in r name type (log (block_at (is_second n0 m) b0 b1))
+abbrev pub find_fetched : Rules → List ℕ → ℕ → List ℕ → List ℕ → ℕ → Result Fetched Refusal → Result (Option ℕ) Refusal
+find_fetched r name type b0 b1 n0 (Err q) = Err q
+find_fetched r name type b0 b1 n0 (Ok f) = find_in r name type (log (block_at (is_second n0 f.dir) b0 b1))
 
 -- what a call asks of a rule and a name: 0 or 1, and "an empty name is -22"
 abbrev pub askable : ℕ → List ℕ → Bool
 askable rules name = rules_fit rules && not (eqb (length name) 0)
 
 -- `lfs_dir_find`: -22 (sizes, numbers, empty name), fetch's own, -202; -22 of the sizes and numbers comes from fetch
-unfoldable pub find_of : Geometry → List ℕ → List ℕ → ℕ → ℕ → ℕ → ℕ → ℕ → List ℕ → ℕ → Named
+unfoldable pub find_of : Geometry → List ℕ → List ℕ → ℕ → ℕ → ℕ → ℕ → ℕ → List ℕ → ℕ → Result (Option ℕ) Refusal
 find_of g b0 b1 n0 n1 count seed rules name type =
-    cond (not (askable rules name)) (Refused Invalid)
+    cond (not (askable rules name)) (Err Invalid)
     (find_fetched (rules_of rules) name type b0 b1 n0 (fetch_of g b0 b1 n0 n1 count seed))

@@ -1,6 +1,6 @@
 -- What the program `find` shows: "the slot's line and its attributes as the listing does, or .. that there is none".
 -- Assumes nothing.
-use Rattle.std.specs.Prelude.{cond, List, ℕ, length, get_or, eqb}
+use Rattle.std.specs.Prelude.{cond, List, ℕ, length, get_or, eqb, Err, None, Ok, Option, Result, Some}
 use Rattle.format.specs.Log.{log}
 use Rattle.format.specs.Regular.{rules_of}
 use Rattle.format.specs.Directory.{Slot, empty, dir_of}
@@ -10,14 +10,13 @@ use Rattle.format.specs.declared.Rules.{Rules}
 use Rattle.format.specs.declared.LfsPair.{LfsPair}
 use Rattle.format.specs.declared.LfsMdir.{LfsMdir}
 use Rattle.format.specs.declared.Refusal.TheVariants.{Invalid}
-use Rattle.format.specs.declared.Named.{Named}
-use Rattle.format.specs.declared.Named.TheVariants.{At, Nothing, Refused}
+use Rattle.format.specs.declared.Refusal.{Refusal}
 
 -- an answer, of a directory
-unfoldable pub named_text : List Slot → Named → List ℕ
-named_text D (At id) = slot_text id (get_or D id empty)
-named_text D Nothing = ascii "none\n"
-named_text D (Refused r) = refused_line r
+unfoldable pub named_text : List Slot → Result (Option ℕ) Refusal → List ℕ
+named_text D (Ok (Some id)) = slot_text id (get_or D id empty)
+named_text D (Ok None) = ascii "none\n"
+named_text D (Err r) = refused_line r
 
 -- of the block that fetch answers from
 unfoldable pub found_text : Rules → List ℕ → ℕ → LfsMdir → List ℕ → List ℕ

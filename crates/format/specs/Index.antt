@@ -2,8 +2,7 @@
 -- attribute of each slot stands, and answer from it." The table of a log, said of the directory machine; what is
 -- answered from any table; and how an entry alters one, by which a table is extended. That the three agree are theorems
 -- (`index_answers` and `index_extends` of promises). Assumes nothing.
-use Rattle.std.specs.Prelude.{Bool, true, not, cond, ◌&&◌, List, [], ◌∷◌, ◌++◌, ℕ, zero, suc, ◌+◌, ◌-◌, ◌*◌, ◌/◌, ◌^◌, length, take, drop, replicate, get_or, leb, ltb, eqb}
-use Rattle.std.proofs.Math.Option.{Option, none, some}
+use Rattle.std.specs.Prelude.{Bool, true, not, cond, ◌&&◌, List, [], ◌∷◌, ◌++◌, ℕ, zero, suc, ◌+◌, ◌-◌, ◌*◌, ◌/◌, ◌^◌, length, take, drop, replicate, get_or, leb, ltb, eqb, Err, None, Ok, Option, Result, Some}
 use Rattle.format.specs.Word.{plus32}
 use Rattle.format.specs.Tag.{tag_id, tag_size, tag_length, tag_of}
 use Rattle.format.specs.Kind.{no_slot}
@@ -19,13 +18,8 @@ use Rattle.format.specs.declared.LfsMdir.{LfsMdir}
 use Rattle.format.specs.declared.Rules.{Rules}
 use Rattle.format.specs.declared.Refusal.TheVariants.{Invalid, Irregular, TableFull}
 use Rattle.format.specs.declared.Fetched.{Fetched}
-use Rattle.format.specs.declared.Fetched.TheVariants as fetched
-use Rattle.format.specs.declared.Hit.{Hit}
-use Rattle.format.specs.declared.Hit.TheVariants as hit
-use Rattle.format.specs.declared.Got.{Got}
-use Rattle.format.specs.declared.Got.TheVariants as got
-use Rattle.format.specs.declared.Indexed.{Indexed}
-use Rattle.format.specs.declared.Indexed.TheVariants as indexed
+use Rattle.format.specs.declared.Found.{Found}
+use Rattle.format.specs.declared.Refusal.{Refusal}
 
 -- ---- the table of a log
 -- An entry whose tag t stands at `off`, as the directory machine takes it, with two numbers for its bytes: how many
@@ -43,8 +37,8 @@ placed_from off (inv ∷ es) = placed_from off es
 -- "A place is two words: the live entry's tag (its type, the slot's PRESENT id, its size) and the block offset of its
 -- first data byte." Of what stands under a class: one place, or none.
 abbrev pub class_places : ℕ → Option Load → List ℕ
-class_places id none = []
-class_places id (some v) = tag_of v.type id (get_or v.bytes 0 0) ∷ get_or v.bytes 1 0 ∷ []
+class_places id None = []
+class_places id (Some v) = tag_of v.type id (get_or v.bytes 0 0) ∷ get_or v.bytes 1 0 ∷ []
 
 -- "in a slot name, struct, attributes by rising type": n classes from c on
 unfoldable pub slot_places : ℕ → ℕ → ℕ → Slot → List ℕ
@@ -91,24 +85,24 @@ abbrev pub index_fits : Geometry → List ℕ → List ℕ → ℕ → ℕ → L
 index_fits g b0 b1 n0 n1 dir rules = record_fits g (length b0) (length b1) n0 n1 dir && rules_fit rules
 
 -- ---- what a table can hold: places, or that there are too many. What is answered, and the table of n words.
-abbrev pub indexed_as : Option (List ℕ) → Indexed
-indexed_as none = indexed.Refused TableFull
-indexed_as (some P) = indexed.Places (length P / 2)
+abbrev pub indexed_as : Option (List ℕ) → Result ℕ Refusal
+indexed_as None = Err TableFull
+indexed_as (Some P) = Ok (length P / 2)
 
 -- "and the table is then all zero"
 abbrev pub table_as : ℕ → Option (List ℕ) → List ℕ
-table_as n none = replicate n 0
-table_as n (some P) = padded n P
+table_as n None = replicate n 0
+table_as n (Some P) = padded n P
 
 -- what a build comes to, in n words
 unfoldable pub built : ℕ → List Event → Option (List ℕ)
-built n es = cond (all_fit n es) (some (places_of es)) none
+built n es = cond (all_fit n es) (Some (places_of es)) None
 
 -- ---- `lfs_dir_index`
-unfoldable pub index_of : Geometry → List ℕ → List ℕ → ℕ → ℕ → LfsMdir → ℕ → List ℕ → Indexed
+unfoldable pub index_of : Geometry → List ℕ → List ℕ → ℕ → ℕ → LfsMdir → ℕ → List ℕ → Result ℕ Refusal
 index_of g b0 b1 n0 n1 dir rules table =
-    cond (not (index_fits g b0 b1 n0 n1 dir rules)) (indexed.Refused Invalid)
-    (cond (not (indexable (rules_of rules) (block_of b0 b1 n0 dir) dir.off)) (indexed.Refused Irregular)
+    cond (not (index_fits g b0 b1 n0 n1 dir rules)) (Err Invalid)
+    (cond (not (indexable (rules_of rules) (block_of b0 b1 n0 dir) dir.off)) (Err Irregular)
     (indexed_as (built (length table) (log_to (block_of b0 b1 n0 dir) dir.off))))
 
 -- "-202 .., table unchanged; then -221 .., and the table is then all zero"
@@ -154,24 +148,24 @@ is_at r P i = ltb i (length P / 2) && eqb (rank_of (tag_in P i)) r
 
 -- ---- `lfs_dir_index_get`: "any 0x0xx asks the name, any 0x2xx the struct, 0x300 to 0x3ff that attribute; any other
 -- type, and an id that the table has not (above 1,023 too), finds nothing: -2". What the table says of it.
-abbrev pub place_hit : List ℕ → ℕ → Hit
-place_hit P i = hit.Found (record { tag = tag_in P i; length = tag_length (tag_in P i); off = off_in P i })
+abbrev pub place_hit : List ℕ → ℕ → Option Found
+place_hit P i = Some (record { tag = tag_in P i; length = tag_length (tag_in P i); off = off_in P i })
 
 abbrev pub askable : ℕ → ℕ → Bool
 askable type id = ltb type (2 ^ 11) && leb id no_slot && ltb (seat_class (type * 2 ^ 20)) classes
 
-unfoldable pub index_hit : List ℕ → ℕ → ℕ → Hit
+unfoldable pub index_hit : List ℕ → ℕ → ℕ → Option Found
 index_hit table type id =
     let r : ℕ = rank_at id (seat_class (type * 2 ^ 20)) in
-    cond (askable type id && is_at r table (seek r table)) (place_hit table (seek r table)) hit.Nothing
+    cond (askable type id && is_at r table (seek r table)) (place_hit table (seek r table)) None
 
 -- -22 as a lookup. "what it says is checked against the block (an offset past it is -84), and nothing else is asked of
 -- it"
-unfoldable pub index_get_of : Geometry → List ℕ → List ℕ → ℕ → ℕ → LfsMdir → List ℕ → ℕ → ℕ → List ℕ → Got
+unfoldable pub index_get_of : Geometry → List ℕ → List ℕ → ℕ → ℕ → LfsMdir → List ℕ → ℕ → ℕ → List ℕ → Result Found Refusal
 index_get_of g b0 b1 n0 n1 dir table type id buffer =
     cond (getslice_fits g b0 b1 n0 n1 dir buffer)
     (slice_answer (block_of b0 b1 n0 dir) 0 (length buffer) (index_hit table type id))
-    (got.Refused Invalid)
+    (Err Invalid)
 
 unfoldable pub index_get_buffer : Geometry → List ℕ → List ℕ → ℕ → ℕ → LfsMdir → List ℕ → ℕ → ℕ → List ℕ → List ℕ
 index_get_buffer g b0 b1 n0 n1 dir table type id buffer =
@@ -214,15 +208,15 @@ place_cleared r P = let p : ℕ = seek r P in take (2 * p) P ++ drop (cond (is_a
 unfoldable pub places_after : List ℕ → Act → List ℕ
 places_after P (mk j) = slot_made j P
 places_after P (rm j) = slot_removed j P
-places_after P (put j c none) = place_cleared (rank_at j c) P
-places_after P (put j c (some v)) = place_set (rank_at j c) (tag_of v.type j (get_or v.bytes 0 0))
+places_after P (put j c None) = place_cleared (rank_at j c) P
+places_after P (put j c (Some v)) = place_set (rank_at j c) (tag_of v.type j (get_or v.bytes 0 0))
     (get_or v.bytes 1 0) P
 places_after P skip = P
 
 -- more entries, in a table of n words
 unfoldable pub ran_on : ℕ → List ℕ → List Act → Option (List ℕ)
-ran_on n P [] = some P
-ran_on n P (a ∷ l) = cond (leb (length (places_after P a)) n) (ran_on n (places_after P a) l) none
+ran_on n P [] = Some P
+ran_on n P (a ∷ l) = cond (leb (length (places_after P a)) n) (ran_on n (places_after P a) l) None
 
 -- ---- `lfs_dir_index_extend`
 -- the places of any table: those before the first that is zero
@@ -248,10 +242,10 @@ new_acts b old end = placed_from old (drop (length (log_to b old)) (log_to b end
 abbrev pub extended : List ℕ → List ℕ → ℕ → ℕ → Option (List ℕ)
 extended table b old end = ran_on (length table) (leading table) (new_acts b old end)
 
-unfoldable pub extend_of : Geometry → List ℕ → List ℕ → ℕ → ℕ → LfsMdir → LfsMdir → ℕ → List ℕ → Indexed
+unfoldable pub extend_of : Geometry → List ℕ → List ℕ → ℕ → ℕ → LfsMdir → LfsMdir → ℕ → List ℕ → Result ℕ Refusal
 extend_of g b0 b1 n0 n1 old dir rules table =
-    cond (not (extend_fits g b0 b1 n0 n1 old dir rules)) (indexed.Refused Invalid)
-    (cond (not (extendable (rules_of rules) (block_of b0 b1 n0 dir) old.off dir.off)) (indexed.Refused Irregular)
+    cond (not (extend_fits g b0 b1 n0 n1 old dir rules)) (Err Invalid)
+    (cond (not (extendable (rules_of rules) (block_of b0 b1 n0 dir) old.off dir.off)) (Err Irregular)
     (indexed_as (extended table (block_of b0 b1 n0 dir) old.off dir.off)))
 
 unfoldable pub extend_table : Geometry → List ℕ → List ℕ → ℕ → ℕ → LfsMdir → LfsMdir → ℕ → List ℕ → List ℕ
@@ -266,9 +260,9 @@ extend_table g b0 b1 n0 n1 old dir rules table =
 abbrev pub table_renewed : Rules → List Event → List ℕ → List ℕ
 table_renewed r es table = cond (not (Regular r es)) table (table_as (length table) (built (length table) es))
 
-abbrev pub table_fetched : Rules → List ℕ → List ℕ → ℕ → List ℕ → Fetched → List ℕ
-table_fetched r b0 b1 n0 table (fetched.Refused q) = table
-table_fetched r b0 b1 n0 table (fetched.Found m s) = table_renewed r (log (block_at (is_second n0 m) b0 b1)) table
+abbrev pub table_fetched : Rules → List ℕ → List ℕ → ℕ → List ℕ → Result Fetched Refusal → List ℕ
+table_fetched r b0 b1 n0 table (Err q) = table
+table_fetched r b0 b1 n0 table (Ok f) = table_renewed r (log (block_at (is_second n0 f.dir) b0 b1)) table
 
 unfoldable pub compact_table : Geometry → List ℕ → List ℕ → ℕ → ℕ → ℕ → ℕ → ℕ → ℕ → List ℕ → List ℕ
 compact_table g b0 b1 n0 n1 count seed rules e table =

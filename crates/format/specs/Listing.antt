@@ -1,8 +1,7 @@
 -- Document 01, Cases: the text of the listing program, byte by byte. "A listing program takes both images on standard
 -- input (block size is half the length, program size 16, numbers 0 and 1, block count 0, seed 0; an odd length or one
 -- above 65,536 is -22)." Assumes nothing.
-use Rattle.std.specs.Prelude.{Bool, not, cond, ◌&&◌, ◌||◌, List, [], ◌∷◌, ◌++◌, ℕ, zero, suc, ◌+◌, ◌/◌, ◌%◌, ◌^◌, ℤ, pos, negsuc, length, take, drop, leb, ltb, eqb}
-use Rattle.std.proofs.Math.Option.{Option, none, some}
+use Rattle.std.specs.Prelude.{Bool, not, cond, ◌&&◌, ◌||◌, List, [], ◌∷◌, ◌++◌, ℕ, zero, suc, ◌+◌, ◌/◌, ◌%◌, ◌^◌, ℤ, pos, negsuc, length, take, drop, leb, ltb, eqb, Err, None, Ok, Option, Result, Some}
 use Prim.Native.Char.{code}
 use Prim.Native.String as string
 use Prim.Native.String.{String}
@@ -20,7 +19,6 @@ use Rattle.format.specs.declared.LfsMdir.{LfsMdir}
 use Rattle.format.specs.declared.Refusal.{Refusal}
 use Rattle.format.specs.declared.Refusal.TheVariants.{Invalid, Irregular}
 use Rattle.format.specs.declared.Fetched.{Fetched}
-use Rattle.format.specs.declared.Fetched.TheVariants.{Found, Refused}
 
 -- ---- letters and numbers
 -- a text as its bytes
@@ -93,12 +91,12 @@ record_lines m =
 -- ---- the directory "Slot: id, name type, name, struct type, struct length; a missing part prints `-` per field." Each
 -- field stands behind a space.
 unfoldable pub name_fields : Option Load → List ℕ
-name_fields none = ascii " - -"
-name_fields (some v) = ascii " " ++ (hex_type v.type ++ (ascii " " ++ name_bytes v.bytes))
+name_fields None = ascii " - -"
+name_fields (Some v) = ascii " " ++ (hex_type v.type ++ (ascii " " ++ name_bytes v.bytes))
 
 unfoldable pub struct_fields : Option Load → List ℕ
-struct_fields none = ascii " - -\n"
-struct_fields (some v) = ascii " " ++ (hex_type v.type ++ number_line (ascii " ") (length v.bytes))
+struct_fields None = ascii " - -\n"
+struct_fields (Some v) = ascii " " ++ (hex_type v.type ++ number_line (ascii " ") (length v.bytes))
 
 unfoldable pub slot_line : ℕ → Slot → List ℕ
 slot_line id s = ascii "slot " ++ (decimal id ++ (name_fields (s 0) ++ struct_fields (s 1)))
@@ -109,8 +107,8 @@ attr_data [] = ascii "-"
 attr_data (b ∷ bs) = hex_bytes (b ∷ bs)
 
 unfoldable pub attr_line : ℕ → Option Load → List ℕ
-attr_line id none = []
-attr_line id (some v) = ascii "attr "
+attr_line id None = []
+attr_line id (Some v) = ascii "attr "
     ++ (decimal id ++ (ascii " " ++ (hex_type v.type ++ (ascii " " ++ (attr_data v.bytes ++ ascii "\n")))))
 
 -- what a slot holds under n classes from c on
@@ -149,17 +147,17 @@ block_text r m b = record_lines m ++ dir_lines r b
 abbrev pub input_geometry : ℕ → ℕ → Geometry
 input_geometry prog size = record { block_size = size; prog_size = prog }
 
-unfoldable pub fetch_input : ℕ → LfsPair → List ℕ → Fetched
+unfoldable pub fetch_input : ℕ → LfsPair → List ℕ → Result Fetched Refusal
 fetch_input prog p input =
-    cond (eqb (length input % 2) 1 || ltb 65_536 (length input)) (Refused Invalid)
+    cond (eqb (length input % 2) 1 || ltb 65_536 (length input)) (Err Invalid)
     (fetch_of (input_geometry prog (length input / 2)) (take (length input / 2) input) (drop (length input / 2) input)
     p.n0 p.n1 0 0)
 
 -- the text of what fetch answered: a refusal's line, or what `shows` says of the record and of the block that answers
-abbrev pub fetched_text : (LfsMdir → List ℕ → List ℕ) → LfsPair → List ℕ → Fetched → List ℕ
-fetched_text shows p input (Refused r) = refused_line r
-fetched_text shows p input (Found m s) =
-    shows m (block_at (is_second p.n0 m) (take (length input / 2) input) (drop (length input / 2) input))
+abbrev pub fetched_text : (LfsMdir → List ℕ → List ℕ) → LfsPair → List ℕ → Result Fetched Refusal → List ℕ
+fetched_text shows p input (Err r) = refused_line r
+fetched_text shows p input (Ok f) =
+    shows f.dir (block_at (is_second p.n0 f.dir) (take (length input / 2) input) (drop (length input / 2) input))
 
 -- a text that goes by a rule: 0 or 1, "any other -22"
 abbrev pub ruled_text : ℕ → List ℕ → List ℕ

@@ -1,14 +1,12 @@
 -- Document 01, Lookup: the search in the tags met on the way back. "Key and running difference are 32-bit words that
 -- wrap." A pending move only lowers the difference that the search starts with. Assumes nothing.
-use Rattle.std.specs.Prelude.{Bool, cond, ◌&&◌, List, [], ◌∷◌, ℕ, suc, ◌+◌, ◌-◌, ◌*◌, ◌%◌, ◌^◌, ◌≤◌, ◌<◌, take, drop, leb, eqb, ℤ, pos, negsuc}
+use Rattle.std.specs.Prelude.{Bool, cond, ◌&&◌, List, [], ◌∷◌, ℕ, suc, ◌+◌, ◌-◌, ◌*◌, ◌%◌, ◌^◌, ◌≤◌, ◌<◌, take, drop, leb, eqb, ℤ, pos, negsuc, None, Option, Some}
 use Rattle.std.specs.Int.Bits.{bit_and}
 use Rattle.format.specs.Word.{plus32, minus32}
 use Rattle.format.specs.Tag.{tag_splice, tag_id, removal_size, tag_delete, tag_length, tag_of}
 use Rattle.format.specs.Kind.{is_splice, type_create}
 use Rattle.format.specs.Back.{Met}
 use Rattle.format.specs.declared.Found.{Found}
-use Rattle.format.specs.declared.Hit.{Hit}
-use Rattle.format.specs.declared.Hit.TheVariants as hit
 
 -- The entry of the tag t that stands at `off`, found with the difference `diff`. "The answer is the tag plus the
 -- difference"; document 02, L3: "the stored length and the offset of the first data byte beside the tag".
@@ -29,9 +27,9 @@ pub record FoundIn (n : ℕ) (e : Found) : Type 0 where
   pub kept : data_size e < removal_size
   pub inside : e.off + data_size e ≤ n
 
-abbrev pub HitIn : ℕ → Hit → Type 0
-HitIn n hit.Nothing = Unit {0}
-HitIn n (hit.Found e) = FoundIn n e
+abbrev pub HitIn : ℕ → Option Found → Type 0
+HitIn n None = Unit {0}
+HitIn n (Some e) = FoundIn n e
 
 -- The masks of the directory lookups: "newest name (type under 0x700), struct (under 0x700)", both with the id; "0x7ff
 -- for each attribute type", with the id; "the move state (0x7ff, no ids)".
@@ -63,10 +61,10 @@ diff_after ids t key diff = cond (spliced_at ids t (minus32 key diff)) (plus32 d
 
 -- "each splice at or below the adjusted id answers -2 if it is exactly create at that id with size 0, else adds its
 -- splice, as ids, to the difference. A match that is a removal answers -2."
-unfoldable pub wlook : Bool → ℕ → ℕ → ℕ → List Met → Hit
-wlook ids mask key diff [] = hit.Nothing
+unfoldable pub wlook : Bool → ℕ → ℕ → ℕ → List Met → Option Found
+wlook ids mask key diff [] = None
 wlook ids mask key diff (m ∷ ms) =
-    cond (spliced_at ids m.tag (minus32 key diff) && eqb m.tag (create_at (minus32 key diff))) hit.Nothing
+    cond (spliced_at ids m.tag (minus32 key diff) && eqb m.tag (create_at (minus32 key diff))) None
     (cond (eqb (bit_and m.tag mask) (bit_and (minus32 key (diff_after ids m.tag key diff)) mask))
-    (cond (tag_delete m.tag) hit.Nothing (hit.Found (found_at m.tag m.off (diff_after ids m.tag key diff))))
+    (cond (tag_delete m.tag) None (Some (found_at m.tag m.off (diff_after ids m.tag key diff))))
     (wlook ids mask key (diff_after ids m.tag key diff) ms))

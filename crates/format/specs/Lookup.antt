@@ -1,6 +1,6 @@
 -- Document 01, Lookup: the answers of `lfs_dir_getslice`, `lfs_dir_get`, `lfs_dir_getinfo` and `lfs_dir_getgstate`, and
 -- what they leave in a buffer, an info or a state. Assumes nothing.
-use Rattle.std.specs.Prelude.{Bool, not, cond, ◌&&◌, List, ◌∷◌, ◌++◌, ℕ, ◌+◌, ◌-◌, ◌%◌, ◌^◌, min, length, take, drop, replicate, leb, ltb, eqb}
+use Rattle.std.specs.Prelude.{Bool, not, cond, ◌&&◌, List, ◌∷◌, ◌++◌, ℕ, ◌+◌, ◌-◌, ◌%◌, ◌^◌, min, length, take, drop, replicate, leb, ltb, eqb, Err, None, Ok, Option, Result, Some}
 use Rattle.format.specs.Word.{le32, minus32}
 use Rattle.format.specs.Tag.{tag_type3, tag_id, tag_size, tag_of}
 use Rattle.format.specs.Kind.{type_directory, type_dir_struct, type_inline_struct, type_ctz_struct, type_name, type_move}
@@ -17,13 +17,7 @@ use Rattle.format.specs.declared.LfsGstate.{LfsGstate}
 use Rattle.format.specs.declared.Refusal.{Refusal}
 use Rattle.format.specs.declared.Refusal.TheVariants.{Invalid, Corrupt, NoEntry}
 use Rattle.format.specs.declared.Found.{Found}
-use Rattle.format.specs.declared.Hit.{Hit}
-use Rattle.format.specs.declared.Hit.TheVariants as hit
-use Rattle.format.specs.declared.Got.{Got}
-use Rattle.format.specs.declared.Got.TheVariants as got
-use Rattle.format.specs.declared.Altered.{Altered}
-use Rattle.format.specs.declared.Altered.TheVariants as altered
-use Rattle.format.specs.declared.Informed.{Informed}
+use Rattle.format.specs.declared.LfsInfo.{LfsInfo}
 
 -- ---- where a lookup looks "a record whose pair isn't the two given numbers in either order or whose end passes the
 -- block" is -22, as a broken size or number is
@@ -42,15 +36,15 @@ abbrev pub has_ids : ℕ → Bool
 has_ids mask = not (eqb (tag_id mask) 0)
 
 -- "The walk goes back from end and end tag", from a difference
-abbrev pub searched_from : List ℕ → LfsMdir → ℕ → ℕ → ℕ → Hit
+abbrev pub searched_from : List ℕ → LfsMdir → ℕ → ℕ → ℕ → Option Found
 searched_from b dir mask key diff = wlook (has_ids mask) mask key diff (back b dir.off dir.etag)
 
 -- "a pending move (global tag's type1 not 0) whose pair shares any block answers -2 at its own id and lowers the
 -- difference by one id above it"
-unfoldable pub searched : List ℕ → LfsMdir → LfsGstate → ℕ → ℕ → Hit
+unfoldable pub searched : List ℕ → LfsMdir → LfsGstate → ℕ → ℕ → Option Found
 searched b dir gdisk mask key =
     cond (has_ids mask && gstate_has_move_here gdisk dir.pair)
-    (cond (eqb (tag_id gdisk.tag) (tag_id key)) hit.Nothing
+    (cond (eqb (tag_id gdisk.tag) (tag_id key)) None
     (cond (ltb (tag_id gdisk.tag) (tag_id key)) (searched_from b dir mask key (minus32 0 (2 ^ 10)))
     (searched_from b dir mask key 0)))
     (searched_from b dir mask key 0)
@@ -64,14 +58,14 @@ slice_start e offset = e.off + offset
 abbrev pub slice_end : Found → ℕ → ℕ → ℕ
 slice_end e offset size = slice_start e offset + min (data_size e) size
 
-abbrev pub slice_answer : List ℕ → ℕ → ℕ → Hit → Got
-slice_answer b offset size hit.Nothing = got.Refused NoEntry
-slice_answer b offset size (hit.Found e) =
-    cond (leb (slice_end e offset size) (length b)) (got.Found e) (got.Refused Corrupt)
+abbrev pub slice_answer : List ℕ → ℕ → ℕ → Option Found → Result Found Refusal
+slice_answer b offset size None = Err NoEntry
+slice_answer b offset size (Some e) =
+    cond (leb (slice_end e offset size) (length b)) (Ok e) (Err Corrupt)
 
-abbrev pub slice_buffer : List ℕ → ℕ → List ℕ → Hit → List ℕ
-slice_buffer b offset buffer hit.Nothing = buffer
-slice_buffer b offset buffer (hit.Found e) =
+abbrev pub slice_buffer : List ℕ → ℕ → List ℕ → Option Found → List ℕ
+slice_buffer b offset buffer None = buffer
+slice_buffer b offset buffer (Some e) =
     cond (leb (slice_end e offset (length buffer)) (length b))
     (take (min (data_size e) (length buffer)) (drop (slice_start e offset) b)
     ++ replicate (length buffer - data_size e) 0)
@@ -87,11 +81,11 @@ getslice_fits g b0 b1 n0 n1 dir buffer = record_fits g (length b0) (length b1) n
     && leb (length buffer) longest_buffer
 
 -- "A lookup tests -22 first .. then it walks".
-unfoldable pub getslice_of : Geometry → List ℕ → List ℕ → ℕ → ℕ → LfsMdir → LfsGstate → ℕ → ℕ → ℕ → List ℕ → Got
+unfoldable pub getslice_of : Geometry → List ℕ → List ℕ → ℕ → ℕ → LfsMdir → LfsGstate → ℕ → ℕ → ℕ → List ℕ → Result Found Refusal
 getslice_of g b0 b1 n0 n1 dir gdisk mask key offset buffer =
     cond (getslice_fits g b0 b1 n0 n1 dir buffer)
     (slice_answer (block_of b0 b1 n0 dir) offset (length buffer) (searched (block_of b0 b1 n0 dir) dir gdisk mask key))
-    (got.Refused Invalid)
+    (Err Invalid)
 
 unfoldable pub getslice_buffer : Geometry → List ℕ → List ℕ → ℕ → ℕ → LfsMdir → LfsGstate → ℕ → ℕ → ℕ → List ℕ → List ℕ
 getslice_buffer g b0 b1 n0 n1 dir gdisk mask key offset buffer =
@@ -104,10 +98,10 @@ getslice_buffer g b0 b1 n0 n1 dir gdisk mask key offset buffer =
 unfoldable pub get_fits : ℕ → List ℕ → Bool
 get_fits key buffer = leb (tag_size key) (length buffer) && leb (length buffer) longest_buffer
 
-unfoldable pub get_of : Geometry → List ℕ → List ℕ → ℕ → ℕ → LfsMdir → LfsGstate → ℕ → ℕ → List ℕ → Got
+unfoldable pub get_of : Geometry → List ℕ → List ℕ → ℕ → ℕ → LfsMdir → LfsGstate → ℕ → ℕ → List ℕ → Result Found Refusal
 get_of g b0 b1 n0 n1 dir gdisk mask key buffer =
     cond (get_fits key buffer) (getslice_of g b0 b1 n0 n1 dir gdisk mask key 0 (take (tag_size key) buffer))
-    (got.Refused Invalid)
+    (Err Invalid)
 
 unfoldable pub get_buffer : Geometry → List ℕ → List ℕ → ℕ → ℕ → LfsMdir → LfsGstate → ℕ → ℕ → List ℕ → List ℕ
 get_buffer g b0 b1 n0 n1 dir gdisk mask key buffer =
@@ -129,21 +123,21 @@ move_key = tag_of type_move 0 12
 abbrev pub gstate_in : List ℕ → LfsGstate
 gstate_in d = record { tag = le32 d; pair = pair_in (drop 4 d) }
 
-abbrev pub move_answer : List ℕ → Hit → Altered
-move_answer b hit.Nothing = altered.Done
-move_answer b (hit.Found e) = cond (leb (slice_end e 0 12) (length b)) altered.Done (altered.Refused Corrupt)
+abbrev pub move_answer : List ℕ → Option Found → Result Unit Refusal
+move_answer b None = Ok tt
+move_answer b (Some e) = cond (leb (slice_end e 0 12) (length b)) (Ok tt) (Err Corrupt)
 
-abbrev pub move_state : List ℕ → LfsGstate → Hit → LfsGstate
-move_state b gstate hit.Nothing = gstate
-move_state b gstate (hit.Found e) =
+abbrev pub move_state : List ℕ → LfsGstate → Option Found → LfsGstate
+move_state b gstate None = gstate
+move_state b gstate (Some e) =
     cond (leb (slice_end e 0 12) (length b))
-    (gstate_xor gstate (gstate_in (slice_buffer b 0 (blank_buffer 12) (hit.Found e)))) gstate
+    (gstate_xor gstate (gstate_in (slice_buffer b 0 (blank_buffer 12) (Some e)))) gstate
 
-unfoldable pub getgstate_of : Geometry → List ℕ → List ℕ → ℕ → ℕ → LfsMdir → LfsGstate → Altered
+unfoldable pub getgstate_of : Geometry → List ℕ → List ℕ → ℕ → ℕ → LfsMdir → LfsGstate → Result Unit Refusal
 getgstate_of g b0 b1 n0 n1 dir gdisk =
     cond (record_fits g (length b0) (length b1) n0 n1 dir)
     (move_answer (block_of b0 b1 n0 dir) (searched (block_of b0 b1 n0 dir) dir gdisk move_mask move_key))
-    (altered.Refused Invalid)
+    (Err Invalid)
 
 -- "The three words of a lent global state are altered where they stand."
 unfoldable pub getgstate_state : Geometry → List ℕ → List ℕ → ℕ → ℕ → LfsMdir → LfsGstate → LfsGstate → LfsGstate
@@ -172,16 +166,9 @@ unfoldable pub getinfo_fits : Geometry → List ℕ → List ℕ → ℕ → ℕ
 getinfo_fits g b0 b1 n0 n1 dir nameMax id =
     record_fits g (length b0) (length b1) n0 n1 dir && leb 1 nameMax && leb nameMax 255 && leb id no_slot
 
--- "A refusal leaves the info all zero."
-abbrev pub info_refused : Refusal → Informed
-info_refused r = record { answer = altered.Refused r; info = record { kind = 0; size = 0; name = blank_buffer 256 } }
-
 -- "id 1,023 is the root, named "/"."
-abbrev pub info_root : Informed
-info_root = record {
-  answer = altered.Done;
-  info = record { kind = type_directory; size = 0; name = 0x2f ∷ blank_buffer 255 };
-}
+abbrev pub info_root : LfsInfo
+info_root = record { kind = type_directory; size = 0; name = 0x2f ∷ blank_buffer 255 }
 
 -- "Ours: size is 0 unless the struct is inline or CTZ": a CTZ struct is its head and its size, little-endian
 abbrev pub info_size : ℕ → List ℕ → ℕ
@@ -189,36 +176,33 @@ info_size t struct = cond (eqb (tag_type3 t) type_ctz_struct) (le32 (drop 4 stru
     (cond (eqb (tag_type3 t) type_inline_struct) (tag_size t) 0)
 
 -- from the answers and the buffers of the two lookups; "name bytes not read are 0"
-abbrev pub info_from : Got → List ℕ → Got → List ℕ → Informed
-info_from (got.Refused r) name u struct = info_refused r
-info_from (got.Found e) name (got.Refused r) struct = info_refused r
-info_from (got.Found e) name (got.Found u) struct =
-    record {
-      answer = altered.Done;
-      info = record {
-        kind = tag_type3 e.tag % 2 ^ 8;
-        size = info_size u.tag struct;
-        name = name ++ blank_buffer (256 - length name);
-      };
-    }
+abbrev pub info_from : Result Found Refusal → List ℕ → Result Found Refusal → List ℕ → Result LfsInfo Refusal
+info_from (Err r) name u struct = Err r
+info_from (Ok e) name (Err r) struct = Err r
+info_from (Ok e) name (Ok u) struct =
+    Ok (record {
+      kind = tag_type3 e.tag % 2 ^ 8;
+      size = info_size u.tag struct;
+      name = name ++ blank_buffer (256 - length name);
+    })
 
 -- a lookup at offset 0 into a blank buffer of n bytes: its answer, and the buffer
-abbrev pub read_answer : List ℕ → ℕ → Hit → Got
+abbrev pub read_answer : List ℕ → ℕ → Option Found → Result Found Refusal
 read_answer b n h = slice_answer b 0 n h
 
-abbrev pub read_buffer : List ℕ → ℕ → Hit → List ℕ
+abbrev pub read_buffer : List ℕ → ℕ → Option Found → List ℕ
 read_buffer b n h = slice_buffer b 0 (blank_buffer n) h
 
-abbrev pub info_of : List ℕ → ℕ → Hit → Hit → Informed
+abbrev pub info_of : List ℕ → ℕ → Option Found → Option Found → Result LfsInfo Refusal
 info_of b nameMax name struct =
     info_from (read_answer b (nameMax + 1) name) (read_buffer b (nameMax + 1) name) (read_answer b 8 struct)
     (read_buffer b 8 struct)
 
-unfoldable pub getinfo_of : Geometry → List ℕ → List ℕ → ℕ → ℕ → LfsMdir → LfsGstate → ℕ → ℕ → Informed
+unfoldable pub getinfo_of : Geometry → List ℕ → List ℕ → ℕ → ℕ → LfsMdir → LfsGstate → ℕ → ℕ → Result LfsInfo Refusal
 getinfo_of g b0 b1 n0 n1 dir gdisk nameMax id =
     cond (getinfo_fits g b0 b1 n0 n1 dir nameMax id)
-    (cond (eqb id no_slot) info_root
+    (cond (eqb id no_slot) (Ok info_root)
     (info_of (block_of b0 b1 n0 dir) nameMax
     (searched (block_of b0 b1 n0 dir) dir gdisk name_mask (name_key id nameMax))
     (searched (block_of b0 b1 n0 dir) dir gdisk struct_mask (struct_key id))))
-    (info_refused Invalid)
+    (Err Invalid)

@@ -1,7 +1,6 @@
 -- Document 01: "lookup with these masks equals a simple directory machine: slots inserted, removed, attributes set".
 -- The machine, with tail and move state, and what the directory lookups give of it. Assumes nothing.
-use Rattle.std.specs.Prelude.{Bool, true, false, ◌&&◌, List, ◌++◌, ℕ, ◌+◌, ◌-◌, length, take, replicate, get_or, ltb}
-use Rattle.std.proofs.Math.Option.{Option, none, some}
+use Rattle.std.specs.Prelude.{Bool, true, false, ◌&&◌, List, ◌++◌, ℕ, ◌+◌, ◌-◌, length, take, replicate, get_or, ltb, Err, None, Ok, Option, Result, Some}
 use Rattle.format.specs.Kind.{type_name, type_dir_struct, type_user_attr, type_move, no_slot}
 use Rattle.format.specs.Walk.{Event}
 use Rattle.format.specs.Record.{no_tail, tail_of, split_of}
@@ -10,8 +9,7 @@ use Rattle.format.specs.Tag.{tag_of}
 use Rattle.format.specs.Look.{mask_type1, mask_type3, mask_move}
 use Rattle.format.specs.declared.LfsPair.{LfsPair}
 use Rattle.format.specs.declared.Refusal.TheVariants.{NoEntry}
-use Rattle.format.specs.declared.Word.{Word}
-use Rattle.format.specs.declared.Word.TheVariants as word
+use Rattle.format.specs.declared.Refusal.{Refusal}
 
 -- ---- the machine
 -- all that a pair holds: its slots, its tail (hard where `split`) and its move state
@@ -23,7 +21,7 @@ pub record Machine : Type 0 where
 
 -- the machine of a log
 abbrev pub machine_of : List Event → Machine
-machine_of es = record { slots = dir_of es; split = split_of false es; tail = tail_of no_tail es; move = move_of none es }
+machine_of es = record { slots = dir_of es; split = split_of false es; tail = tail_of no_tail es; move = move_of None es }
 
 -- the machine after more entries
 abbrev pub ran : Machine → List Event → Machine
@@ -79,11 +77,11 @@ ask_id move = no_slot
 
 -- the answer's word: a tag of what is there, its type, id and length; "-2 | .. lookup: no entry". A machine has no
 -- places.
-abbrev pub held_word : ℕ → Option Load → Word
-held_word id none = word.Refused NoEntry
-held_word id (some v) = word.Is (tag_of v.type id (length v.bytes))
+abbrev pub held_word : ℕ → Option Load → Result ℕ Refusal
+held_word id None = Err NoEntry
+held_word id (Some v) = Ok (tag_of v.type id (length v.bytes))
 
 -- "min(size, buffer length) bytes are read ..; the rest of the buffer is zeroed"
 abbrev pub held_buffer : List ℕ → Option Load → List ℕ
-held_buffer buffer none = buffer
-held_buffer buffer (some v) = take (length buffer) v.bytes ++ replicate (length buffer - length v.bytes) 0
+held_buffer buffer None = buffer
+held_buffer buffer (Some v) = take (length buffer) v.bytes ++ replicate (length buffer - length v.bytes) 0

@@ -2,7 +2,7 @@
 -- the block is committed; at last which block answers. It is a function of the walk's own events, so it shows
 -- irregular, torn and foreign blocks too. Document 01 has no such text: columns and names follow littlefs's own script
 -- readmdir.py. Assumes nothing.
-use Rattle.std.specs.Prelude.{Bool, cond, ◌&&◌, ◌||◌, List, [], ◌∷◌, ◌++◌, ℕ, zero, suc, ◌+◌, ◌-◌, ◌/◌, ◌%◌, length, take, drop, leb, ltb, eqb}
+use Rattle.std.specs.Prelude.{Bool, cond, ◌&&◌, ◌||◌, List, [], ◌∷◌, ◌++◌, ℕ, zero, suc, ◌+◌, ◌-◌, ◌/◌, ◌%◌, length, take, drop, leb, ltb, eqb, Err, Ok, Result}
 use Rattle.format.specs.Word.{be32, le32, to_be32, xor, all_ones}
 use Rattle.format.specs.Tag.{tag_type1, tag_type3, tag_id, tag_size, tag_delete, tag_length, tag_flipped}
 use Rattle.format.specs.Kind.{type_name, type_file, type_directory, type_superblock, type_dir_struct, type_inline_struct}
@@ -14,7 +14,7 @@ use Rattle.format.specs.Log.{log, log_end}
 use Rattle.format.specs.Listing.{ascii, decimal, hex_byte, hex_bytes, hex_type, number_line, refused_line, fetch_input}
 use Rattle.format.specs.declared.LfsPair.{LfsPair}
 use Rattle.format.specs.declared.Fetched.{Fetched}
-use Rattle.format.specs.declared.Fetched.TheVariants.{Found, Refused}
+use Rattle.format.specs.declared.Refusal.{Refusal}
 
 -- ---- numbers
 -- a word in hex, eight digits
@@ -214,9 +214,9 @@ block_log full n b =
 unfoldable pub answers_line : ℕ → List ℕ
 answers_line n = ascii "block " ++ (decimal n ++ ascii " answers\n")
 
-abbrev pub answer_line : Fetched → List ℕ
-answer_line (Refused r) = refused_line r
-answer_line (Found m s) = answers_line m.pair.n0
+abbrev pub answer_line : Result Fetched Refusal → List ℕ
+answer_line (Err r) = refused_line r
+answer_line (Ok f) = answers_line f.dir.pair.n0
 
 -- "Block size 128 to 32,768": an input of a length that can't be two such blocks is refused, and nothing of it is
 -- shown.

@@ -10,6 +10,8 @@ use Rattle.format.specs.Walk.{Event, ent, chk, inv}
 use Rattle.format.specs.Count.{count_named, count_spliced}
 use Rattle.format.specs.declared.LfsPair.{LfsPair}
 use Rattle.format.specs.declared.LfsFcrc.{LfsFcrc}
+use Rattle.format.specs.declared.LfsMdir.{LfsMdir}
+use Rattle.format.specs.declared.Fetched.{Fetched}
 
 -- "Name: count becomes at least id + 1. Splice (type1 0x400): count plus splice, raised to 0 if below, then modulo
 -- 65,536."
@@ -66,3 +68,7 @@ seed_of seed [] = seed
 seed_of seed (ent t d ∷ es) = seed_of seed es
 seed_of seed (chk t x ∷ es) = seed_of (crc seed (to_le32 x)) es
 seed_of seed (inv ∷ es) = seed_of seed es
+
+-- what fetch found: the record, and the seed behind it
+abbrev pub fetched : LfsMdir → ℕ → Fetched
+fetched m s = record { dir = m; seed = s }

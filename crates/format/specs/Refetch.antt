@@ -1,6 +1,6 @@
 -- Document 02, L6: "Refetch from the known end." The answer of `lfs_dir_refetch`, for any record, seed and images: the
 -- walk goes on at the record's end, and what it commits there is added to the record. Assumes nothing.
-use Rattle.std.specs.Prelude.{◌≡◌, ◌⊎◌, Bool, not, cond, ◌&&◌, ◌||◌, List, ℕ, ◌+◌, ◌-◌, ◌%◌, length, drop, leb, eqb}
+use Rattle.std.specs.Prelude.{◌≡◌, ◌⊎◌, Bool, not, cond, ◌&&◌, ◌||◌, List, ℕ, ◌+◌, ◌-◌, ◌%◌, length, drop, leb, eqb, Err, Ok, Result}
 use Rattle.format.specs.Word.{all_ones}
 use Rattle.format.specs.Tag.{tag_length}
 use Rattle.format.specs.Kind.{is_check}
@@ -14,7 +14,8 @@ use Rattle.format.specs.declared.LfsFcrc.{LfsFcrc}
 use Rattle.format.specs.declared.LfsMdir.{LfsMdir}
 use Rattle.format.specs.declared.Refusal.TheVariants.{Invalid, Corrupt, TooMany}
 use Rattle.format.specs.declared.Fetched.{Fetched}
-use Rattle.format.specs.declared.Fetched.TheVariants.{Found, Refused}
+use Rattle.format.specs.declared.Refusal.{Refusal}
+use Rattle.format.specs.Record.{fetched}
 
 -- "A record whose end passes the block or is below 8, or whose pair isn't the given one, is -22", as a broken size or
 -- number is.
@@ -48,21 +49,21 @@ mdir_behind prog b m es =
       fcrc = fcrc;
     }
 
-abbrev pub continued : ℕ → List ℕ → ℕ → LfsMdir → Fetched
+abbrev pub continued : ℕ → List ℕ → ℕ → LfsMdir → Result Fetched Refusal
 continued prog b seed m =
     few_enough (mdir_behind prog b m (walk_behind b m)) (seed_of seed (committed (walk_behind b m)))
 
 -- `lfs_dir_refetch`: -22, -84, and fetch's -2 by the count at the end.
-unfoldable pub refetch_of : Geometry → List ℕ → List ℕ → ℕ → ℕ → ℕ → ℕ → LfsMdir → Fetched
+unfoldable pub refetch_of : Geometry → List ℕ → List ℕ → ℕ → ℕ → ℕ → ℕ → LfsMdir → Result Fetched Refusal
 refetch_of g b0 b1 n0 n1 count seed m =
-    cond (not (refetch_fits g (length b0) (length b1) n0 n1 m)) (Refused Invalid)
-    (cond (too_high count n0 || too_high count n1) (Refused Corrupt)
+    cond (not (refetch_fits g (length b0) (length b1) n0 n1 m)) (Err Invalid)
+    (cond (too_high count n0 || too_high count n1) (Err Corrupt)
     (continued g.prog_size (block_of b0 b1 n0 m) seed m))
 
 -- ---- when it equals a fetch
 -- "a record and seed of an earlier fetch": found, or handed back as read with -2
-abbrev pub Gave : Fetched → LfsMdir → ℕ → Type 0
-Gave f m s = (f ≡ Found m s) ⊎ (f ≡ Refused (TooMany m s))
+abbrev pub Gave : Result Fetched Refusal → LfsMdir → ℕ → Type 0
+Gave f m s = (f ≡ Ok (fetched m s)) ⊎ (f ≡ Err (TooMany (fetched m s)))
 
 -- "all bytes of this block before the record's end and in its last checksum": how many, from the block's start. The
 -- checksum's four bytes follow the check's tag, so they reach past an end that is less than eight bytes behind it.

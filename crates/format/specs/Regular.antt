@@ -1,11 +1,13 @@
 -- Document 01, The added writer: the rules that entries run against, and which logs are regular: by its rule, or by
 -- littlefs's beside it. Assumes nothing.
-use Rattle.std.specs.Prelude.{Bool, true, false, cond, ◌&&◌, ◌||◌, List, [], ◌∷◌, ℕ, suc, ◌+◌, ◌-◌, leb, ltb, eqb}
+use Rattle.std.specs.Prelude.{Bool, true, false, cond, ◌&&◌, ◌||◌, List, [], ◌∷◌, ℕ, suc, ◌+◌, ◌-◌, leb, ltb, eqb, Result, Ok, Err}
 use Rattle.format.specs.Tag.{tag_type3, tag_id, tag_size, removal_size}
 use Rattle.format.specs.Kind.{type_file, type_directory, type_superblock, type_dir_struct, type_inline_struct}
 use Rattle.format.specs.Kind.{type_ctz_struct, type_user_attr, type_create, type_delete, type_forward, type_tail}
 use Rattle.format.specs.Kind.{type_hard_tail, type_move, no_slot}
 use Rattle.format.specs.Walk.{Event, ent, chk, inv}
+use Rattle.format.specs.declared.Refusal.{Refusal}
+use Rattle.format.specs.declared.Refusal.TheVariants.{Invalid}
 use Rattle.format.specs.declared.Rules.{Rules}
 use Rattle.format.specs.declared.Rules.TheVariants.{Document, Littlefs}
 
@@ -120,3 +122,7 @@ rules_fit n = leb n 1
 
 abbrev pub rules_of : ℕ → Rules
 rules_of n = cond (eqb n 0) Document Littlefs
+
+-- "any other -22"
+abbrev pub rules_from : ℕ → Result Rules Refusal
+rules_from n = cond (rules_fit n) (Ok (rules_of n)) (Err Invalid)

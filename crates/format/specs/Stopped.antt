@@ -2,7 +2,7 @@
 -- if the finished bytes are there, else the old one; only the old record's erased mark may differ." What that says of a
 -- pair, of its images after a stop, and of both calls. Fetch is any fetch: a restart asks with a seed of its own, and
 -- with the block count that it knows. Assumes nothing.
-use Rattle.std.specs.Prelude.{◌≡◌, ◌⊎◌, Bool, true, false, ◌||◌, List, [], ℕ, ◌^◌, ◌≤◌, ◌<◌, length, get_or}
+use Rattle.std.specs.Prelude.{◌≡◌, ◌⊎◌, Bool, true, false, ◌||◌, List, [], ℕ, ◌^◌, ◌≤◌, ◌<◌, length, get_or, Ok}
 use Rattle.format.specs.Log.{log}
 use Rattle.format.specs.Gstate.{gstate_has_move_here}
 use Rattle.format.specs.Fetch.{too_high, fetch_of}
@@ -19,9 +19,9 @@ use Rattle.format.specs.declared.Rules.TheVariants.{Document}
 use Rattle.format.specs.declared.LfsMdir.{LfsMdir}
 use Rattle.format.specs.declared.LfsGstate.{LfsGstate}
 use Rattle.format.specs.declared.Entry.{Entry}
-use Rattle.format.specs.declared.Fetched.TheVariants.{Found}
 use Rattle.format.specs.Machine.{Machine, machine_of, ran, Ask, ask_mask, ask_key, ask_fits, ask_id, asked, held_word}
 use Rattle.format.specs.Machine.{held_buffer}
+use Rattle.format.specs.Record.{fetched}
 
 -- what an image is: a list of bytes
 abbrev pub Bytes : List ℕ → Type 0
@@ -47,7 +47,7 @@ module _ (g : Geometry) (n0 n1 : ℕ) where
   -- which means none, is one). `read` is the seed that comes back, of the one that was given.
   abbrev pub Finds : List ℕ → List ℕ → LfsMdir → (ℕ → ℕ) → Type 0
   Finds b0 b1 m read = (count seed : ℕ) → too_high count n0 || too_high count n1 ≡ false
-      → fetch_of g b0 b1 n0 n1 count seed ≡ Found m (read seed)
+      → fetch_of g b0 b1 n0 n1 count seed ≡ Ok (fetched m (read seed))
 
   -- A pair shows a machine: fetch gives a record with its number of slots and its tail, the log is regular by the rule
   -- r, and with that record every directory lookup, "for ids below count and no pending move", answers what the machine

@@ -1,7 +1,6 @@
 -- Document 02, L9: "list every directory and file from a given pair". First what stands in one pair, then the walk: two
 -- functions that call each other, the directory walk and the slot walk. Assumes nothing.
-use Rattle.std.specs.Prelude.{Bool, not, cond, ◌&&◌, List, [], ◌∷◌, ◌++◌, ℕ, zero, suc, ◌-◌, length, leb, ltb, eqb}
-use Rattle.std.proofs.Math.Option.{Option, none, some}
+use Rattle.std.specs.Prelude.{Bool, not, cond, ◌&&◌, List, [], ◌∷◌, ◌++◌, ℕ, zero, suc, ◌-◌, length, leb, ltb, eqb, Err, None, Ok, Option, Result, Some}
 use Rattle.format.specs.Kind.{type_dir_struct}
 use Rattle.format.specs.Log.{log}
 use Rattle.format.specs.Record.{pair_in}
@@ -17,12 +16,9 @@ use Rattle.format.specs.declared.LfsGstate.{LfsGstate}
 use Rattle.format.specs.declared.Rules.{Rules}
 use Rattle.format.specs.declared.Refusal.{Refusal}
 use Rattle.format.specs.declared.Refusal.TheVariants.{Invalid, Irregular, Spent, TooDeep}
-use Rattle.format.specs.declared.Fetched.{Fetched}
-use Rattle.format.specs.declared.Fetched.TheVariants as fetched
-use Rattle.format.specs.declared.Altered.{Altered}
-use Rattle.format.specs.declared.Altered.TheVariants.{Done, Refused}
-use Rattle.format.specs.declared.Informed.{Informed}
 use Rattle.format.specs.declared.Written.{Written}
+use Rattle.format.specs.declared.Fetched.{Fetched}
+use Rattle.format.specs.declared.LfsInfo.{LfsInfo}
 
 -- ---- what stands in a pair
 -- An entry of a directory: the type and the bytes of its name, its size, and, of a directory, the pair that it begins
@@ -35,21 +31,21 @@ pub record Node : Type 0 where
 -- "A slot walk meets a directory struct (two block numbers, little-endian)": it is entered by that, whatever the type
 -- of its name.
 abbrev pub into_of : Load → Option LfsPair
-into_of struct = cond (eqb struct.type type_dir_struct) (some (pair_in struct.bytes)) none
+into_of struct = cond (eqb struct.type type_dir_struct) (Some (pair_in struct.bytes)) None
 
 -- "Each line shows .. `lfs_dir_getinfo`'s size; a slot it answers -2 for gives no line and isn't entered."
-abbrev pub node_if : Altered → Load → ℕ → Load → List Node
-node_if Done name size struct = record { name = name; size = size; into = into_of struct } ∷ []
-node_if (Refused r) name size struct = []
+abbrev pub node_if : Result LfsInfo Refusal → Load → Load → List Node
+node_if (Ok i) name struct = record { name = name; size = i.size; into = into_of struct } ∷ []
+node_if (Err r) name struct = []
 
 -- from what `lfs_dir_getinfo` answers, and the slot's newest name and struct
-unfoldable pub node_of : Informed → Option Load → Option Load → List Node
-node_of i (some name) (some struct) = node_if i.answer name i.info.size struct
-node_of i (some name) none = []
-node_of i none struct = []
+unfoldable pub node_of : Result LfsInfo Refusal → Option Load → Option Load → List Node
+node_of i (Some name) (Some struct) = node_if i name struct
+node_of i (Some name) None = []
+node_of i None struct = []
 
 -- the slots of the directory machine from id on: "Directories come in id order"
-unfoldable pub nodes_from : (ℕ → Informed) → ℕ → List Slot → List Node
+unfoldable pub nodes_from : (ℕ → Result LfsInfo Refusal) → ℕ → List Slot → List Node
 nodes_from info id [] = []
 nodes_from info id (s ∷ D) = node_of (info id) (s 0) (s 1) ++ nodes_from info (suc id) D
 
@@ -57,7 +53,7 @@ nodes_from info id (s ∷ D) = node_of (info id) (s 0) (s 1) ++ nodes_from info 
 abbrev pub no_move : LfsGstate
 no_move = record { tag = 0; pair = record { n0 = 0; n1 = 0 } }
 
-abbrev pub info_in : Geometry → List ℕ → LfsPair → LfsMdir → ℕ → Informed
+abbrev pub info_in : Geometry → List ℕ → LfsPair → LfsMdir → ℕ → Result LfsInfo Refusal
 info_in g vol p m id = getinfo_of g (block_in g vol p.n0) (block_in g vol p.n1) p.n0 p.n1 m no_move 255 id
 
 -- What the walk finds at a pair: a refusal, or the directory's entries there and, where it goes on, its hard tail. Soft
@@ -67,14 +63,14 @@ pub data Opened : Type 0 where
   holding : List Node → Option LfsPair → Opened
 
 abbrev pub hard_tail : LfsMdir → Option LfsPair
-hard_tail m = cond m.split (some m.tail) none
+hard_tail m = cond m.split (Some m.tail) None
 
 -- "the fetch's own, -202", by the rule r; the record's first number is the block that answers
-abbrev pub opened_by : Rules → Geometry → List ℕ → LfsPair → Fetched → Opened
-opened_by r g vol p (fetched.Refused q) = refused q
-opened_by r g vol p (fetched.Found m s) =
-    cond (Regular r (log (block_in g vol m.pair.n0)))
-    (holding (nodes_from (info_in g vol p m) 0 (dir_of (log (block_in g vol m.pair.n0)))) (hard_tail m))
+abbrev pub opened_by : Rules → Geometry → List ℕ → LfsPair → Result Fetched Refusal → Opened
+opened_by r g vol p (Err q) = refused q
+opened_by r g vol p (Ok f) =
+    cond (Regular r (log (block_in g vol f.dir.pair.n0)))
+    (holding (nodes_from (info_in g vol p f.dir) 0 (dir_of (log (block_in g vol f.dir.pair.n0)))) (hard_tail f.dir))
     (refused Irregular)
 
 unfoldable pub open_in : Rules → Geometry → List ℕ → LfsPair → Opened
@@ -87,7 +83,7 @@ pub record Line : Type 0 where
   pub node : Node
 
 unfoldable pub line_text : Line → List ℕ
-line_text l = decimal l.depth ++ (name_fields (some l.node.name) ++ number_line (ascii " ") l.node.size)
+line_text l = decimal l.depth ++ (name_fields (Some l.node.name) ++ number_line (ascii " ") l.node.size)
 
 unfoldable pub lines_text : List Line → List ℕ
 lines_text [] = []
@@ -97,30 +93,30 @@ lines_text (l ∷ ls) = line_text l ++ lines_text ls
 pub record Walk : Type 0 where
   pub lines : List Line
   pub left : ℕ
-  pub answer : Altered
+  pub answer : Result Unit Refusal
 
 abbrev pub ended : ℕ → Walk
-ended left = record { lines = []; left = left; answer = Done }
+ended left = record { lines = []; left = left; answer = (Ok tt) }
 
 abbrev pub stopped : Refusal → ℕ → Walk
-stopped r left = record { lines = []; left = left; answer = Refused r }
+stopped r left = record { lines = []; left = left; answer = Err r }
 
 abbrev pub shown : ℕ → Node → ℕ → Walk
-shown depth n left = record { lines = record { depth = depth; node = n } ∷ []; left = left; answer = Done }
+shown depth n left = record { lines = record { depth = depth; node = n } ∷ []; left = left; answer = (Ok tt) }
 
 -- A walk, and behind it another with what is left of the allowance. A refusal ends both: "Lines given before a refusal
 -- stay".
-abbrev pub behind : Altered → Walk → Walk → Walk
-behind Done w v = record { lines = w.lines ++ v.lines; left = v.left; answer = v.answer }
-behind (Refused r) w v = w
+abbrev pub behind : Result Unit Refusal → Walk → Walk → Walk
+behind (Ok x) w v = record { lines = w.lines ++ v.lines; left = v.left; answer = v.answer }
+behind (Err r) w v = w
 
 abbrev pub and_then : Walk → (ℕ → Walk) → Walk
 and_then w next = behind w.answer w (next w.left)
 
 -- where there is a pair, the walk of it
 abbrev pub inside : (LfsPair → ℕ → Walk) → Option LfsPair → ℕ → Walk
-inside walk none left = ended left
-inside walk (some p) left = walk p left
+inside walk None left = ended left
+inside walk (Some p) left = walk p left
 
 -- THE SLOT WALK, over the entries of a directory: an entry's line, what is in it where it is a directory, and then the
 -- next. "Directories come in id order, children before the next id." `enter` is the directory walk, one deeper.

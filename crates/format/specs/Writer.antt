@@ -1,6 +1,6 @@
 -- Document 01, The added writer: which commits are accepted, what an accepted one stores, and what both calls answer
 -- and leave. Assumes nothing.
-use Rattle.std.specs.Prelude.{Bool, true, false, not, cond, ◌&&◌, List, [], ◌∷◌, ◌++◌, ℕ, ◌+◌, ◌-◌, min, length, leb, ltb, eqb}
+use Rattle.std.specs.Prelude.{Bool, true, false, not, cond, ◌&&◌, List, [], ◌∷◌, ◌++◌, ℕ, ◌+◌, ◌-◌, min, length, leb, ltb, eqb, Err, Ok, Result}
 use Rattle.format.specs.Word.{to_le32, all_ones}
 use Rattle.format.specs.Tag.{tag_of}
 use Rattle.format.specs.Kind.{type_forward, no_slot}
@@ -23,14 +23,8 @@ use Rattle.format.specs.declared.Entry.{Entry}
 use Rattle.format.specs.declared.Rules.{Rules}
 use Rattle.format.specs.declared.Refusal.{Refusal}
 use Rattle.format.specs.declared.Refusal.TheVariants.{Invalid, BadEntry, Irregular, NoSpace, Coincidence}
-use Rattle.format.specs.declared.Room.{Room}
-use Rattle.format.specs.declared.Room.TheVariants as room
 use Rattle.format.specs.declared.Fetched.{Fetched}
-use Rattle.format.specs.declared.Fetched.TheVariants as fetched
-use Rattle.format.specs.declared.Committed.{Committed}
-use Rattle.format.specs.declared.Committed.TheVariants as committed
-use Rattle.format.specs.declared.Stored.{Stored}
-use Rattle.format.specs.declared.Stored.TheVariants as stored
+use Rattle.format.specs.Record.{fetched}
 
 -- ---- the check
 -- A check's tag and checksum take eight bytes.
@@ -119,9 +113,9 @@ block_at false b0 b1 = b0
 block_at true b0 b1 = b1
 
 -- The room refuses, or the tests go on.
-abbrev pub room_then : Room → Verdict → Verdict
-room_then (room.Refused r) v = refused r
-room_then room.Clean v = v
+abbrev pub room_then : Result Unit Refusal → Verdict → Verdict
+room_then (Err r) v = refused r
+room_then (Ok x) v = v
 
 -- The tests of what is to be laid, in document 01's order: "-28, -203, -204", and for -203 the room's reasons. b is the
 -- block that answers, es its log.
@@ -150,9 +144,9 @@ abbrev pub is_second : ℕ → LfsMdir → Bool
 is_second n0 m = not (eqb m.pair.n0 n0)
 
 -- "fetch's own refusals"
-abbrev pub fetched_then : Fetched → (LfsMdir → Verdict) → Verdict
-fetched_then (fetched.Refused r) on = refused r
-fetched_then (fetched.Found m s) on = on m
+abbrev pub fetched_then : Result Fetched Refusal → (LfsMdir → Verdict) → Verdict
+fetched_then (Err r) on = refused r
+fetched_then (Ok f) on = on f.dir
 
 -- "Commit: -22, fetch's own refusals, -202, -201, -28, -203, -204", with L1's three in -203's place.
 unfoldable pub verdict_of : Geometry → List ℕ → List ℕ → ℕ → ℕ → ℕ → ℕ → ℕ → ℕ → List Entry → List ℕ → Verdict
@@ -184,19 +178,14 @@ images_after e n b0 b1 (accepted true is size) = images b0 (stored_to e b1 is si
 abbrev pub unlimited : ℕ
 unlimited = all_ones
 
--- "An accepted call answers what fetch gives on the finished pair from the same seed."
-abbrev pub committed_as : Fetched → Committed
-committed_as (fetched.Found m s) = committed.Done m s
-committed_as (fetched.Refused r) = committed.Refused r
-
-abbrev pub answer_of : Fetched → Verdict → Committed
-answer_of f (refused r) = committed.Refused r
-answer_of f (accepted second is size) = committed_as f
+abbrev pub answer_of : Result Fetched Refusal → Verdict → Result Fetched Refusal
+answer_of f (refused r) = Err r
+answer_of f (accepted second is size) = f
 
 -- "exactly the first n of demand 3's list are made (all, if n is larger) and the number made is the answer"
-abbrev pub stores_made : ℕ → Verdict → Stored
-stores_made n (refused r) = stored.Refused r
-stores_made n (accepted second is size) = stored.Made (min n (all_stores is))
+abbrev pub stores_made : ℕ → Verdict → Result ℕ Refusal
+stores_made n (refused r) = Err r
+stores_made n (accepted second is size) = Ok (min n (all_stores is))
 
 module _ (g : Geometry) (b0 b1 : List ℕ) (n0 n1 count seed rules e : ℕ) (entries : List Entry) (dat : List ℕ) where
   -- the images after n stores: of the call with a limit, and, all stores made, of `lfs_dir_commit`
@@ -204,11 +193,11 @@ module _ (g : Geometry) (b0 b1 : List ℕ) (n0 n1 count seed rules e : ℕ) (ent
   commit_images n = images_after e n b0 b1 (verdict_of g b0 b1 n0 n1 count seed rules e entries dat)
 
   -- `lfs_dir_commit`
-  unfoldable pub commit_of : Committed
+  unfoldable pub commit_of : Result Fetched Refusal
   commit_of =
       answer_of (fetch_of g (commit_images unlimited).b0 (commit_images unlimited).b1 n0 n1 count seed)
       (verdict_of g b0 b1 n0 n1 count seed rules e entries dat)
 
   -- `lfs_dir_commit_stores`
-  unfoldable pub commit_stores_of : ℕ → Stored
+  unfoldable pub commit_stores_of : ℕ → Result ℕ Refusal
   commit_stores_of n = stores_made n (verdict_of g b0 b1 n0 n1 count seed rules e entries dat)

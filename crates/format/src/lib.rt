@@ -3,11 +3,15 @@
 // values for each answer.
 #![tactic(auto)]
 
+ghost use Rattle.std.specs.Prelude.{◌≡◌};
+ghost use Rattle.format.specs.Answer.{refusal_number};
+ghost use Rattle.format.specs.Regular.{rules_from};
+
 pub mod types;
 
 // "Block size 128 to 32,768; program size 4 to 512; block size a multiple of it." Any two numbers may be asked about.
 #[repr(C)]
-#[derive(Clone, Copy)]
+#[derive(Clone, Copy, Debug, PartialEq, Eq)]
 pub struct Geometry {
     pub block_size: u32,
     pub prog_size: u32,
@@ -15,7 +19,7 @@ pub struct Geometry {
 
 // Two block numbers: the Rust's `[lfs_block_t; 2]`. A struct, since an answer that is an enum can hold no array.
 #[repr(C)]
-#[derive(Clone, Copy)]
+#[derive(Clone, Copy, Debug, PartialEq, Eq)]
 pub struct LfsPair {
     pub n0: u32,
     pub n1: u32,
@@ -24,7 +28,7 @@ pub struct LfsPair {
 // A forward check (the Rust's `LfsFcrc`): whether there is one, of how many bytes behind the log's end, and their
 // checksum. All 0 where there is none. In C the record has them as its last three fields.
 #[repr(C)]
-#[derive(Clone, Copy)]
+#[derive(Clone, Copy, Debug, PartialEq, Eq)]
 pub struct LfsFcrc {
     pub seen: bool,
     pub size: u32,
@@ -35,7 +39,7 @@ pub struct LfsFcrc {
 // committed log ends and the tag there, the number of slots, whether the room behind passed its forward check (which
 // does not say that it is empty), the tail (hard where `split`), and the last forward check that is committed.
 #[repr(C)]
-#[derive(Clone, Copy)]
+#[derive(Clone, Copy, Debug, PartialEq, Eq)]
 pub struct LfsMdir {
     pub pair: LfsPair,
     pub rev: u32,
@@ -50,7 +54,7 @@ pub struct LfsMdir {
 
 // The global state: a tag and a pair.
 #[repr(C)]
-#[derive(Clone, Copy)]
+#[derive(Clone, Copy, Debug, PartialEq, Eq)]
 pub struct LfsGstate {
     pub tag: u32,
     pub pair: LfsPair,
@@ -58,7 +62,7 @@ pub struct LfsGstate {
 
 // What is shown of an entry: its type, its size, and its name, zeros behind it. A stored name of more than 255 bytes,
 // read with 255 as the longest, fills all 256: it has no zero behind it.
-#[derive(Clone, Copy)]
+#[derive(Clone, Copy, Debug, PartialEq, Eq)]
 pub struct LfsInfo {
     pub kind: u8,
     pub size: u32,
@@ -67,7 +71,7 @@ pub struct LfsInfo {
 
 // One entry of a commit: "type, id, data offset, length".
 #[repr(C)]
-#[derive(Clone, Copy)]
+#[derive(Clone, Copy, Debug, PartialEq, Eq)]
 pub struct Entry {
     pub kind: u16,
     pub id: u16,
@@ -77,7 +81,7 @@ pub struct Entry {
 
 // Which logs are regular: by document 01's rule alone, or by littlefs's too. littlefs's own compaction writes no
 // creates: there the names alone make the slots.
-#[derive(Clone, Copy)]
+#[derive(Clone, Copy, Debug, PartialEq, Eq)]
 pub enum Rules {
     Document,
     Littlefs,
@@ -85,7 +89,7 @@ pub enum Rules {
 
 // Document 01's table of refusals: one case for each line of it, with what comes back; in the place of its -203 stand
 // the three reasons of document 02, L1; and L8's and L9's.
-#[derive(Clone, Copy)]
+#[derive(Clone, Copy, Debug, PartialEq, Eq)]
 pub enum Refusal {
     // -22: a size or number is broken
     Invalid,
@@ -94,7 +98,7 @@ pub enum Refusal {
     // -2, lookup: no entry
     NoEntry,
     // -2, fetch: a count above 1,023; the record and the seed as read
-    TooMany(LfsMdir, u32),
+    TooMany(Fetched),
     // -201: the index of the first bad entry
     BadEntry(u32),
     // -202: the committed log isn't regular
@@ -117,98 +121,66 @@ pub enum Refusal {
     TooDeep,
 }
 
-// The room behind a log's end: a commit can be appended there, or why none can.
-#[derive(Clone, Copy)]
-pub enum Room {
-    Clean,
-    Refused(Refusal),
+impl Refusal {
+    // Document 01's number of it.
+    pub fn number(self) -> i32
+        ensures { result ≡ refusal_number self }
+    {
+        match self {
+            Refusal::Invalid => -22,
+            Refusal::Corrupt => -84,
+            Refusal::NoEntry => -2,
+            Refusal::TooMany(_) => -2,
+            Refusal::BadEntry(_) => -201,
+            Refusal::Irregular => -202,
+            Refusal::NoSpace => -28,
+            Refusal::Misaligned => -211,
+            Refusal::WrongValidity => -212,
+            Refusal::NotErased(_) => -213,
+            Refusal::Coincidence => -204,
+            Refusal::TableFull => -221,
+            Refusal::Spent => -231,
+            Refusal::TooDeep => -232,
+        }
+    }
+}
+
+// The rule as a call takes it: 0 document 01's, 1 littlefs's, "any other -22".
+impl TryFrom<u32> for Rules {
+    type Error = Refusal;
+
+    ghost try_from_gives = { λ n r. r ≡ rules_from n };
+
+    fn try_from(rules: u32) -> Result<Self, Refusal> {
+        match rules {
+            0 => Ok(Rules::Document),
+            1 => Ok(Rules::Littlefs),
+            _ => Err(Refusal::Invalid),
+        }
+    }
 }
 
 // An entry that was found: its tag with the difference added, so with the id that it has now; its stored length, "4
 // plus size" (a removal is never found); and the offset in the block of its first data byte.
 #[repr(C)]
-#[derive(Clone, Copy)]
+#[derive(Clone, Copy, Debug, PartialEq, Eq)]
 pub struct Found {
     pub tag: u32,
     pub length: u32,
     pub off: u32,
 }
 
-// What a search comes to.
-#[derive(Clone, Copy)]
-pub enum Hit {
-    Found(Found),
-    Nothing,
-}
-
-// A word: read from four bytes, or brought to a multiple.
-#[derive(Clone, Copy)]
-pub enum Word {
-    Is(u32),
-    Refused(Refusal),
-}
-
-// What was lent is altered.
-#[derive(Clone, Copy)]
-pub enum Altered {
-    Done,
-    Refused(Refusal),
-}
-
-// Fetch: the record and the seed.
-#[derive(Clone, Copy)]
-pub enum Fetched {
-    Found(LfsMdir, u32),
-    Refused(Refusal),
-}
-
-// Lookup: the entry.
-#[derive(Clone, Copy)]
-pub enum Got {
-    Found(Found),
-    Refused(Refusal),
-}
-
-// An entry's info, all zero on a refusal. A struct with the answer beside the info, since an enum can hold no array.
-#[derive(Clone, Copy)]
-pub struct Informed {
-    pub answer: Altered,
-    pub info: LfsInfo,
-}
-
-// Commit and compaction: the record and the seed that fetch gives on the finished pair.
-#[derive(Clone, Copy)]
-pub enum Committed {
-    Done(LfsMdir, u32),
-    Refused(Refusal),
-}
-
-// The same with a limit of n stores: the number of stores made.
-#[derive(Clone, Copy)]
-pub enum Stored {
-    Made(u32),
-    Refused(Refusal),
-}
-
-// Find: the lowest id whose slot has the name that was asked for, or that there is none.
-#[derive(Clone, Copy)]
-pub enum Named {
-    At(u32),
-    Nothing,
-    Refused(Refusal),
-}
-
-// An index: how many places of the table are in use.
-#[derive(Clone, Copy)]
-pub enum Indexed {
-    Places(usize),
-    Refused(Refusal),
+// What fetch found: the record, and the seed behind it. A commit and a compaction answer the same of the finished pair.
+#[derive(Clone, Copy, Debug, PartialEq, Eq)]
+pub struct Fetched {
+    pub dir: LfsMdir,
+    pub seed: u32,
 }
 
 // A text in a lent buffer: whether it came to its end, and the length of all that came about, for which the buffer may
 // have had no room.
-#[derive(Clone, Copy)]
+#[derive(Clone, Copy, Debug, PartialEq, Eq)]
 pub struct Written {
-    pub answer: Altered,
+    pub answer: Result<(), Refusal>,
     pub length: u32,
 }

@@ -2,7 +2,6 @@
 use mathlib.Core.Path.{◌≡◌, refl, sym, ap, ◌∙◌}
 use mathlib.Core.Logic.{◌≢◌}
 use mathlib.Core.Bool.{Bool, true, false, not, and-false}
-use mathlib.Core.Option.{Option}
 use mathlib.Core.List.{List}
 use Prim.Native.Nat.{ℕ, ◌-◌, ◌≤◌, ◌<◌}
 use native.Mathlib.Omega.{arith}
@@ -14,14 +13,14 @@ use Rattle.format.specs.Regular.{Regular, rules_of}
 use Rattle.format.specs.Index.{log_to, ends_at, indexable, built, indexed_as, table_as}
 use Rattle.format.specs.declared.Rules.{Rules}
 use Rattle.format.specs.declared.Refusal.TheVariants.{Irregular}
-use Rattle.format.specs.declared.Indexed.{Indexed}
-use Rattle.format.specs.declared.Indexed.TheVariants as indexed
 use Rattle.format.proofs.Growing.{widest}
 use Rattle.fetch_walk.specs.Block.{walked_of}
 use Rattle.fetch_walk.specs.declared.Walked.{Walked}
 use Rattle.commit_regular.specs.Ends.{CommittedTo}
 use Rattle.index_pass.specs.Run.{Buildable}
 use Rattle.index.specs.Blocks.{InBlock, block_answer, block_table, indexed_in, tabled_in}
+use Rattle.std.specs.Prelude.{Err, Result, Option}
+use Rattle.format.specs.declared.Refusal.{Refusal}
 
 -- the part of a block up to an end
 abbrev pub front : List ℕ → ℕ → List ℕ
@@ -31,15 +30,15 @@ pub front_is : (b : List ℕ) (end : ℕ) → front b end ≡ take end b
 front_is b end = let e : end - 0 ≡ end = omega arith in ap (λ (n : ℕ). take n b) e
 
 -- what is answered and left: of the test x, and of what the table v comes to
-abbrev pub Answers : Bool → Option (List ℕ) → List ℕ → Indexed → List ℕ → Type 0
+abbrev pub Answers : Bool → Option (List ℕ) → List ℕ → Result ℕ Refusal → List ℕ → Type 0
 Answers x v T r new = (r ≡ block_answer x v) × (new ≡ block_table x T v)
 
 pub refuses : (x : Bool) (v : Option (List ℕ)) (T : List ℕ) → x ≡ false
-    → Answers x v T (indexed.Refused Irregular) T
+    → Answers x v T (Err Irregular) T
 unfolding block_answer block_table
 refuses x v T h = rw h (refl, refl)
 
-pub accepts : (x : Bool) (v : Option (List ℕ)) (T : List ℕ) → x ≡ true → (r : Indexed) (new : List ℕ)
+pub accepts : (x : Bool) (v : Option (List ℕ)) (T : List ℕ) → x ≡ true → (r : Result ℕ Refusal) (new : List ℕ)
     → r ≡ indexed_as v → new ≡ table_as (length T) v → Answers x v T r new
 unfolding block_answer block_table
 accepts x v T h r new er en = rw h (er, en)
@@ -93,17 +92,17 @@ module _ (b : List ℕ) (end : ℕ) (k : InBlock b end) (ends : ends_at b end �
 
 -- ---- the function, by its tests
 module _ (rules : ℕ) (b : List ℕ) (end : ℕ) (T : List ℕ) where
-  abbrev Done : Indexed → List ℕ → Type 0
+  abbrev Done : Result ℕ Refusal → List ℕ → Type 0
   Done r new = (r ≡ indexed_in rules b end (length T)) × (new ≡ tabled_in rules b end T)
 
-  off_end : ends_at b end ≡ false → Done (indexed.Refused Irregular) T
+  off_end : ends_at b end ≡ false → Done (Err Irregular) T
   off_end h = refuses (indexable (rules_of rules) b end) (built (length T) (log_to b end)) T (rw h)
 
-  pub block_low : end ≤ 4 → Done (indexed.Refused Irregular) T
+  pub block_low : end ≤ 4 → Done (Err Irregular) T
   block_low h = off_end (no_end_low b end h)
 
   module _ (k : InBlock b end) (high : 4 < end) (w : Walked) (ew : w ≡ walked_of (front b end) 0) where
-    pub block_off : w.taken.off ≢ end → Done (indexed.Refused Irregular) T
+    pub block_off : w.taken.off ≢ end → Done (Err Irregular) T
     block_off h = off_end (no_end b end high (λ e. h (walked_end b end w ew ∙ e)))
 
     module _ (at : w.taken.off ≡ end) where
@@ -117,7 +116,7 @@ module _ (rules : ℕ) (b : List ℕ) (end : ℕ) (T : List ℕ) where
       block_committed = front_committed b end k there high is_end
 
       module _ (r : Rules) (er : r ≡ rules_of rules) (x : Bool) (ex : x ≡ Regular r (log (front b end))) where
-        pub block_irregular : not x ≡ true → Done (indexed.Refused Irregular) T
+        pub block_irregular : not x ≡ true → Done (Err Irregular) T
         block_irregular h = refuses (indexable (rules_of rules) b end) (built (length T) (log_to b end)) T
             (not_indexable b end k there high is_end rules r er x ex h)
 
@@ -125,7 +124,7 @@ module _ (rules : ℕ) (b : List ℕ) (end : ℕ) (T : List ℕ) where
           pub block_buildable : Buildable (front b end) end
           block_buildable = front_buildable b end k there high is_end rules r er x ex h
 
-          pub block_built : (i : Indexed) (new : List ℕ) → i ≡ indexed_as (built (length T) (log (front b end)))
+          pub block_built : (i : Result ℕ Refusal) (new : List ℕ) → i ≡ indexed_as (built (length T) (log (front b end)))
               → new ≡ table_as (length T) (built (length T) (log (front b end))) → Done i new
           block_built i new ei en =
               let e : built (length T) (log (front b end)) ≡ built (length T) (log_to b end) =

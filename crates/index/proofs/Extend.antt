@@ -2,7 +2,6 @@
 use mathlib.Core.Path.{◌≡◌, refl, sym, ap, ap₂, ◌∙◌}
 use mathlib.Core.Logic.{◌≢◌}
 use mathlib.Core.Bool.{Bool, true, false, not, and-false}
-use mathlib.Core.Option.{Option}
 use mathlib.Core.List.{List}
 use Prim.Native.Nat.{ℕ, ◌+◌, ◌-◌, ◌*◌, ◌≤◌, ◌<◌}
 use native.Mathlib.Omega.{arith}
@@ -15,8 +14,6 @@ use Rattle.format.specs.Index.{placed_from, log_to, ends_at, extendable, extende
 use Rattle.format.specs.Index.{indexed_as, table_as}
 use Rattle.format.specs.declared.Rules.{Rules}
 use Rattle.format.specs.declared.Refusal.TheVariants.{Irregular}
-use Rattle.format.specs.declared.Indexed.{Indexed}
-use Rattle.format.specs.declared.Indexed.TheVariants as indexed
 use Rattle.fetch_walk.specs.Block.{walked_of, walked_again}
 use Rattle.fetch_walk.specs.declared.Walked.{Walked}
 use Rattle.commit_regular.specs.Ends.{CommittedTo}
@@ -27,20 +24,22 @@ use Rattle.index_pass.specs.Run.{Onwards, Startable, Runs}
 use Rattle.index.specs.Blocks.{InBlock, extended_in, extended_table}
 use Rattle.index.proofs.Block.{front, front_is, refuses, accepts, no_end_low, no_end, an_end, walked_end}
 use Rattle.index.proofs.Block.{front_committed, not_indexable, is_indexable, front_buildable}
+use Rattle.std.specs.Prelude.{Err, Result, Option}
+use Rattle.format.specs.declared.Refusal.{Refusal}
 
 module _ (rules : ℕ) (b : List ℕ) (old end : ℕ) (T : List ℕ) where
-  abbrev Done : Indexed → List ℕ → Type 0
+  abbrev Done : Result ℕ Refusal → List ℕ → Type 0
   Done r new = (r ≡ extended_in rules b old end T) × (new ≡ extended_table rules b old end T)
 
-  refused : extendable (rules_of rules) b old end ≡ false → Done (indexed.Refused Irregular) T
+  refused : extendable (rules_of rules) b old end ≡ false → Done (Err Irregular) T
   refused h = refuses (extendable (rules_of rules) b old end) (extended T b old end) T h
 
-  pub extend_low : old ≤ 4 → Done (indexed.Refused Irregular) T
+  pub extend_low : old ≤ 4 → Done (Err Irregular) T
   extend_low h = refused (rw (no_end_low b old h))
 
   -- w is what the walk over the old log answers
   module _ (k : InBlock b end × (old ≤ end)) (high : 4 < old) (w : Walked) (ew : w ≡ walked_of (front b old) 0) where
-    pub extend_off : w.taken.off ≢ old → Done (indexed.Refused Irregular) T
+    pub extend_off : w.taken.off ≢ old → Done (Err Irregular) T
     extend_off h = refused (rw (no_end b old high (λ e. h (walked_end b old w ew ∙ e))))
 
     -- v is what the walk that goes on answers
@@ -69,7 +68,7 @@ module _ (rules : ℕ) (b : List ℕ) (old end : ℕ) (T : List ℕ) where
       far : 4 < end
       far = omega (arith, k.1)
 
-      pub extend_past : v.taken.off ≢ end → Done (indexed.Refused Irregular) T
+      pub extend_past : v.taken.off ≢ end → Done (Err Irregular) T
       extend_past h = refused (rw (no_end b end far (λ e. h (end_is ∙ e))) (and-false (ends_at b old)))
 
       module _ (there : v.taken.off ≡ end) where
@@ -83,7 +82,7 @@ module _ (rules : ℕ) (b : List ℕ) (old end : ℕ) (T : List ℕ) where
         extend_committed = front_committed b end k.0 new_ends far is_end
 
         module _ (r : Rules) (er : r ≡ rules_of rules) (x : Bool) (ex : x ≡ Regular r (log (front b end))) where
-          pub extend_irregular : not x ≡ true → Done (indexed.Refused Irregular) T
+          pub extend_irregular : not x ≡ true → Done (Err Irregular) T
           extend_irregular h = refused (rw (not_indexable b end k.0 new_ends far is_end rules r er x ex h)
               (and-false (ends_at b old)))
 
@@ -108,7 +107,7 @@ module _ (rules : ℕ) (b : List ℕ) (old end : ℕ) (T : List ℕ) where
               holds = rw taken holds;
             }
 
-            pub extend_done : (i : Indexed) (new : List ℕ)
+            pub extend_done : (i : Result ℕ Refusal) (new : List ℕ)
                 → Runs (front b end) old w.taken.etag end (take (2 * n) table) table new i → Done i new
             unfolding onwards
             extend_done i new h' =

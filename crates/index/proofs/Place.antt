@@ -13,12 +13,11 @@ use Rattle.format.specs.Kind.{no_slot}
 use Rattle.format.specs.Directory.{classes, seat_class}
 use Rattle.format.specs.Index.{rank_at, rank_of, tag_in, off_in, seek, is_at, place_hit, askable, index_hit}
 use Rattle.format.specs.declared.Found.{Found}
-use Rattle.format.specs.declared.Hit.{Hit}
-use Rattle.format.specs.declared.Hit.TheVariants as hit
 use Rattle.format.proofs.Words.{tag_length_ge}
+use Rattle.std.specs.Prelude.{None, Option, Some}
 
 -- nothing is asked for
-not_asked : (T : List ℕ) (kind id : ℕ) → askable kind id ≡ false → hit.Nothing ≡ index_hit T kind id
+not_asked : (T : List ℕ) (kind id : ℕ) → askable kind id ≡ false → None ≡ index_hit T kind id
 unfolding index_hit
 not_asked T kind id h = rw h
 
@@ -38,7 +37,7 @@ module _ (T : List ℕ) (kind id : ℕ) where
           let m : id ≤ 0x3ff = ltb-false 0x3ff id eb in
           rw (← h, lt-ltb kind (2 ^ 11) (omega arith), le-leb id no_slot (omega arith))
 
-  pub place_none : ltb 0x7ff kind || ltb 0x3ff id ≡ true → hit.Nothing ≡ index_hit T kind id
+  pub place_none : ltb 0x7ff kind || ltb 0x3ff id ≡ true → None ≡ index_hit T kind id
   place_none h = not_asked T kind id (rw (numbers true h))
 
   module _ (low : ltb 0x7ff kind || ltb 0x3ff id ≡ false) where
@@ -59,42 +58,42 @@ module _ (T : List ℕ) (kind id : ℕ) where
 
     -- c is the class of the type
     module _ (c : ℕ) (ec : c ≡ seat_class (kind * 0x10_0000)) where
-      pub place_other : classes ≤ c → hit.Nothing ≡ index_hit T kind id
+      pub place_other : classes ≤ c → None ≡ index_hit T kind id
       place_other h = not_asked T kind id
           (rw (numbers false low, ← ec, le-ltb c classes h))
 
       -- r is the rank, s the place that was found
       module _ (seat : c < classes) (r : ℕ) (er : r ≡ rank_at id c) (s : ℕ) (es : s ≡ seek r T) where
-        said : index_hit T kind id ≡ cond (is_at r T s) (place_hit T s) hit.Nothing
+        said : index_hit T kind id ≡ cond (is_at r T s) (place_hit T s) None
         unfolding index_hit
         said = rw (numbers false low, ← ec, lt-ltb c classes seat, ← er, ← es)
 
-        pub place_past : length T / 2 ≤ s → hit.Nothing ≡ index_hit T kind id
+        pub place_past : length T / 2 ≤ s → None ≡ index_hit T kind id
         place_past h = sym (said ∙ rw (le-ltb s (length T / 2) h))
 
         -- t is the tag there, and q its rank
         module _ (inside : s < length T / 2) (t : ℕ) (et : t ≡ tag_in T s) (q : ℕ) (eq : q ≡ rank_of t) where
-          pub place_wrong : q ≢ r → hit.Nothing ≡ index_hit T kind id
+          pub place_wrong : q ≢ r → None ≡ index_hit T kind id
           place_wrong h = sym (said ∙ rw (lt-ltb s (length T / 2) inside, ← et, ← eq, ne_eqb q r h))
 
           pub place_there : q ≡ r → (n : ℕ) → n ≡ tag_length t → (o : ℕ) → o ≡ off_in T s
-              → hit.Found (record { tag = t; length = n; off = o }) ≡ index_hit T kind id
+              → Some (record { tag = t; length = n; off = o }) ≡ index_hit T kind id
           place_there h n en o eo = sym
               (said ∙ rw (lt-ltb s (length T / 2) inside, ← et, ← eq, eq-eqb q r h, ← en, ← eo))
 
 -- what is found has a tag's length
-pub hit_long : (T : List ℕ) (kind id : ℕ) (e : Found) → hit.Found e ≡ index_hit T kind id → 4 ≤ e.length
+pub hit_long : (T : List ℕ) (kind id : ℕ) (e : Found) → Some e ≡ index_hit T kind id → 4 ≤ e.length
 unfolding index_hit
 hit_long T kind id e h =
     let r : ℕ = rank_at id (seat_class (kind * 2 ^ 20)) in
     go (askable kind id && is_at r T (seek r T)) (seek r T) h
   where
-    go : (x : Bool) (s : ℕ) → hit.Found e ≡ cond x (place_hit T s) hit.Nothing → 4 ≤ e.length
+    go : (x : Bool) (s : ℕ) → Some e ≡ cond x (place_hit T s) None → 4 ≤ e.length
     go true s h =
         let z : e.length ≡ tag_length (tag_in T s) = ap length_of h in
         omega (arith, z, tag_length_ge (tag_in T s))
       where
-        length_of : Hit → ℕ
-        length_of (hit.Found f) = f.length
-        length_of hit.Nothing = 0
+        length_of : Option Found → ℕ
+        length_of (Some f) = f.length
+        length_of None = 0
     go false s h = absurd (let z : ◌≡◌ {A = ℕ} 0 1 = cc in omega arith)

@@ -3,30 +3,30 @@ ghost use Rattle.std.specs.Prelude.{◌≡◌};
 ghost use Rattle.format.specs.Index.{index_hit, index_get_of, index_get_buffer};
 
 use format::types::{LONGEST_BUFFER, NO_SLOT, TYPE3_MASK};
-use format::{Found, Geometry, Got, Hit, LfsMdir, Refusal};
+use format::{Found, Geometry, LfsMdir, Refusal};
 
 // What a table says: "any 0x0xx asks the name, any 0x2xx the struct, 0x300 to 0x3ff that attribute; any other type, and
 // an id that the table has not (above 1,023 too), finds nothing".
-fn place_of(table: &[u32], kind: u32, id: u32) -> Hit
+fn place_of(table: &[u32], kind: u32, id: u32) -> Option<Found>
     ensures { result ≡ index_hit table.now kind id }
 {
     if (TYPE3_MASK < kind) | (NO_SLOT < id) {
-        return Hit::Nothing;
+        return None;
     }
     let class = compact_slot::class_of(kind * 0x10_0000);
     if compact_slot::CLASSES <= class {
-        return Hit::Nothing;
+        return None;
     }
     let rank = index_table::rank_at(id, class);
     let at = index_table::seek(table, rank, 0);
     if table.len() / 2 <= at {
-        return Hit::Nothing;
+        return None;
     }
     let tag = table[2 * at];
     if index_table::rank_of(tag) != rank {
-        return Hit::Nothing;
+        return None;
     }
-    Hit::Found(Found {
+    Some(Found {
         tag,
         length: tag::lfs_tag_dsize(tag),
         off: table[2 * at + 1],
@@ -46,7 +46,7 @@ pub fn lfs_dir_index_get(
     kind: u32,
     id: u32,
     buffer: &mut [u8],
-) -> Got
+) -> Result<Found, Refusal>
     ensures value { result ≡ index_get_of g b0.now b1.now n0 n1 dir table.now kind id
         buffer.old }
     ensures buffer_after { buffer.new ≡ index_get_buffer g b0.now b1.now n0 n1 dir
@@ -54,12 +54,12 @@ pub fn lfs_dir_index_get(
 {
     let fits = sizes::record_fits(g, b0.len(), b1.len(), n0, n1, dir);
     if !(fits & (buffer.len() <= LONGEST_BUFFER)) {
-        return Got::Refused(Refusal::Invalid);
+        return Err(Refusal::Invalid);
     }
     let pair = dir.pair;
     match place_of(table, kind, id) {
-        Hit::Nothing => Got::Refused(Refusal::NoEntry),
-        Hit::Found(e) => {
+        None => Err(Refusal::NoEntry),
+        Some(e) => {
             if pair.n0 == n0 {
                 lookup_search::slice::read_at(b0, e, 0, buffer)
             } else {

@@ -7,7 +7,7 @@ ghost use Rattle.std.specs.Prelude.{◌≡◌, ◌≤◌, length};
 ghost use Rattle.format.specs.Index.{index_of, index_table, extend_of, extend_table};
 ghost use Rattle.index.specs.Blocks.{InBlock, indexed_in, tabled_in, extended_in, extended_table};
 
-use format::{Geometry, Indexed, LfsMdir, Refusal};
+use format::{Geometry, LfsMdir, Refusal};
 
 // What a table answers.
 pub mod get;
@@ -15,21 +15,21 @@ pub mod get;
 // A block's table for the log up to `end`: "-202 for a log that is irregular by the given rule, or a record whose end
 // is no commit boundary of its block's committed log, table unchanged". The walk sums what it passes: a record is taken
 // from anybody.
-fn index_block(b: &[u8], end: usize, rules: u32, table: &mut [u32]) -> Indexed
+fn index_block(b: &[u8], end: usize, rules: u32, table: &mut [u32]) -> Result<usize, Refusal>
     requires { InBlock b.now end }
     ensures value { result ≡ indexed_in rules b.now end (length table.old) }
     ensures table_after { table.new ≡ tabled_in rules b.now end table.old }
 {
     if end <= 4 {
-        return Indexed::Refused(Refusal::Irregular);
+        return Err(Refusal::Irregular);
     }
     let log = &b[0..end];
     let walked = fetch_walk::walk_block(log, 0);
     if walked.taken.off != end {
-        return Indexed::Refused(Refusal::Irregular);
+        return Err(Refusal::Irregular);
     }
     if !commit_regular::log_regular(log, end, commit_regular::rules_of(rules)) {
-        return Indexed::Refused(Refusal::Irregular);
+        return Err(Refusal::Irregular);
     }
     index_pass::build(log, end, table)
 }
@@ -44,14 +44,14 @@ pub fn lfs_dir_index(
     dir: LfsMdir,
     rules: u32,
     table: &mut [u32],
-) -> Indexed
+) -> Result<usize, Refusal>
     ensures value { result ≡ index_of g b0.now b1.now n0 n1 dir rules table.old }
     ensures table_after { table.new ≡ index_table g b0.now b1.now n0 n1 dir rules
         table.old }
 {
     let fits = sizes::record_fits(g, b0.len(), b1.len(), n0, n1, dir);
     if !(fits & (rules <= 1)) {
-        return Indexed::Refused(Refusal::Invalid);
+        return Err(Refusal::Invalid);
     }
     let pair = dir.pair;
     let end = dir.off as usize;
@@ -64,26 +64,26 @@ pub fn lfs_dir_index(
 
 // A block's table for the log up to `end`, from the one up to `old`: the walk goes on where the old log ends, and the
 // pass runs the entries behind it on the places that stand in the table.
-fn extend_block(b: &[u8], old: usize, end: usize, rules: u32, table: &mut [u32]) -> Indexed
+fn extend_block(b: &[u8], old: usize, end: usize, rules: u32, table: &mut [u32]) -> Result<usize, Refusal>
     requires { InBlock b.now end × (old ≤ end) }
     ensures value { result ≡ extended_in rules b.now old end table.old }
     ensures table_after { table.new ≡ extended_table rules b.now old end table.old }
 {
     if old <= 4 {
-        return Indexed::Refused(Refusal::Irregular);
+        return Err(Refusal::Irregular);
     }
     let walked = fetch_walk::walk_block(&b[0..old], 0);
     let known = walked.taken;
     if known.off != old {
-        return Indexed::Refused(Refusal::Irregular);
+        return Err(Refusal::Irregular);
     }
     let log = &b[0..end];
     let on = fetch_walk::walk_again(log, known);
     if on.taken.off != end {
-        return Indexed::Refused(Refusal::Irregular);
+        return Err(Refusal::Irregular);
     }
     if !commit_regular::log_regular(log, end, commit_regular::rules_of(rules)) {
-        return Indexed::Refused(Refusal::Irregular);
+        return Err(Refusal::Irregular);
     }
     let used = index_table::trim(table);
     index_pass::run_on(log, old, known.etag, end, table, used)
@@ -101,7 +101,7 @@ pub fn lfs_dir_index_extend(
     dir: LfsMdir,
     rules: u32,
     table: &mut [u32],
-) -> Indexed
+) -> Result<usize, Refusal>
     ensures value { result ≡ extend_of g b0.now b1.now n0 n1 old dir rules table.old }
     ensures table_after { table.new ≡ extend_table g b0.now b1.now n0 n1 old dir rules
         table.old }
@@ -111,7 +111,7 @@ pub fn lfs_dir_index_extend(
     let pair = dir.pair;
     let old_pair = old.pair;
     if !(fits & (rules <= 1) & old_fits & (old_pair.n0 == pair.n0) & (old.off <= dir.off)) {
-        return Indexed::Refused(Refusal::Invalid);
+        return Err(Refusal::Invalid);
     }
     let from = old.off as usize;
     let end = dir.off as usize;

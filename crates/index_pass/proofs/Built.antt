@@ -9,9 +9,10 @@ use Rattle.format.specs.Crc.{crc}
 use Rattle.format.specs.Walk.{walk}
 use Rattle.format.specs.Log.{log}
 use Rattle.format.specs.Index.{placed_from, ran_on, indexed_as, table_as, built}
-use Rattle.format.specs.declared.Indexed.{Indexed}
 use Rattle.index_theory.specs.Ran.{built_is}
 use Rattle.index_pass.specs.Run.{Onwards, Startable, Runs, Buildable}
+use Rattle.std.specs.Prelude.{Result}
+use Rattle.format.specs.declared.Refusal.{Refusal}
 
 module _ (b : List ℕ) (end : ℕ) (k : Buildable b end) (T : List ℕ) where
   onwards : Onwards b 4 all_ones end
@@ -33,7 +34,7 @@ module _ (b : List ℕ) (end : ℕ) (k : Buildable b end) (T : List ℕ) where
           holds = record { size = refl; is = ez ∙ ap (λ (n : ℕ). replicate n 0) (sym e) };
         }
 
-    pub build_done : (r : Indexed) (new : List ℕ) → Runs b 4 all_ones end (take (2 * 0) z) z new r
+    pub build_done : (r : Result ℕ Refusal) (new : List ℕ) → Runs b 4 all_ones end (take (2 * 0) z) z new r
         → (r ≡ indexed_as (built (length T) (log b))) × (new ≡ table_as (length T) (built (length T) (log b)))
     unfolding log walk onwards
     build_done r new h =

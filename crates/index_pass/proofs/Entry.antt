@@ -2,7 +2,6 @@
 use mathlib.Core.Path.{◌≡◌, refl, sym, ◌∙◌}
 use mathlib.Core.Logic.{◌≢◌}
 use mathlib.Core.Bool.{Bool, true, false, cond}
-use mathlib.Core.Option.{none}
 use mathlib.Core.List.{List, [], ◌∷◌}
 use Prim.Native.Nat.{ℕ, ◌+◌, ◌^◌, ◌≤◌, ◌<◌}
 use native.Mathlib.Omega.{arith}
@@ -14,8 +13,7 @@ use Rattle.format.specs.Directory.{classes, seat_class, Act, mk, rm, put, skip, 
 use Rattle.format.specs.Index.{rank_at, placed_act, places_after, slot_made, slot_removed, place_set, place_cleared}
 use Rattle.format.proofs.Tags.{of_fields}
 use Rattle.index_table.specs.Held.{Keeps, Goes}
-use Rattle.index_table.specs.declared.Placed.{Placed}
-use Rattle.index_table.specs.declared.Placed.TheVariants.{To, Full}
+use Rattle.std.specs.Prelude.{None, Option, Some}
 
 -- ---- the act of a tag, by its class
 class_act : (t : ℕ) (d : List ℕ) → seat_class t < classes → act t d ≡ put (tag_id t) (seat_class t) (load_of t d)
@@ -56,11 +54,11 @@ module _ (t at : ℕ) (j : ℕ) (ej : j ≡ tag_id t) (c : ℕ) (ec : c ≡ seat
   abbrev F : List ℕ → List ℕ
   F P = places_after P (placed_act at t)
 
-  same : (G : List ℕ → List ℕ) → ((P : List ℕ) → G P ≡ F P) → (new : List ℕ) (r : Placed) → Goes old used new r G
+  same : (G : List ℕ → List ℕ) → ((P : List ℕ) → G P ≡ F P) → (new : List ℕ) (r : Option ℕ) → Goes old used new r G
       → Goes old used new r F
   unfolding Goes
-  same G e new (To n) k = λ P h. rw (← e P) (k P h)
-  same G e new Full k = (k.0, λ P h. rw (← e P) (k.1 P h))
+  same G e new (Some n) k = λ P h. rw (← e P) (k P h)
+  same G e new None k = (k.0, λ P h. rw (← e P) (k.1 P h))
 
   module _ (seat : c < classes) (rank : ℕ) (er : rank ≡ rank_at j c) where
     is : placed_act at t ≡ put (tag_id t) (seat_class t) (load_of t (tag_size t ∷ (at + 4) ∷ []))
@@ -68,37 +66,37 @@ module _ (t at : ℕ) (j : ℕ) (ej : j ≡ tag_id t) (c : ℕ) (ec : c ≡ seat
     is = class_act t (tag_size t ∷ (at + 4) ∷ []) (rw (← ec) seat)
 
     pub unset_follows : tag_delete t ≡ true → (new : List ℕ) (r : ℕ) → Keeps old used new r (place_cleared rank)
-        → Goes old used new (To r) F
+        → Goes old used new (Some r) F
     unfolding places_after Goes
-    unset_follows gone new r k = same (place_cleared rank) (λ P. rw (is, gone, er, ej, ec)) new (To r) k
+    unset_follows gone new r k = same (place_cleared rank) (λ P. rw (is, gone, er, ej, ec)) new (Some r) k
 
-    pub set_follows : tag_delete t ≡ false → t < 2 ^ 31 → (new : List ℕ) (r : Placed)
+    pub set_follows : tag_delete t ≡ false → t < 2 ^ 31 → (new : List ℕ) (r : Option ℕ)
         → Goes old used new r (place_set rank t (at + 4)) → Goes old used new r F
     unfolding places_after Goes
     set_follows kept small new r k = same (place_set rank t (at + 4))
         (λ P. rw (is, kept, er, ej, ec, of_fields t small)) new r k
 
-  module _ (none : classes ≤ c) (x : ℕ) (ex : x ≡ tag_type3 t) where
+  module _ (None : classes ≤ c) (x : ℕ) (ex : x ≡ tag_type3 t) where
     is_other : placed_act at t ≡ cond (eqb (tag_type3 t) type_create) (mk (tag_id t)) (cond (eqb (tag_type3 t) type_delete)
         (rm (tag_id t)) skip)
     unfolding placed_act
-    is_other = other_act t (tag_size t ∷ (at + 4) ∷ []) (rw (← ec) none)
+    is_other = other_act t (tag_size t ∷ (at + 4) ∷ []) (rw (← ec) None)
 
     pub make_follows : x ≡ type_create → (new : List ℕ) → Keeps old used new used (slot_made j)
-        → Goes old used new (To used) F
+        → Goes old used new (Some used) F
     unfolding places_after Goes
     make_follows h new k =
         let e : tag_type3 t ≡ type_create = sym ex ∙ h in
-        same (slot_made j) (λ P. rw (is_other, e, ej)) new (To used) k
+        same (slot_made j) (λ P. rw (is_other, e, ej)) new (Some used) k
 
     pub remove_follows : x ≡ type_delete → (new : List ℕ) (r : ℕ) → Keeps old used new r (slot_removed j)
-        → Goes old used new (To r) F
+        → Goes old used new (Some r) F
     unfolding places_after Goes
     remove_follows h new r k =
         let e : tag_type3 t ≡ type_delete = sym ex ∙ h in
-        same (slot_removed j) (λ P. rw (is_other, e, ej)) new (To r) k
+        same (slot_removed j) (λ P. rw (is_other, e, ej)) new (Some r) k
 
-    pub other_follows : x ≢ type_create → x ≢ type_delete → Goes old used old (To used) F
+    pub other_follows : x ≢ type_create → x ≢ type_delete → Goes old used old (Some used) F
     unfolding places_after Goes
     other_follows n m = same (λ P. P)
         (λ P. rw (
@@ -106,4 +104,4 @@ module _ (t at : ℕ) (j : ℕ) (ej : j ≡ tag_id t) (c : ℕ) (ec : c ≡ seat
           ne_eqb (tag_type3 t) type_create (λ e. n (ex ∙ e)),
           ne_eqb (tag_type3 t) type_delete
               (λ e. m (ex ∙ e)),
-        )) old (To used) (λ P h. (refl, h))
+        )) old (Some used) (λ P h. (refl, h))

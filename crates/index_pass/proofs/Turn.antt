@@ -2,7 +2,6 @@
 -- Assumes nothing.
 use mathlib.Core.Path.{◌≡◌, refl, sym, ap, ◌∙◌}
 use mathlib.Core.Bool.{Bool, true, false}
-use mathlib.Core.Option.{none, some}
 use mathlib.Core.List.{List, ◌∷◌}
 use Prim.Native.Nat.{ℕ, ◌+◌, ◌-◌, ◌*◌, ◌/◌, ◌^◌, ◌≤◌, ◌<◌}
 use native.Mathlib.Omega.{arith}
@@ -17,15 +16,13 @@ use Rattle.format.specs.Log.{span, event_length}
 use Rattle.format.specs.Directory.{Act, skip}
 use Rattle.format.specs.Index.{placed_act, placed_from, places_after, padded, ran_on, indexed_as, table_as}
 use Rattle.format.specs.declared.Refusal.TheVariants.{TableFull}
-use Rattle.format.specs.declared.Indexed.TheVariants as indexed
 use Rattle.format.proofs.Words.{tag_length_ge}
 use Rattle.format.proofs.Classes.{Whole}
 use Rattle.fetch_walk.specs.State.{from}
 use Rattle.commit_regular.proofs.Place.{rest, tag_on, Behind, Met, more_met, none_left}
 use Rattle.index_table.specs.Held.{Holds, InUse, Keeps, Goes}
-use Rattle.index_table.specs.declared.Placed.{Placed}
-use Rattle.index_table.specs.declared.Placed.TheVariants.{To, Full}
 use Rattle.index_pass.specs.Run.{Onwards, Startable, ran_from, Ran}
+use Rattle.std.specs.Prelude.{Err, Ok, None, Option, Some}
 
 -- all places stand in the table
 pub within : (table : List ℕ) (n : ℕ) (P : List ℕ) → Holds table n P → length P ≤ length table
@@ -56,15 +53,15 @@ starts_going b start prev end T n s k = record {
 module _ (b : List ℕ) (start prev end : ℕ) (k : Onwards b start prev end) (T Q table : List ℕ) (n at last : ℕ)
     (v : Going b start prev end k T Q table n at last) where
   -- ---- the end
-  pub ends_there : end ≤ at → Ran b start prev end k Q T table (indexed.Places n)
+  pub ends_there : end ≤ at → Ran b start prev end k Q T table (Ok n)
   unfolding placed_from ran_on
   ends_there l =
-      let z : ran_from b start prev end k Q T ≡ some v.P =
+      let z : ran_from b start prev end k Q T ≡ Some v.P =
       v.ran ∙ ap (λ (es : List Event). ran_on (length T) v.P (placed_from at es))
       (none_left b at last v.sum end v.ends l) in
       let e : n ≡ length v.P / 2 = omega (arith, v.holds.size) in
       record {
-        answer = ap indexed.Places e ∙ sym (ap indexed_as z);
+        answer = ap Ok e ∙ sym (ap indexed_as z);
         left = v.holds.is ∙ ap (λ (m : ℕ). padded m v.P) v.long ∙ sym (ap (table_as (length T)) z);
       }
 
@@ -132,9 +129,9 @@ module _ (b : List ℕ) (start prev end : ℕ) (k : Onwards b start prev end) (T
             (met.check (kind true h)) table n refl v.holds)
 
         -- table' and r are what `follow` leaves and answers
-        module _ (h : x ≡ false) (table' : List ℕ) (r : Placed)
+        module _ (h : x ≡ false) (table' : List ℕ) (r : Option ℕ)
             (g : Goes table n table' r (λ (P : List ℕ). places_after P (placed_act at (bit_xor w last)))) where
-          pub entry_goes : (now : ℕ) → To now ≡ r → Going b start prev end k T Q table' now (at + m) (bit_xor w last)
+          pub entry_goes : (now : ℕ) → Some now ≡ r → Going b start prev end k T Q table' now (at + m) (bit_xor w last)
           unfolding event_length placed_from Goes
           entry_goes now e =
               let kept : Keeps table n table' now (λ (P : List ℕ). places_after P (placed_act at (bit_xor w last))) =
@@ -146,7 +143,7 @@ module _ (b : List ℕ) (start prev end : ℕ) (k : Onwards b start prev end) (T
               (rw same at u.1))
 
           -- there is no room, and the run ends
-          ends_full : Full ≡ r → ran_from b start prev end k Q T ≡ none
+          ends_full : None ≡ r → ran_from b start prev end k Q T ≡ None
           unfolding placed_from ran_on Goes
           ends_full e =
               let full = rw (← e) at g in
@@ -157,13 +154,13 @@ module _ (b : List ℕ) (start prev end : ℕ) (k : Onwards b start prev end) (T
               v.ran ∙ ap (λ (es : List Event). ran_on (length T) v.P (placed_from at es)) q.is
               ∙ rw (lt-leb (length (places_after v.P (placed_act at t))) (length T) l)
 
-          table_same : Full ≡ r → length table' ≡ length T
+          table_same : None ≡ r → length table' ≡ length T
           unfolding Goes
           table_same e = let full = rw (← e) at g in ap length full.0 ∙ v.long
 
           -- z is the table when it is cleared
-          pub entry_full : Full ≡ r → (z : List ℕ) → z ≡ replicate (length table') 0
-              → Ran b start prev end k Q T z (indexed.Refused TableFull)
+          pub entry_full : None ≡ r → (z : List ℕ) → z ≡ replicate (length table') 0
+              → Ran b start prev end k Q T z (Err TableFull)
           entry_full e z ez = record {
             answer = sym (ap indexed_as (ends_full e));
             left = ez ∙ ap (λ (y : ℕ). replicate y 0) (table_same e) ∙ sym (ap (table_as (length T)) (ends_full e));

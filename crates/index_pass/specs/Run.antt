@@ -1,13 +1,12 @@
 -- What the pass asks and what it leaves. Assumes nothing.
-use Rattle.std.specs.Prelude.{◌≡◌, true, List, ℕ, ◌+◌, ◌*◌, ◌^◌, ◌≤◌, length, take, drop}
-use Rattle.std.proofs.Math.Option.{Option}
+use Rattle.std.specs.Prelude.{◌≡◌, true, List, ℕ, ◌+◌, ◌*◌, ◌^◌, ◌≤◌, length, take, drop, Option, Result}
 use Rattle.format.specs.Walk.{Event, walk_from}
 use Rattle.format.specs.Log.{committed, log, span, log_end}
 use Rattle.format.specs.Regular.{Regular}
 use Rattle.format.specs.declared.Rules.TheVariants.{Littlefs}
-use Rattle.format.specs.declared.Indexed.{Indexed}
 use Rattle.format.specs.Index.{placed_from, ran_on, indexed_as, table_as}
 use Rattle.index_table.specs.Held.{Holds}
+use Rattle.format.specs.declared.Refusal.{Refusal}
 
 -- what is committed from a place on, by the previous tag and the checksum there
 abbrev pub on_from : List ℕ → ℕ → ℕ → ℕ → List Event
@@ -29,13 +28,13 @@ pub record Startable (b : List ℕ) (from prev end : ℕ) (table : List ℕ) (us
 abbrev pub ran_from : (b : List ℕ) (from prev end : ℕ) → Onwards b from prev end → List ℕ → List ℕ → Option (List ℕ)
 ran_from b from prev end k P table = ran_on (length table) P (placed_from from (on_from b from prev k.sum))
 
-pub record Ran (b : List ℕ) (from prev end : ℕ) (k : Onwards b from prev end) (P table new : List ℕ) (r : Indexed)
+pub record Ran (b : List ℕ) (from prev end : ℕ) (k : Onwards b from prev end) (P table new : List ℕ) (r : Result ℕ Refusal)
     : Type 0 where
   pub answer : r ≡ indexed_as (ran_from b from prev end k P table)
   pub left : new ≡ table_as (length table) (ran_from b from prev end k P table)
 
 -- whatever the checksum at the start is
-abbrev pub Runs : (b : List ℕ) (from prev end : ℕ) (P table new : List ℕ) (r : Indexed) → Type 0
+abbrev pub Runs : (b : List ℕ) (from prev end : ℕ) (P table new : List ℕ) (r : Result ℕ Refusal) → Type 0
 Runs b from prev end P table new r = (k : Onwards b from prev end) → Ran b from prev end k P table new r
 
 -- a block whose log ends at `end` and is regular, by littlefs's rule, which is the wider one

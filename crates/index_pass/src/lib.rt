@@ -10,11 +10,10 @@ ghost use Rattle.index_pass.specs.Run.{Startable, Runs, Buildable};
 
 use fetch_walk::cursor;
 use format::types::*;
-use format::{Indexed, Refusal};
-use index_table::Placed;
+use format::Refusal;
 
 // What an entry at `at` does to a table of which `used` places are in use.
-fn follow(table: &mut [u32], used: usize, tag: u32, at: usize) -> Placed
+fn follow(table: &mut [u32], used: usize, tag: u32, at: usize) -> Option<usize>
     requires { InUse table.old used × (tag < 2 ^ 31) × (at < 2 ^ 31) }
     ensures { Goes table.old used table.new result
         (λ (P : List ℕ). places_after P (placed_act at tag)) }
@@ -24,19 +23,19 @@ fn follow(table: &mut [u32], used: usize, tag: u32, at: usize) -> Placed
     if class < compact_slot::CLASSES {
         let rank = index_table::rank_at(id, class);
         if tag::lfs_tag_isdelete(tag) {
-            return Placed::To(index_table::unset(table, used, rank));
+            return Some(index_table::unset(table, used, rank));
         }
         return index_table::set(table, used, rank, tag, (at + 4) as u32);
     }
     let type3 = tag::lfs_tag_type3(tag);
     if type3 == LFS_TYPE_CREATE {
         index_table::make(table, used, id);
-        return Placed::To(used);
+        return Some(used);
     }
     if type3 == LFS_TYPE_DELETE {
-        return Placed::To(index_table::remove(table, used, id));
+        return Some(index_table::remove(table, used, id));
     }
-    Placed::To(used)
+    Some(used)
 }
 
 // The entries from `from` on, behind the tag `prev`, up to `end`, run on a table of which `used` places are in use.
@@ -48,7 +47,7 @@ pub fn run_on(
     end: usize,
     table: &mut [u32],
     used: usize,
-) -> Indexed
+) -> Result<usize, Refusal>
     requires { Startable b.now from prev end table.old used }
     ensures { Runs b.now from prev end (take (2 * used) table.old) table.old
         table.new result }
@@ -63,20 +62,20 @@ pub fn run_on(
             last = cursor::flipped(tag);
             at = next;
         } else {
-            let Placed::To(now) = follow(table, n, tag, at) else {
+            let Some(now) = follow(table, n, tag, at) else {
                 index_table::clear(table);
-                return Indexed::Refused(Refusal::TableFull);
+                return Err(Refusal::TableFull);
             };
             n = now;
             last = tag;
             at = next;
         }
     }
-    Indexed::Places(n)
+    Ok(n)
 }
 
 // The table of the log that ends at `end`.
-pub fn build(b: &[u8], end: usize, table: &mut [u32]) -> Indexed
+pub fn build(b: &[u8], end: usize, table: &mut [u32]) -> Result<usize, Refusal>
     requires { Buildable b.now end }
     ensures value { result ≡ indexed_as (built (length table.old) (log b.now)) }
     ensures table_after { table.new ≡ table_as (length table.old)

@@ -1,8 +1,6 @@
 -- A table of which some places are in use, and what an entry makes of them. Assumes nothing.
-use Rattle.std.specs.Prelude.{◌≡◌, ℕ, ◌*◌, ◌<◌, ◌≤◌, List, length}
+use Rattle.std.specs.Prelude.{◌≡◌, ℕ, ◌*◌, ◌<◌, ◌≤◌, List, length, None, Option, Some}
 use Rattle.format.specs.Index.{padded}
-use Rattle.index_table.specs.declared.Placed.{Placed}
-use Rattle.index_table.specs.declared.Placed.TheVariants.{To, Full}
 
 -- what the functions ask: the places in use stand inside the table
 abbrev pub InUse : List ℕ → ℕ → Type 0
@@ -18,6 +16,6 @@ abbrev pub Keeps : (old : List ℕ) (used : ℕ) (new : List ℕ) (now : ℕ) (F
 Keeps old used new now F = (P : List ℕ) → Holds old used P → (length new ≡ length old) × Holds new now (F P)
 
 -- the same, or there is no room for it, and then the table is as it was
-unfoldable pub Goes : (old : List ℕ) (used : ℕ) (new : List ℕ) (r : Placed) (F : List ℕ → List ℕ) → Type 0
-Goes old used new (To now) F = Keeps old used new now F
-Goes old used new Full F = (new ≡ old) × ((P : List ℕ) → Holds old used P → length old < length (F P))
+unfoldable pub Goes : (old : List ℕ) (used : ℕ) (new : List ℕ) (r : Option ℕ) (F : List ℕ → List ℕ) → Type 0
+Goes old used new (Some now) F = Keeps old used new now F
+Goes old used new None F = (new ≡ old) × ((P : List ℕ) → Holds old used P → length old < length (F P))

@@ -9,13 +9,6 @@ ghost use Rattle.format.specs.Index.{rank_at, rank_of, seek_from, shifted, leadi
 ghost use Rattle.format.specs.Index.{place_cleared, is_at};
 ghost use Rattle.index_table.specs.Held.{InUse, Holds, Keeps, Goes};
 
-// A table with an entry more: so many places are in use, or there is no room for it.
-#[derive(Clone, Copy)]
-pub enum Placed {
-    To(usize),
-    Full,
-}
-
 // one id more, in a tag
 const ONE_UP: u32 = 0x400;
 
@@ -191,7 +184,7 @@ fn is_at(table: &[u32], used: usize, at: usize, rank: u32) -> bool
 }
 
 // What is set stands in its place, or in a new one.
-pub fn set(table: &mut [u32], used: usize, rank: u32, tag: u32, off: u32) -> Placed
+pub fn set(table: &mut [u32], used: usize, rank: u32, tag: u32, off: u32) -> Option<usize>
     requires { InUse table.old used }
     ensures { Goes table.old used table.new result (place_set rank tag off) }
 {
@@ -200,14 +193,14 @@ pub fn set(table: &mut [u32], used: usize, rank: u32, tag: u32, off: u32) -> Pla
     let at = 2 * place;
     if is_at(table, used, place, rank) {
         put(&mut table[at..end], tag, off);
-        return Placed::To(used);
+        return Some(used);
     }
     if table.len() - end < 2 {
-        return Placed::Full;
+        return None;
     }
     let to = end + 2;
     open(&mut table[at..to], tag, off);
-    Placed::To(used + 1)
+    Some(used + 1)
 }
 
 // What is removed leaves no place.

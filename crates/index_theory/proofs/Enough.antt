@@ -1,8 +1,7 @@
 -- A table of half as many words as the block has bytes is never too small: an entry takes four bytes of the log or
 -- more, and brings one place more at most. Assumes nothing.
-use Rattle.std.specs.Prelude.{◌≡◌, ◌≢◌, Bool, true, false, cond, List, [], ◌∷◌, ◌++◌, ℕ, zero, suc, ◌+◌, ◌-◌, ◌*◌, ◌/◌, ◌≤◌, length, take, drop, get_or, eqb, ltb}
+use Rattle.std.specs.Prelude.{◌≡◌, ◌≢◌, Bool, true, false, cond, List, [], ◌∷◌, ◌++◌, ℕ, zero, suc, ◌+◌, ◌-◌, ◌*◌, ◌/◌, ◌≤◌, length, take, drop, get_or, eqb, ltb, None, Some}
 use Rattle.std.proofs.Common.{sym, ◌∙◌, arith, length-append, length-take, length-drop, le-leb}
-use Rattle.std.proofs.Math.Option.{none, some}
 use Rattle.format.specs.Tag.{tag_length, tag_of}
 use Rattle.format.specs.Walk.{Event, ent, chk, inv}
 use Rattle.format.specs.Log.{log, event_length, span}
@@ -50,12 +49,12 @@ place_more P (rm j) =
     parts (2 * p) k P (shifted one_down (drop k P))
     (omega (arith, halving_from (length P / 2 - p) (rank_at (suc j) 0) P p (length P / 2 - p)))
     (omega (arith, shifted_length one_down (drop k P), length-drop k P))
-place_more P (put j c none) =
+place_more P (put j c None) =
     let p : ℕ = seek (rank_at j c) P in
     let x : Bool = is_at (rank_at j c) P p in
     let k : ℕ = cond x (2 * p + 2) (2 * p) in
     parts (2 * p) k P (drop k P) (behind x p) (omega (arith, length-drop k P))
-place_more P (put j c (some v)) =
+place_more P (put j c (Some v)) =
     let p : ℕ = seek (rank_at j c) P in
     let x : Bool = is_at (rank_at j c) P p in
     let k : ℕ = cond x (2 * p + 2) (2 * p) in
@@ -64,7 +63,7 @@ place_more P (put j c (some v)) =
 place_more P skip = omega arith
 
 -- so a run with room for one place an entry does not stop
-ran_enough : (n : ℕ) (l : List Act) (P : List ℕ) → length P + 2 * length l ≤ n → ran_on n P l ≢ none
+ran_enough : (n : ℕ) (l : List Act) (P : List ℕ) → length P + 2 * length l ≤ n → ran_on n P l ≢ None
 unfolding ran_on
 ran_enough n [] P h = λ e. absurd (let z : ◌≡◌ {A = ℕ} 0 1 = cc in omega arith)
 ran_enough n (a ∷ l) P h = rw (le-leb (length (places_after P a)) n (omega (arith, place_more P a)))
@@ -79,6 +78,6 @@ acts_span (chk t c ∷ es) off = omega (arith, tag_length_ge t, acts_span es (of
 acts_span (inv ∷ es) off = omega (arith, acts_span es off)
 
 pub built_enough : (n : ℕ) (b : List ℕ) → Regular Littlefs (log b) ≡ true → span (log b) ≤ 2 * n
-    → built n (log b) ≢ none
+    → built n (log b) ≢ None
 built_enough n b regular h e = ran_enough n (placed_from 4 (log b)) [] (omega (arith, acts_span (log b) 4))
     (sym (built_is n b regular) ∙ e)

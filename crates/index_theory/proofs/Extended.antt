@@ -1,9 +1,8 @@
 -- A table that is extended from one end to a later one is the table that is built for the later one. Assumes nothing.
 use Rattle.std.proofs.Math.Path.{◌≡◌, refl, sym, ap}
 use Rattle.std.proofs.Common.{◌∙◌, arith, length-append, take_at, ne_eqb, leb-true}
-use Rattle.std.specs.Prelude.{◌≢◌, Bool, ℕ, zero, suc, ◌+◌, ◌-◌, ◌*◌, ◌/◌, ◌^◌, ◌≤◌, ◌<◌, take, replicate}
+use Rattle.std.specs.Prelude.{◌≢◌, Bool, ℕ, zero, suc, ◌+◌, ◌-◌, ◌*◌, ◌/◌, ◌^◌, ◌≤◌, ◌<◌, take, replicate, None, Ok, Option, Some}
 use Rattle.std.proofs.Math.Bool.{true, false, cond}
-use Rattle.std.proofs.Math.Option.{Option, none, some}
 use mathlib.Core.List.{List, [], ◌∷◌, ◌++◌}
 use Rattle.std.proofs.Math.ListN.{length}
 use Rattle.std.proofs.lemmas.List.{length-replicate}
@@ -16,7 +15,6 @@ use Rattle.format.specs.declared.Rules.TheVariants.{Littlefs}
 use Rattle.format.specs.Directory.{Act, Slot, apply, apply_all}
 use Rattle.format.specs.Index.{rank_at, rank_of, placed_from, places_of, places_after, padded, log_to, ends_at, all_fit}
 use Rattle.format.specs.Index.{indexable, indexed_as, table_as, built, ran_on, leading, new_acts, extended}
-use Rattle.format.specs.declared.Indexed.TheVariants as indexed
 use Rattle.format.proofs.Growing.{widest}
 use Rattle.theory.specs.Walk.Step.{both_true}
 use Rattle.theory.specs.Back.EventBytes.{log_stands}
@@ -48,24 +46,24 @@ leading_is low high (t ∷ o ∷ P) k h b =
 
 -- ---- entries in two parts, and what they leave fits
 module _ (n : ℕ) where
-  pub ran_app : (l k : List Act) (P Q : List ℕ) → ran_on n P l ≡ some Q → ran_on n P (l ++ k) ≡ ran_on n Q k
+  pub ran_app : (l k : List Act) (P Q : List ℕ) → ran_on n P l ≡ Some Q → ran_on n P (l ++ k) ≡ ran_on n Q k
   unfolding ran_on
   ran_app [] k P Q h = let e : P ≡ Q = cc in ap (λ (x : List ℕ). ran_on n x k) e
   ran_app (a ∷ l) k P Q h = go (leb (length (places_after P a)) n) h (ran_app l k (places_after P a) Q)
     where
-      go : (x : Bool) → cond x (ran_on n (places_after P a) l) none ≡ some Q
-          → (ran_on n (places_after P a) l ≡ some Q → ran_on n (places_after P a) (l ++ k) ≡ ran_on n Q k)
-          → cond x (ran_on n (places_after P a) (l ++ k)) none ≡ ran_on n Q k
+      go : (x : Bool) → cond x (ran_on n (places_after P a) l) None ≡ Some Q
+          → (ran_on n (places_after P a) l ≡ Some Q → ran_on n (places_after P a) (l ++ k) ≡ ran_on n Q k)
+          → cond x (ran_on n (places_after P a) (l ++ k)) None ≡ ran_on n Q k
       go true h on = on h
       go false h on = absurd (let z : ◌≡◌ {A = ℕ} 0 1 = cc in omega arith)
 
-  pub ran_fits : (l : List Act) (P Q : List ℕ) → length P ≤ n → ran_on n P l ≡ some Q → length Q ≤ n
+  pub ran_fits : (l : List Act) (P Q : List ℕ) → length P ≤ n → ran_on n P l ≡ Some Q → length Q ≤ n
   unfolding ran_on
   ran_fits [] P Q f h = let e : P ≡ Q = cc in rw (← e) f
   ran_fits (a ∷ l) P Q f h = go (leb (length (places_after P a)) n) refl h (ran_fits l (places_after P a) Q)
     where
-      go : (x : Bool) → leb (length (places_after P a)) n ≡ x → cond x (ran_on n (places_after P a) l) none ≡ some Q
-          → (length (places_after P a) ≤ n → ran_on n (places_after P a) l ≡ some Q → length Q ≤ n) → length Q ≤ n
+      go : (x : Bool) → leb (length (places_after P a)) n ≡ x → cond x (ran_on n (places_after P a) l) None ≡ Some Q
+          → (length (places_after P a) ≤ n → ran_on n (places_after P a) l ≡ Some Q → length Q ≤ n) → length Q ≤ n
       go true e h on = on (leb-true (length (places_after P a)) n e) h
       go false e h on = absurd (let z : ◌≡◌ {A = ℕ} 0 1 = cc in omega arith)
 
@@ -87,24 +85,24 @@ module _ (b : List ℕ) (regular : Regular Littlefs (log b) ≡ true) where
   places_between = dir_between 0 (placed_dir b regular) placed_fit (omega (arith, placed_few b regular))
 
 -- what was built is the log's places
-pub built_places : (n : ℕ) (es : List Event) (P : List ℕ) → built n es ≡ some P → P ≡ places_of es
+pub built_places : (n : ℕ) (es : List Event) (P : List ℕ) → built n es ≡ Some P → P ≡ places_of es
 unfolding built
 built_places n es P h = go (all_fit n es) h
   where
-    go : (x : Bool) → cond x (some (places_of es)) none ≡ some P → P ≡ places_of es
+    go : (x : Bool) → cond x (Some (places_of es)) None ≡ Some P → P ≡ places_of es
     go true h = cc
     go false h = absurd (let z : ◌≡◌ {A = ℕ} 0 1 = cc in omega arith)
 
 -- and stands in front of the table
 pub built_front : (n : ℕ) (b : List ℕ) → Regular Littlefs (log b) ≡ true → (k : ℕ)
-    → indexed.Places k ≡ indexed_as (built n (log b))
+    → Ok k ≡ indexed_as (built n (log b))
     → (2 * k ≤ n) × (take (2 * k) (table_as n (built n (log b))) ≡ places_of (log b))
 built_front n b regular k h = go (built n (log b)) refl h
   where
-    go : (x : Option (List ℕ)) → built n (log b) ≡ x → indexed.Places k ≡ indexed_as x
+    go : (x : Option (List ℕ)) → built n (log b) ≡ x → Ok k ≡ indexed_as x
         → (2 * k ≤ n) × (take (2 * k) (table_as n x) ≡ places_of (log b))
-    go none e h = absurd (let z : ◌≡◌ {A = ℕ} 0 1 = cc in omega arith)
-    go (some P) e h =
+    go None e h = absurd (let z : ◌≡◌ {A = ℕ} 0 1 = cc in omega arith)
+    go (Some P) e h =
         let q : P ≡ places_of (log b) = built_places n (log b) P e in
         let half : k ≡ length P / 2 = cc in
         let few : length P ≤ n =
@@ -136,15 +134,15 @@ module _ (n : ℕ) (r : Rules) (b : List ℕ) (old end : ℕ) (ho : ends_at b ol
   unfolding Regular es
   regular_old = regular_front es on (grows Littlefs) 0 (rw is at regular_new)
 
-  pub built_fits : (P : List ℕ) → built n (log_to b old) ≡ some P → length P ≤ n
+  pub built_fits : (P : List ℕ) → built n (log_to b old) ≡ Some P → length P ≤ n
   unfolding es
   built_fits P h = ran_fits n (placed_from 4 es) [] P (omega arith) (sym (built_is n (take old b) regular_old) ∙ h)
 
-  pub extend_afresh : (P : List ℕ) → built n (log_to b old) ≡ some P
+  pub extend_afresh : (P : List ℕ) → built n (log_to b old) ≡ Some P
       → extended (padded n P) b old end ≡ built n (log_to b end)
   unfolding es on
   extend_afresh P h =
-      let ran : ran_on n [] (placed_from 4 es) ≡ some P = sym (built_is n (take old b) regular_old) ∙ h in
+      let ran : ran_on n [] (placed_from 4 es) ≡ Some P = sym (built_is n (take old b) regular_old) ∙ h in
       let few : length P ≤ n = built_fits P h in
       let k : length (padded n P) ≡ n = padded_length n P few in
       let q : P ≡ places_of es = built_places n es P h in

@@ -1,8 +1,7 @@
 -- What a table answers: of the table of a block with a regular log, what the search back answers. Assumes nothing.
-use Rattle.std.specs.Prelude.{◌≡◌, refl, cond, ℕ, suc, ◌-◌, ◌*◌, ◌^◌, ◌≤◌, ◌<◌, get_or, replicate}
+use Rattle.std.specs.Prelude.{◌≡◌, refl, cond, ℕ, suc, ◌-◌, ◌*◌, ◌^◌, ◌≤◌, ◌<◌, get_or, replicate, None, Option, Some}
 use Rattle.std.proofs.Common.{sym, ◌∙◌, arith}
 use Rattle.std.proofs.Math.Path.{ap}
-use Rattle.std.proofs.Math.Option.{Option, none, some}
 use mathlib.Core.List.{List, ◌∷◌, ◌++◌, append_assoc}
 use Rattle.std.proofs.Math.ListN.{length}
 use borrow.Author.Tests.{lt-ltb, le-leb}
@@ -12,8 +11,6 @@ use Rattle.format.specs.Directory.{classes, seat_class, Load, Slot, empty}
 use Rattle.format.specs.Look.{data_size, HitIn}
 use Rattle.format.specs.Index.{rank_at, class_places, dir_places, padded, seek, is_at, place_hit}
 use Rattle.format.specs.Index.{index_hit}
-use Rattle.format.specs.declared.Hit.{Hit}
-use Rattle.format.specs.declared.Hit.TheVariants as hit
 use Rattle.format.proofs.Tags.{of_length}
 use Rattle.theory.specs.Directory.Machine.{most_slots}
 use Rattle.theory.specs.Lookup.ByMask.{holds_as, Answers}
@@ -22,25 +19,26 @@ use Rattle.index_theory.specs.Ordered.{not_at_seam}
 use Rattle.index_theory.specs.Places.{FitsIn, AllFit, rank_of_lem, class_between}
 use Rattle.index_theory.specs.Step.{Parted, class_parted, fit_at}
 use Rattle.index_theory.specs.Looked.{place_of}
+use Rattle.format.specs.declared.Found.{Found}
 
 -- ---- what stands under a class, as it is found
-abbrev pub load_hit : ℕ → Option Load → Hit
-load_hit id none = hit.Nothing
-load_hit id (some v) =
-    hit.Found (record {
+abbrev pub load_hit : ℕ → Option Load → Option Found
+load_hit id None = None
+load_hit id (Some v) =
+    Some (record {
       tag = tag_of v.type id (get_or v.bytes 0 0);
       length = tag_length (tag_of v.type id (get_or v.bytes 0 0));
       off = get_or v.bytes 1 0;
     })
 
 -- what a search finds, whose tag has the id and which is no removal, is that
-pub found_load : (n id : ℕ) (h : Hit) → HitIn n h → Answers id h → h ≡ load_hit id (holds_as place_of h)
+pub found_load : (n id : ℕ) (h : Option Found) → HitIn n h → Answers id h → h ≡ load_hit id (holds_as place_of h)
 unfolding holds_as
-found_load n id hit.Nothing w a = refl
-found_load n id (hit.Found e) w a =
+found_load n id None w a = refl
+found_load n id (Some e) w a =
     let l : tag_length (tag_of (tag_type3 e.tag) id (data_size e)) ≡ e.length =
     of_length (tag_type3 e.tag) id (data_size e) w.kept ∙ omega (arith, w.counted) in
-    λ i. hit.Found (record { tag = a i; length = sym l i; off = e.off })
+    λ i. Some (record { tag = a i; length = sym l i; off = e.off })
 
 -- ---- a table of a directory whose slots hold what belongs there
 module _ (n : ℕ) (D : List Slot) (f : AllFit D) (few : length D ≤ most_slots) (id : ℕ) (there : id < length D) (c : ℕ)
@@ -67,16 +65,16 @@ module _ (n : ℕ) (D : List Slot) (f : AllFit D) (few : length D ≤ most_slots
       (zeros_none (suc (rank_at id c)) (n - length (dir_places 0 D)) (omega arith))
 
   found : (m : Option Load) → FitsIn c m → (T : List ℕ) → T ≡ p.before ++ (class_places id m ++ (p.rest ++ Z))
-      → cond (is_at (rank_at id c) T (seek (rank_at id c) T)) (place_hit T (seek (rank_at id c) T)) hit.Nothing
+      → cond (is_at (rank_at id c) T (seek (rank_at id c) T)) (place_hit T (seek (rank_at id c) T)) None
       ≡ load_hit id m
-  found none g T e = rw (e, not_at_seam (rank_at 0 0) (rank_at id c) p.before (p.rest ++ Z) p.below behind)
-  found (some v) g T e =
+  found None g T e = rw (e, not_at_seam (rank_at 0 0) (rank_at id c) p.before (p.rest ++ Z) p.below behind)
+  found (Some v) g T e =
       let t : ℕ = tag_of v.type id (get_or v.bytes 0 0) in
       let o : ℕ = get_or v.bytes 1 0 in
       let B : List ℕ = t ∷ o ∷ (p.rest ++ Z) in
       let b : NoneBefore (rank_at id c) B =
-      none_app (rank_at id c) (rank_at id c) (rank_at id (suc c)) (class_places id (some v))
-      (p.rest ++ Z) (omega arith) (class_between c id (some v) g (omega arith)) (λ i. omega (arith, behind i)) in
+      none_app (rank_at id c) (rank_at id c) (rank_at id (suc c)) (class_places id (Some v))
+      (p.rest ++ Z) (omega arith) (class_between c id (Some v) g (omega arith)) (λ i. omega (arith, behind i)) in
       let x = tag_seam (rank_at 0 0) (rank_at id c) p.before B p.below b in
       let y = off_seam (rank_at 0 0) (rank_at id c) p.before B p.below b in
       rw (

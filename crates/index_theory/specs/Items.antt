@@ -1,10 +1,9 @@
 -- The entries that a compaction writes, from the places of a table: each place's tag and the bytes that it names are
 -- the entry of what the slot holds there. Assumes nothing.
-use Rattle.std.specs.Prelude.{◌≡◌, ◌≢◌, Bool, length, take, drop, get_or}
+use Rattle.std.specs.Prelude.{◌≡◌, ◌≢◌, Bool, length, take, drop, get_or, None, Option, Some}
 use Rattle.std.proofs.Math.Path.{refl, sym, ap₂}
 use Rattle.std.proofs.Common.{ap, ◌∙◌, arith}
 use Rattle.std.proofs.Math.Bool.{true}
-use Rattle.std.proofs.Math.Option.{Option, none, some}
 use mathlib.Core.List.{List, [], ◌∷◌, ◌++◌}
 use Prim.Native.Nat.{ℕ, zero, suc, ◌+◌, ◌-◌, ◌≤◌, ◌<◌}
 use Rattle.format.specs.Tag.{tag_type3, tag_id, tag_size, tag_length, tag_of}
@@ -17,8 +16,6 @@ use Rattle.format.specs.Regular.{Rule, rule_of, between, rule_holds, count_after
 use Rattle.format.specs.Regular.{Regular}
 use Rattle.format.specs.declared.Rules.TheVariants.{Littlefs}
 use Rattle.format.specs.declared.Found.{Found}
-use Rattle.format.specs.declared.Hit.{Hit}
-use Rattle.format.specs.declared.Hit.TheVariants as hit
 use Rattle.format.specs.Directory.{classes, Load, empty, acts, dir_of}
 use Rattle.format.specs.Commit.{Item}
 use Rattle.format.specs.Compaction.{class_items, slot_items}
@@ -57,10 +54,10 @@ found_long : (n id : ℕ) (e : Found) → FoundIn n e
     → tag_length (tag_of (tag_type3 e.tag) id (data_size e)) ≡ 4 + data_size e
 found_long n id e w = of_length (tag_type3 e.tag) id (data_size e) w.kept
 
-class_in : (n id : ℕ) (h : Hit) → HitIn n h → PlacesIn n (class_places id (holds_as place_of h))
+class_in : (n id : ℕ) (h : Option Found) → HitIn n h → PlacesIn n (class_places id (holds_as place_of h))
 unfolding holds_as
-class_in n id hit.Nothing w = tt
-class_in n id (hit.Found e) w =
+class_in n id None w = tt
+class_in n id (Some e) w =
     let l = found_long n id e w in (
       record {
         counted = omega (arith, l);
@@ -70,11 +67,11 @@ class_in n id (hit.Found e) w =
       tt,
     )
 
-class_same : (b : List ℕ) (id : ℕ) (h : Hit) → HitIn (length b) h
+class_same : (b : List ℕ) (id : ℕ) (h : Option Found) → HitIn (length b) h
     → class_items id (holds b h) ≡ place_items b (class_places id (holds_as place_of h))
 unfolding holds holds_as place_items
-class_same b id hit.Nothing w = refl
-class_same b id (hit.Found e) w =
+class_same b id None w = refl
+class_same b id (Some e) w =
     let n : tag_length (tag_of (tag_type3 e.tag) id (data_size e)) - 4 ≡ data_size e =
     omega (arith, found_long (length b) id e w) in
     rw (bytes_length b e w, n)
@@ -110,7 +107,7 @@ module _ (b : List ℕ) (regular : Regular Littlefs (log b) ≡ true) where
   module _ (four : 4 ≤ length b) (nonempty : log b ≢ []) (id : ℕ) (hi : id < length (placed_dir b regular)) where
     -- what the search back finds of a class
     record Sought (c : ℕ) : Type 0 where
-      hit : Hit
+      hit : Option Found
       inside : HitIn (length b) hit
       load : holds b hit ≡ get_or (dir_of (log b)) id empty c
       place : holds_as place_of hit ≡ get_or (placed_dir b regular) id empty c
@@ -150,13 +147,13 @@ module _ (b : List ℕ) (regular : Regular Littlefs (log b) ≡ true) where
     items_app : (v : Option Load) (P : List ℕ) → place_items b (class_places id v ++ P)
         ≡ place_items b (class_places id v) ++ place_items b P
     unfolding place_items
-    items_app none P = refl
-    items_app (some v) P = refl
+    items_app None P = refl
+    items_app (Some v) P = refl
 
     inside_app : (v : Option Load) (P : List ℕ) → PlacesIn (length b) (class_places id v) → PlacesIn (length b) P
         → PlacesIn (length b) (class_places id v ++ P)
-    inside_app none P w k = k
-    inside_app (some v) P w k = (w.0, k)
+    inside_app None P w k = k
+    inside_app (Some v) P w k = (w.0, k)
 
     slot_same : (n c : ℕ) → c + n ≤ classes → slot_items n c id (get_or (dir_of (log b)) id empty)
         ≡ place_items b (slot_places n c id (get_or (placed_dir b regular) id empty))

@@ -1,9 +1,8 @@
 -- The places of one slot stand together: from its first place on, those with its id are its own, and behind them stand
 -- those of the later slots. Assumes nothing.
-use Rattle.std.specs.Prelude.{◌≡◌, refl, ◌≢◌, Bool, true, false, cond, List, [], ◌∷◌, ◌++◌, ℕ, zero, suc, ◌+◌, ◌^◌, ◌≤◌, ◌<◌, length, drop, get_or, eqb}
+use Rattle.std.specs.Prelude.{◌≡◌, refl, ◌≢◌, Bool, true, false, cond, List, [], ◌∷◌, ◌++◌, ℕ, zero, suc, ◌+◌, ◌^◌, ◌≤◌, ◌<◌, length, drop, get_or, eqb, None, Option, Some}
 use Rattle.std.proofs.Math.Path.{ap}
 use Rattle.std.proofs.Common.{◌∙◌, append-nil, arith, length-drop, drop-cons, drop_at, eq-eqb, ne_eqb}
-use Rattle.std.proofs.Math.Option.{Option, none, some}
 use Rattle.format.specs.Tag.{tag_id, tag_of}
 use Rattle.format.specs.Directory.{classes, Load, Slot, empty}
 use Rattle.format.specs.Index.{class_places, slot_places, dir_places}
@@ -54,8 +53,8 @@ slot_own (suc n) c id s R f h = go (s c) (f c) (slot_own n (suc c) id s R f h)
         → own_places id (slot_places n (suc c) id s ++ R) ≡ slot_places n (suc c) id s ++ own_places id R
         → own_places id ((class_places id v ++ slot_places n (suc c) id s) ++ R)
         ≡ (class_places id v ++ slot_places n (suc c) id s) ++ own_places id R
-    go none g on = on
-    go (some v) g on =
+    go None g on = on
+    go (Some v) g on =
         let t : ℕ = tag_of v.type id (get_or v.bytes 0 0) in
         let o : ℕ = get_or v.bytes 1 0 in
         own_more id t o (slot_places n (suc c) id s ++ R) (of_id v.type id (get_or v.bytes 0 0) h g.size)
@@ -69,8 +68,8 @@ slot_other (suc n) c id k s R f h l e = go (s c) (f c) (slot_other n (suc c) id 
   where
     go : (v : Option Load) → FitsIn c v → own_places id (slot_places n (suc c) k s ++ R) ≡ []
         → own_places id ((class_places k v ++ slot_places n (suc c) k s) ++ R) ≡ []
-    go none g on = on
-    go (some v) g on = own_none id (tag_of v.type k (get_or v.bytes 0 0)) (get_or v.bytes 1 0)
+    go None g on = on
+    go (Some v) g on = own_none id (tag_of v.type k (get_or v.bytes 0 0)) (get_or v.bytes 1 0)
         (slot_places n (suc c) k s ++ R) (λ q. omega (arith, of_id v.type k (get_or v.bytes 0 0) h g.size))
 
 dir_other : (id k : ℕ) (D : List Slot) → AllFit D → k + length D ≤ 2 ^ 10 → id < k → own_places id (dir_places k D) ≡ []
@@ -98,10 +97,10 @@ module _ (D : List Slot) (f : AllFit D) (few : length D ≤ most_slots) (id : �
 
   pub own_is : own_places id (dir_places id (drop id D)) ≡ slot_places classes 0 id s
   own_is =
-      let none : own_places id rest ≡ [] = dir_other id (suc id) (drop (suc id) D) (drop_fits (suc id) D f)
+      let None : own_places id rest ≡ [] = dir_other id (suc id) (drop (suc id) D) (drop_fits (suc id) D f)
       (omega (arith, length-drop (suc id) D)) (omega arith) in
       ap (own_places id) parts ∙ slot_own classes 0 id s rest (fit_at D id f) (omega arith)
-      ∙ ap (λ (l : List ℕ). slot_places classes 0 id s ++ l) none ∙ append-nil (slot_places classes 0 id s)
+      ∙ ap (λ (l : List ℕ). slot_places classes 0 id s ++ l) None ∙ append-nil (slot_places classes 0 id s)
 
   -- behind them stand those from the next slot on
   pub own_behind : drop (length (own_places id (dir_places id (drop id D)))) (dir_places id (drop id D)) ≡ rest

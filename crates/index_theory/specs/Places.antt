@@ -1,9 +1,8 @@
 -- The places of a directory: of a slot whose classes hold what belongs there the ranks rise with the classes, and of a
 -- directory with the ids; a slot more or less before them shifts the ids. Assumes nothing.
-use Rattle.std.specs.Prelude.{◌≡◌, ◌≢◌, length, replicate}
+use Rattle.std.specs.Prelude.{◌≡◌, ◌≢◌, length, replicate, None, Option, Some}
 use Rattle.std.proofs.Math.Path.{refl, ap, ap₂}
 use Rattle.std.proofs.Common.{sym, ◌∙◌, arith, zero-add, add-zero, suc-add, length-append, ne_eqb}
-use Rattle.std.proofs.Math.Option.{Option, none, some}
 use mathlib.Core.List.{List, [], ◌∷◌, ◌++◌, append_assoc}
 use Prim.Native.Nat.{ℕ, zero, suc, ◌+◌, ◌*◌, ◌^◌, ◌≤◌, ◌<◌}
 use Rattle.std.proofs.Math.ListN.{get_or}
@@ -23,8 +22,8 @@ pub record Fits (c : ℕ) (v : Load) : Type 0 where
   pub class : seat_class (v.type * 2 ^ 20) ≡ c
 
 abbrev pub FitsIn : ℕ → Option Load → Type 0
-FitsIn c none = Unit {0}
-FitsIn c (some v) = Fits c v
+FitsIn c None = Unit {0}
+FitsIn c (Some v) = Fits c v
 
 abbrev pub SlotFits : Slot → Type 0
 SlotFits s = (c : ℕ) → FitsIn c (s c)
@@ -68,8 +67,8 @@ rank_of_lem c id v f h =
 
 pub class_between : (c id : ℕ) (v : Option Load) → FitsIn c v → id < 2 ^ 10
     → Between (rank_at id c) (rank_at id (suc c)) (class_places id v)
-class_between c id none f h = tt
-class_between c id (some v) f h = let e = rank_of_lem c id v f h in (omega (arith, e), omega (arith, e), tt)
+class_between c id None f h = tt
+class_between c id (Some v) f h = let e = rank_of_lem c id v f h in (omega (arith, e), omega (arith, e), tt)
 
 pub slot_between : (n c id : ℕ) (s : Slot) → SlotFits s → id < 2 ^ 10
     → Between (rank_at id c) (rank_at id (c + n)) (slot_places n c id s)
@@ -149,8 +148,8 @@ module _ (by id id' : ℕ) (hi : id < 2 ^ 10) (hi' : id' < 2 ^ 10)
     → plus32 (tag_of type id size) by ≡ tag_of type id' size) where
   class_shift : (c : ℕ) (v : Option Load) → FitsIn c v → shifted by (class_places id v) ≡ class_places id' v
   unfolding shifted
-  class_shift c none f = refl
-  class_shift c (some v) f = ap (λ (t : ℕ). t ∷ get_or v.bytes 1 0 ∷ [])
+  class_shift c None f = refl
+  class_shift c (Some v) f = ap (λ (t : ℕ). t ∷ get_or v.bytes 1 0 ∷ [])
       (tags v.type (get_or v.bytes 0 0) f.type
       f.size)
 
@@ -196,8 +195,8 @@ dir_down id (s ∷ D) f h =
 
 -- ---- how many: a place for each class of each slot at most
 class_few : (id : ℕ) (v : Option Load) → length (class_places id v) ≤ 2
-class_few id none = omega arith
-class_few id (some v) = omega arith
+class_few id None = omega arith
+class_few id (Some v) = omega arith
 
 slot_few : (n c id : ℕ) (s : Slot) → length (slot_places n c id s) ≤ 2 * n
 unfolding slot_places

@@ -1,8 +1,7 @@
 -- The table of a regular log: run from entry to entry it is what the directory machine says, and it is too small
 -- exactly where after some entry more are live. Assumes nothing.
-use Rattle.std.specs.Prelude.{◌≡◌, refl, ◌≢◌, Bool, true, false, cond, ◌&&◌, length, eqb, leb}
+use Rattle.std.specs.Prelude.{◌≡◌, refl, ◌≢◌, Bool, true, false, cond, ◌&&◌, length, eqb, leb, None, Some}
 use Rattle.std.proofs.Common.{sym, ap, ◌∙◌}
-use Rattle.std.proofs.Math.Option.{none, some}
 use mathlib.Core.List.{List, [], ◌∷◌}
 use Prim.Native.Nat.{ℕ, ◌+◌, ◌*◌, ◌^◌, ◌≤◌, ◌<◌}
 use native.Mathlib.Omega.{arith}
@@ -37,7 +36,7 @@ module _ (off t : ℕ) (some_type : 0 < tag_type3 t) where
   load_fits : (c : ℕ) → seat_class t ≡ c → FitsIn c (load_of t (tag_size t ∷ (off + 4) ∷ []))
   load_fits c e = go (tag_delete t)
     where
-      go : (x : Bool) → FitsIn c (cond x none (some (record { type = tag_type3 t; bytes = tag_size t ∷ (off + 4) ∷ [] })))
+      go : (x : Bool) → FitsIn c (cond x None (Some (record { type = tag_type3 t; bytes = tag_size t ∷ (off + 4) ∷ [] })))
       go true = tt
       go false = record { some_type = some_type; type = omega arith; size = omega arith; class = same_class ∙ e }
 
@@ -113,7 +112,7 @@ placing (inv ∷ es) off g c st low h = absurd st
 -- ---- the machine beside the table
 pub ran_on_lem : (n : ℕ) (l : List Act) (g : Bool) (D : List Slot) → Placing g (length D) l → AllFit D
     → length D ≤ most_slots
-    → ran_on n (dir_places 0 D) l ≡ cond (fit_from n D l) (some (dir_places 0 (apply_all D l))) none
+    → ran_on n (dir_places 0 D) l ≡ cond (fit_from n D l) (Some (dir_places 0 (apply_all D l))) None
 unfolding ran_on fit_from apply_all
 ran_on_lem n [] g D p f few = refl
 ran_on_lem n (a ∷ l) g D p f few =
@@ -126,9 +125,9 @@ ran_on_lem n (a ∷ l) g D p f few =
     rw e (go (leb (length (dir_places 0 (apply D a))) n) ih)
   where
     go : (x : Bool) → ran_on n (dir_places 0 (apply D a)) l
-        ≡ cond (fit_from n (apply D a) l) (some (dir_places 0 (apply_all (apply D a) l))) none
-        → cond x (ran_on n (dir_places 0 (apply D a)) l) none
-        ≡ cond (x && fit_from n (apply D a) l) (some (dir_places 0 (apply_all (apply D a) l))) none
+        ≡ cond (fit_from n (apply D a) l) (Some (dir_places 0 (apply_all (apply D a) l))) None
+        → cond x (ran_on n (dir_places 0 (apply D a)) l) None
+        ≡ cond (x && fit_from n (apply D a) l) (Some (dir_places 0 (apply_all (apply D a) l))) None
     go true ih = ih
     go false ih = refl
 

@@ -1,9 +1,8 @@
 -- What an entry does to the places of a directory is what the directory machine does: the places of the directory
 -- behind it. Assumes nothing.
-use Rattle.std.specs.Prelude.{◌≡◌, refl, ◌≢◌, Bool, true, false, cond, get_or, replicate, eqb}
+use Rattle.std.specs.Prelude.{◌≡◌, refl, ◌≢◌, Bool, true, false, cond, get_or, replicate, eqb, None, Option, Some}
 use Rattle.std.proofs.Math.Path.{sym, ap, ap₂}
 use Rattle.std.proofs.Common.{◌∙◌, zero-add, take-append-drop, length-append, length-take-le, drop-drop, eqb-true, eq-eqb, ne_eqb}
-use Rattle.std.proofs.Math.Option.{Option, none, some}
 use mathlib.Core.List.{List, [], ◌∷◌, ◌++◌, append_assoc, append-nil}
 use Prim.Native.Nat.{ℕ, zero, suc, ◌+◌, ◌-◌, ◌*◌, ◌/◌, ◌^◌, ◌≤◌, ◌<◌, max}
 use native.Mathlib.Omega.{arith}
@@ -82,8 +81,8 @@ module _ (low j c : ℕ) (A B : List ℕ) (m : Option Load) (f : FitsIn c m) (hj
           → drop (cond (is_at r (A ++ (class_places j m ++ B)) (seek r (A ++ (class_places j m ++ B))))
           (2 * seek r (A ++ (class_places j m ++ B)) + 2) (2 * seek r (A ++ (class_places j m ++ B))))
           (A ++ (class_places j m ++ B)) ≡ B
-      go none f w = rw (not_at_seam low r A B a b) (drop_seam low r A B a w)
-      go (some v) f w =
+      go None f w = rw (not_at_seam low r A B a b) (drop_seam low r A B a w)
+      go (Some v) f w =
           let t : ℕ = tag_of v.type j (get_or v.bytes 0 0) in
           let o : ℕ = get_or v.bytes 1 0 in
           rw (at_seam low r A (t ∷ o ∷ B) a w t o B refl (rank_of_lem c j v f hj))
@@ -289,8 +288,8 @@ module _ (D : List Slot) (f : AllFit D) (few : length D ≤ most_slots) (j : ℕ
               → drop (cond (is_at (rank_at j c) P (seek (rank_at j c) P)) (2 * seek (rank_at j c) P + 2)
               (2 * seek (rank_at j c) P)) P ≡ rest
               → places_after P (put j c v) ≡ before ++ (class_places j v ++ rest)
-          go none x y = ap₂ (λ (a b : List ℕ). a ++ b) x y
-          go (some v) x y = ap₂
+          go None x y = ap₂ (λ (a b : List ℕ). a ++ b) x y
+          go (Some v) x y = ap₂
               (λ (a b : List ℕ). a ++ tag_of v.type j (get_or v.bytes 0 0) ∷ get_or v.bytes 1 0 ∷ b)
               x y
 

@@ -1,6 +1,6 @@
 // The leaves for C callers: each export hands its numbers and slices to the call of the same name.
 ghost use Rattle.std.specs.Prelude.{◌≡◌, min, max};
-ghost use Rattle.format.specs.Answer.{flag_of, altered_result};
+ghost use Rattle.format.specs.Answer.{flag_of, result_number};
 ghost use Rattle.format.specs.Arith.{align_down, align_up, npw2, ctz, popc};
 ghost use Rattle.format.specs.Bytes.{le32_at, be32_at, put_answer, put_le32, put_be32};
 ghost use Rattle.format.specs.Count.{scmp};
@@ -184,7 +184,7 @@ pub extern "C" fn lanolin_be32_at(bytes: &[u8], at: usize) -> Value
 
 #[unsafe(no_mangle)]
 pub extern "C" fn lanolin_put_le32(bytes: &mut [u8], at: usize, value: u32) -> i32
-    ensures value { result ≡ altered_result (put_answer bytes.old at) }
+    ensures value { result ≡ result_number (put_answer bytes.old at) }
     ensures bytes_after { bytes.new ≡ put_le32 bytes.old at value }
 {
     altered_out(word::lfs_put_le32(bytes, at, value))
@@ -192,7 +192,7 @@ pub extern "C" fn lanolin_put_le32(bytes: &mut [u8], at: usize, value: u32) -> i
 
 #[unsafe(no_mangle)]
 pub extern "C" fn lanolin_put_be32(bytes: &mut [u8], at: usize, value: u32) -> i32
-    ensures value { result ≡ altered_result (put_answer bytes.old at) }
+    ensures value { result ≡ result_number (put_answer bytes.old at) }
     ensures bytes_after { bytes.new ≡ put_be32 bytes.old at value }
 {
     altered_out(word::lfs_put_be32(bytes, at, value))

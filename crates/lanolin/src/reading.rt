@@ -1,7 +1,7 @@
 // Reading for C callers: fetch, the refetch from a record's end, lookups, and a slot by its name. Each export hands its
 // numbers, slices and records to the call of the same name.
 ghost use Rattle.std.specs.Prelude.{◌≡◌};
-ghost use Rattle.format.specs.Answer.{altered_result};
+ghost use Rattle.format.specs.Answer.{result_number};
 ghost use Rattle.format.specs.Fetch.{fetch_of};
 ghost use Rattle.format.specs.Refetch.{refetch_of};
 ghost use Rattle.format.specs.Find.{find_of};
@@ -125,7 +125,7 @@ pub extern "C" fn lanolin_getgstate(
     gdisk: LfsGstate,
     gstate: &mut LfsGstate,
 ) -> i32
-    ensures { (result ≡ altered_result (getgstate_of g b0.now b1.now n0 n1 dir gdisk))
+    ensures { (result ≡ result_number (getgstate_of g b0.now b1.now n0 n1 dir gdisk))
         × (gstate.new ≡ getgstate_state g b0.now b1.now n0 n1 dir gdisk
         gstate.old) }
 {

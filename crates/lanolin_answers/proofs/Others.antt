@@ -8,14 +8,15 @@ use Rattle.format.specs.declared.Refusal.TheVariants.{Invalid, Corrupt, NoEntry,
 use Rattle.format.specs.declared.Refusal.TheVariants.{Misaligned, WrongValidity, NotErased, Coincidence, TableFull}
 use Rattle.format.specs.declared.Refusal.TheVariants.{Spent, TooDeep}
 use Rattle.format.specs.declared.LfsMdir.{LfsMdir}
+use Rattle.format.specs.Record.{fetched}
 
 -- all but TooMany: no record, and the seed as it was given
-pub unread : (seed : ℕ) (r : Refusal) → ((m : LfsMdir) (s : ℕ) → r ≡ TooMany m s → ⊥)
+pub unread : (seed : ℕ) (r : Refusal) → ((m : LfsMdir) (s : ℕ) → r ≡ TooMany (fetched m s) → ⊥)
     → (zero_mdir ≡ refusal_mdir r) × (seed ≡ refusal_seed seed r)
 unread seed Invalid h = (refl, refl)
 unread seed Corrupt h = (refl, refl)
 unread seed NoEntry h = (refl, refl)
-unread seed (TooMany m s) h = absurd (h m s refl)
+unread seed (TooMany (fetched m s)) h = absurd (h m s refl)
 unread seed (BadEntry i) h = (refl, refl)
 unread seed Irregular h = (refl, refl)
 unread seed NoSpace h = (refl, refl)
@@ -33,7 +34,7 @@ pub unindexed : (r : Refusal) → ((i : ℕ) → r ≡ BadEntry i → ⊥) → (
 unindexed Invalid h k = refl
 unindexed Corrupt h k = refl
 unindexed NoEntry h k = refl
-unindexed (TooMany m s) h k = refl
+unindexed (TooMany (fetched m s)) h k = refl
 unindexed (BadEntry i) h k = absurd (h i refl)
 unindexed Irregular h k = refl
 unindexed NoSpace h k = refl

@@ -1,17 +1,9 @@
 -- The structs that C gets, from the answers. Assumes nothing.
-use Rattle.std.specs.Prelude.{ℕ}
-use Rattle.format.specs.Answer.{word_result, word_value, got_result, got_found, fetched_result, fetched_mdir, fetched_seed}
-use Rattle.format.specs.Answer.{altered_result, committed_result, committed_index, committed_mdir, committed_seed}
-use Rattle.format.specs.Answer.{stored_result, stored_index, stored_made, named_result, named_found, named_id}
-use Rattle.format.specs.Answer.{indexed_result, indexed_places}
-use Rattle.format.specs.declared.Word.{Word}
-use Rattle.format.specs.declared.Got.{Got}
-use Rattle.format.specs.declared.Fetched.{Fetched}
-use Rattle.format.specs.declared.Informed.{Informed}
-use Rattle.format.specs.declared.Committed.{Committed}
-use Rattle.format.specs.declared.Stored.{Stored}
-use Rattle.format.specs.declared.Named.{Named}
-use Rattle.format.specs.declared.Indexed.{Indexed}
+use Rattle.std.specs.Prelude.{ℕ, Option, Result}
+use Rattle.format.specs.Answer.{result_number, answer_value, got_found, answer_mdir, answer_seed}
+use Rattle.format.specs.Answer.{result_number, answer_index, answer_mdir, answer_seed}
+use Rattle.format.specs.Answer.{result_number, answer_index, answer_value, named_found, named_id}
+use Rattle.format.specs.Answer.{result_number, indexed_places}
 use Rattle.format.specs.declared.Written.{Written}
 use Rattle.lanolin_answers.specs.declared.Value.{Value}
 use Rattle.lanolin_answers.specs.declared.GotOut.{GotOut}
@@ -22,38 +14,42 @@ use Rattle.lanolin_answers.specs.declared.StoredOut.{StoredOut}
 use Rattle.lanolin_answers.specs.declared.NamedOut.{NamedOut}
 use Rattle.lanolin_answers.specs.declared.IndexedOut.{IndexedOut}
 use Rattle.lanolin_answers.specs.declared.TextOut.{TextOut}
+use Rattle.format.specs.declared.Fetched.{Fetched}
+use Rattle.format.specs.declared.Found.{Found}
+use Rattle.format.specs.declared.LfsInfo.{LfsInfo}
+use Rattle.format.specs.declared.Refusal.{Refusal}
 
-abbrev pub word_out : Word → Value
-word_out w = record { result = word_result w; value = word_value w }
+abbrev pub word_out : Result ℕ Refusal → Value
+word_out w = record { result = result_number w; value = answer_value w }
 
-abbrev pub got_out : Got → GotOut
-got_out g = record { result = got_result g; found = got_found g }
+abbrev pub got_out : Result Found Refusal → GotOut
+got_out g = record { result = result_number g; found = got_found g }
 
 -- from the seed that was given
-abbrev pub fetched_out : ℕ → Fetched → FetchedOut
-fetched_out seed f = record { result = fetched_result f; dir = fetched_mdir f; seed = fetched_seed seed f }
+abbrev pub fetched_out : ℕ → Result Fetched Refusal → FetchedOut
+fetched_out seed f = record { result = result_number f; dir = answer_mdir f; seed = answer_seed seed f }
 
-abbrev pub info_out : Informed → InfoOut
+abbrev pub info_out : Result LfsInfo Refusal → InfoOut
 info_out i = record {
-  result = altered_result i.answer;
+  result = result_number i.answer;
   kind = i.info.kind;
   size = i.info.size;
   name = i.info.name;
 }
 
 -- from the seed that was given
-abbrev pub committed_out : ℕ → Committed → CommittedOut
+abbrev pub committed_out : ℕ → Result Fetched Refusal → CommittedOut
 committed_out seed c =
-    record { result = committed_result c; index = committed_index c; dir = committed_mdir c; seed = committed_seed seed c }
+    record { result = result_number c; index = answer_index c; dir = answer_mdir c; seed = answer_seed seed c }
 
-abbrev pub stored_out : Stored → StoredOut
-stored_out s = record { result = stored_result s; index = stored_index s; stores = stored_made s }
+abbrev pub stored_out : Result ℕ Refusal → StoredOut
+stored_out s = record { result = result_number s; index = answer_index s; stores = answer_value s }
 
-abbrev pub named_out : Named → NamedOut
-named_out a = record { result = named_result a; found = named_found a; id = named_id a }
+abbrev pub named_out : Result (Option ℕ) Refusal → NamedOut
+named_out a = record { result = result_number a; found = named_found a; id = named_id a }
 
-abbrev pub indexed_out : Indexed → IndexedOut
-indexed_out i = record { result = indexed_result i; places = indexed_places i }
+abbrev pub indexed_out : Result ℕ Refusal → IndexedOut
+indexed_out i = record { result = result_number i; places = indexed_places i }
 
 abbrev pub text_out : Written → TextOut
-text_out w = record { result = altered_result w.answer; length = w.length }
+text_out w = record { result = result_number w.answer; length = w.length }

@@ -2,16 +2,13 @@
 #![tactic(auto)]
 
 ghost use Rattle.std.specs.Prelude.{◌≡◌, min};
-ghost use Rattle.format.specs.Answer.{flag_of, refusal_number, refusal_mdir, refusal_seed, refusal_index, altered_result};
+ghost use Rattle.format.specs.Answer.{flag_of, refusal_number, refusal_mdir, refusal_seed, refusal_index, result_number};
 ghost use Rattle.format.specs.Answer.{zero_mdir};
 ghost use Rattle.format.specs.Word.{all_ones};
 ghost use Rattle.lanolin_answers.specs.Values.{word_out, got_out, fetched_out, info_out, committed_out, stored_out};
 ghost use Rattle.lanolin_answers.specs.Values.{named_out, indexed_out, text_out};
 
-use format::{
-    Altered, Committed, Fetched, Found, Got, Indexed, Informed, LfsFcrc, LfsMdir, LfsPair, Named,
-    Refusal, Stored, Word, Written,
-};
+use format::{Fetched, Found, LfsFcrc, LfsMdir, LfsPair, Refusal, Written};
 
 // A result and the value that comes with it, 0 on a refusal.
 #[repr(C)]
@@ -122,39 +119,39 @@ pub fn number(r: Refusal) -> i32
     }
 }
 
-pub fn word_out(w: Word) -> Value
+pub fn word_out(w: Result<u32, Refusal>) -> Value
     ensures { result ≡ word_out w }
 {
     match w {
-        Word::Is(v) => Value {
+        Ok(v) => Value {
             result: 0,
             value: v,
         },
-        Word::Refused(r) => Value {
+        Err(r) => Value {
             result: number(r),
             value: 0,
         },
     }
 }
 
-pub fn altered_out(a: Altered) -> i32
-    ensures { result ≡ altered_result a }
+pub fn altered_out(a: Result<(), Refusal>) -> i32
+    ensures { result ≡ result_number a }
 {
     match a {
-        Altered::Done => 0,
-        Altered::Refused(r) => number(r),
+        Ok(()) => 0,
+        Err(r) => number(r),
     }
 }
 
-pub fn got_out(g: Got) -> GotOut
+pub fn got_out(g: Result<Found, Refusal>) -> GotOut
     ensures { result ≡ got_out g }
 {
     match g {
-        Got::Found(e) => GotOut {
+        Ok(e) => GotOut {
             result: 0,
             found: e,
         },
-        Got::Refused(r) => GotOut {
+        Err(r) => GotOut {
             result: number(r),
             found: Found {
                 tag: 0,
@@ -205,7 +202,7 @@ fn refused_seed(seed: u32, r: Refusal) -> u32
     }
 }
 
-pub fn fetched_out(seed: u32, f: Fetched) -> FetchedOut
+pub fn fetched_out(seed: u32, f: Result<Fetched, Refusal>) -> FetchedOut
     ensures { result ≡ fetched_out seed f }
 {
     match f {
@@ -214,7 +211,7 @@ pub fn fetched_out(seed: u32, f: Fetched) -> FetchedOut
             dir: m,
             seed: s,
         },
-        Fetched::Refused(r) => FetchedOut {
+        Err(r) => FetchedOut {
             result: number(r),
             dir: refused_mdir(r),
             seed: refused_seed(seed, r),
@@ -222,7 +219,7 @@ pub fn fetched_out(seed: u32, f: Fetched) -> FetchedOut
     }
 }
 
-pub fn info_out(i: Informed) -> InfoOut
+pub fn info_out(i: Result<LfsInfo, Refusal>) -> InfoOut
     ensures { result ≡ info_out i }
 {
     let answer = i.answer;
@@ -247,17 +244,17 @@ fn refused_index(r: Refusal) -> u32
     }
 }
 
-pub fn committed_out(seed: u32, c: Committed) -> CommittedOut
+pub fn committed_out(seed: u32, c: Result<Fetched, Refusal>) -> CommittedOut
     ensures { result ≡ committed_out seed c }
 {
     match c {
-        Committed::Done(m, read) => CommittedOut {
+        Ok(Fetched { dir: m, seed: read }) => CommittedOut {
             result: 0,
             index: 0,
             dir: m,
             seed: read,
         },
-        Committed::Refused(r) => CommittedOut {
+        Err(r) => CommittedOut {
             result: number(r),
             index: refused_index(r),
             dir: refused_mdir(r),
@@ -266,16 +263,16 @@ pub fn committed_out(seed: u32, c: Committed) -> CommittedOut
     }
 }
 
-pub fn stored_out(s: Stored) -> StoredOut
+pub fn stored_out(s: Result<u32, Refusal>) -> StoredOut
     ensures { result ≡ stored_out s }
 {
     match s {
-        Stored::Made(n) => StoredOut {
+        Ok(n) => StoredOut {
             result: 0,
             index: 0,
             stores: n,
         },
-        Stored::Refused(r) => StoredOut {
+        Err(r) => StoredOut {
             result: number(r),
             index: refused_index(r),
             stores: 0,
@@ -283,21 +280,21 @@ pub fn stored_out(s: Stored) -> StoredOut
     }
 }
 
-pub fn named_out(a: Named) -> NamedOut
+pub fn named_out(a: Result<Option<u32>, Refusal>) -> NamedOut
     ensures { result ≡ named_out a }
 {
     match a {
-        Named::At(id) => NamedOut {
+        Ok(Some(id)) => NamedOut {
             result: 0,
             found: true,
             id,
         },
-        Named::Nothing => NamedOut {
+        Ok(None) => NamedOut {
             result: 0,
             found: false,
             id: 0,
         },
-        Named::Refused(r) => NamedOut {
+        Err(r) => NamedOut {
             result: number(r),
             found: false,
             id: 0,
@@ -316,15 +313,15 @@ fn in_word(n: usize) -> u32
     }
 }
 
-pub fn indexed_out(i: Indexed) -> IndexedOut
+pub fn indexed_out(i: Result<usize, Refusal>) -> IndexedOut
     ensures { result ≡ indexed_out i }
 {
     match i {
-        Indexed::Places(n) => IndexedOut {
+        Ok(n) => IndexedOut {
             result: 0,
             places: in_word(n),
         },
-        Indexed::Refused(r) => IndexedOut {
+        Err(r) => IndexedOut {
             result: number(r),
             places: 0,
         },

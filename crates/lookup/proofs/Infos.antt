@@ -18,16 +18,13 @@ use Rattle.format.specs.declared.LfsGstate.{LfsGstate}
 use Rattle.format.specs.declared.Refusal.{Refusal}
 use Rattle.format.specs.declared.Refusal.TheVariants.{Invalid}
 use Rattle.format.specs.declared.Found.{Found}
-use Rattle.format.specs.declared.Hit.{Hit}
-use Rattle.format.specs.declared.Got.{Got}
-use Rattle.format.specs.declared.Got.TheVariants as got
-use Rattle.format.specs.declared.Altered.TheVariants as altered
-use Rattle.format.specs.declared.Informed.{Informed}
 use Rattle.lookup.specs.Info.{info_named}
 use Rattle.sizes.proofs.Sized.{both}
 use Rattle.sizes.proofs.Records.{end_inside}
 use Rattle.lookup_search.proofs.Slices.{slice_length}
 use Rattle.lookup.proofs.Moves.{tag_made}
+use Rattle.std.specs.Prelude.{Err, Ok, Option, Result}
+use Rattle.format.specs.declared.LfsInfo.{LfsInfo}
 
 -- ---- the front and the back of a blank buffer are blank
 take_blank : (n m : ℕ) → n ≤ m → take n (blank_buffer m) ≡ blank_buffer n
@@ -43,7 +40,7 @@ drop_blank (suc n) (suc m) k h = drop_blank n m k (omega arith)
 -- ---- the struct's lookup; gm and gt are the mask and the key that LFS_MKTAG makes, a its answer
 module _ (b : List ℕ) (dir : LfsMdir) (gdisk : LfsGstate) (id t : ℕ) (name : List ℕ) (h : id ≤ 1023) (gm gt : ℕ)
     (em : gm ≡ mk_tag 0x700 1023 0)
-    (et : gt ≡ mk_tag 0x200 id 8) (a : Got) (e : a ≡ read_answer b 8 (searched b dir gdisk gm gt)) where
+    (et : gt ≡ mk_tag 0x200 id 8) (a : Result Found Refusal) (e : a ≡ read_answer b 8 (searched b dir gdisk gm gt)) where
   struct : searched b dir gdisk gm gt ≡ searched b dir gdisk struct_mask (struct_key id)
   struct =
       let m : gm ≡ struct_mask = tag_made 0x700 1023 0 gm (omega arith) (omega arith) (omega arith) em in
@@ -51,45 +48,45 @@ module _ (b : List ℕ) (dir : LfsMdir) (gdisk : LfsGstate) (id t : ℕ) (name :
       λ i. searched b dir gdisk (m i) (k i)
 
   -- from the answer and a buffer to what is promised
-  abbrev told : Got → List ℕ → Informed
+  abbrev told : Result Found Refusal → List ℕ → Result LfsInfo Refusal
   told x d = info_named t name x d
 
-  abbrev promised : Informed
+  abbrev promised : Result LfsInfo Refusal
   promised = told (read_answer b 8 (searched b dir gdisk struct_mask (struct_key id)))
       (read_buffer b 8 (searched b dir gdisk struct_mask (struct_key id)))
 
   answers : a ≡ read_answer b 8 (searched b dir gdisk struct_mask (struct_key id))
   answers = e ∙ ap (λ u. read_answer b 8 u) struct
 
-  pub named_refused : (r : Refusal) → a ≡ got.Refused r → (x : Informed) → x ≡ info_refused r → x ≡ promised
+  pub named_refused : (r : Refusal) → a ≡ Err r → (x : Result LfsInfo Refusal) → x ≡ info_refused r → x ≡ promised
   named_refused r q x ex = ex ∙ ap (λ y. told y (read_buffer b 8 (searched b dir gdisk struct_mask (struct_key id))))
       (sym q ∙ answers)
 
   -- d is the buffer, z the size in it, k the name's type
-  pub named_found_lem : (u : Found) → a ≡ got.Found u → (d : List ℕ) → d ≡ read_buffer b 8 (searched b dir gdisk gm gt)
+  pub named_found_lem : (u : Found) → a ≡ Ok u → (d : List ℕ) → d ≡ read_buffer b 8 (searched b dir gdisk gm gt)
       → (z k : ℕ) → z ≡ info_size u.tag d → k ≡ tag_type3 t
-      → record { answer = altered.Done; info = record { kind = k % 2 ^ 8; size = z; name = name } } ≡ promised
+      → record { answer = (Ok tt); info = record { kind = k % 2 ^ 8; size = z; name = name } } ≡ promised
   named_found_lem u q d ed z k ez ek =
-      (λ i. record { answer = altered.Done; info = record { kind = ek i % 2 ^ 8; size = ez i; name = name } })
+      (λ i. record { answer = (Ok tt); info = record { kind = ek i % 2 ^ 8; size = ez i; name = name } })
       ∙ (λ i. told ((sym q ∙ answers) i) ((ed ∙ ap (λ v. read_buffer b 8 v) struct) i))
 
 -- ---- the name's lookup, into the front of a blank buffer
 abbrev blank : ℕ → List ℕ
 blank nameMax = take (nameMax + 1) (blank_buffer 256)
 
-padded : (t : Found) (name : List ℕ) (u : Got) (d : List ℕ)
-    → info_named t.tag (name ++ blank_buffer (256 - length name)) u d ≡ info_from (got.Found t) name u d
-padded t name (got.Refused r) d = refl
-padded t name (got.Found u) d = refl
+padded : (t : Found) (name : List ℕ) (u : Result Found Refusal) (d : List ℕ)
+    → info_named t.tag (name ++ blank_buffer (256 - length name)) u d ≡ info_from (Ok t) name u d
+padded t name (Err r) d = refl
+padded t name (Ok u) d = refl
 
 module _ (b : List ℕ) (dir : LfsMdir) (gdisk : LfsGstate) (nameMax id : ℕ) (hn : nameMax ≤ 255) (hi : id ≤ 1023)
     (gm gt : ℕ) (em : gm ≡ mk_tag 0x780 1023 0)
-    (et : gt ≡ mk_tag 0x000 id (nameMax + 1)) (a : Got)
+    (et : gt ≡ mk_tag 0x000 id (nameMax + 1)) (a : Result Found Refusal)
     (e : a ≡ slice_answer b 0 (length (blank nameMax)) (searched b dir gdisk gm gt)) where
-  abbrev u : Hit
+  abbrev u : Option Found
   u = searched b dir gdisk name_mask (name_key id nameMax)
 
-  abbrev v : Hit
+  abbrev v : Option Found
   v = searched b dir gdisk struct_mask (struct_key id)
 
   name_search : searched b dir gdisk gm gt ≡ u
@@ -106,15 +103,15 @@ module _ (b : List ℕ) (dir : LfsMdir) (gdisk : LfsGstate) (nameMax id : ℕ) (
   name_answer_lem = e ∙ ap (λ f. slice_answer b 0 (length (blank nameMax)) f) name_search
       ∙ ap (λ (k : ℕ). slice_answer b 0 k u) (ap length lent ∙ length-replicate {A = ℕ} (nameMax + 1) 0)
 
-  pub info_refused_lem : (r : Refusal) → a ≡ got.Refused r → (x : Informed) → x ≡ info_refused r
+  pub info_refused_lem : (r : Refusal) → a ≡ Err r → (x : Result LfsInfo Refusal) → x ≡ info_refused r
       → x ≡ info_of b nameMax u v
   info_refused_lem r q x ex = ex
       ∙ ap (λ y. info_from y (read_buffer b (nameMax + 1) u) (read_answer b 8 v) (read_buffer b 8 v))
       (sym q ∙ name_answer_lem)
 
   -- l is the part that was lent, x the info with the buffer of which it is the front
-  pub info_found : (t : Found) → a ≡ got.Found t → (l : List ℕ)
-      → l ≡ slice_buffer b 0 (blank nameMax) (searched b dir gdisk gm gt) → (x : Informed)
+  pub info_found : (t : Found) → a ≡ Ok t → (l : List ℕ)
+      → l ≡ slice_buffer b 0 (blank nameMax) (searched b dir gdisk gm gt) → (x : Result LfsInfo Refusal)
       → x ≡ info_named t.tag (l ++ drop (nameMax + 1) (blank_buffer 256)) (read_answer b 8 v) (read_buffer b 8 v)
       → x ≡ info_of b nameMax u v
   info_found t q l el x ex =
@@ -135,7 +132,7 @@ module _ (g : Geometry) (b0 b1 : List ℕ) (n0 n1 : ℕ) (dir : LfsMdir) (gdisk 
   abbrev taken : Bool
   taken = fits && leb 1 nameMax && leb nameMax 255 && leb id 1023
 
-  pub getinfo_refused : taken ≡ false → (x : Informed) → x ≡ info_refused Invalid
+  pub getinfo_refused : taken ≡ false → (x : Result LfsInfo Refusal) → x ≡ info_refused Invalid
       → x ≡ getinfo_of g b0 b1 n0 n1 dir gdisk nameMax id
   unfolding getinfo_of getinfo_fits
   getinfo_refused h x ex = ex ∙ sym (rw (← e, h))
@@ -150,12 +147,12 @@ module _ (g : Geometry) (b0 b1 : List ℕ) (n0 n1 : ℕ) (dir : LfsMdir) (gdisk 
           (leb-true nameMax 255 q.1, leb-true id 1023 p.1),
         )
 
-    pub getinfo_root : id ≡ 1023 → (x : Informed) → x ≡ info_root → x ≡ getinfo_of g b0 b1 n0 n1 dir gdisk nameMax id
+    pub getinfo_root : id ≡ 1023 → (x : Result LfsInfo Refusal) → x ≡ info_root → x ≡ getinfo_of g b0 b1 n0 n1 dir gdisk nameMax id
     unfolding getinfo_of getinfo_fits
     getinfo_root q x ex = ex ∙ sym (rw (← e, h, eq-eqb id 1023 q))
 
     -- b is the block that is read
-    pub getinfo_read : (id ≡ 1023 → ⊥) → (b : List ℕ) → b ≡ block_of b0 b1 n0 dir → (x : Informed)
+    pub getinfo_read : (id ≡ 1023 → ⊥) → (b : List ℕ) → b ≡ block_of b0 b1 n0 dir → (x : Result LfsInfo Refusal)
         → x ≡ info_of b nameMax (searched b dir gdisk name_mask (name_key id nameMax))
         (searched b dir gdisk struct_mask (struct_key id))
         → x ≡ getinfo_of g b0 b1 n0 n1 dir gdisk nameMax id

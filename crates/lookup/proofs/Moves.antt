@@ -16,14 +16,9 @@ use Rattle.format.specs.declared.LfsGstate.{LfsGstate}
 use Rattle.format.specs.declared.Refusal.{Refusal}
 use Rattle.format.specs.declared.Refusal.TheVariants.{Invalid, Corrupt}
 use Rattle.format.specs.declared.Found.{Found}
-use Rattle.format.specs.declared.Hit.{Hit}
-use Rattle.format.specs.declared.Hit.TheVariants as hit
-use Rattle.format.specs.declared.Got.{Got}
-use Rattle.format.specs.declared.Got.TheVariants as got
-use Rattle.format.specs.declared.Altered.{Altered}
-use Rattle.format.specs.declared.Altered.TheVariants as altered
 use Rattle.format.proofs.Words.{mk_tag_sum}
 use Rattle.lookup_search.proofs.Slices.{of_hit}
+use Rattle.std.specs.Prelude.{Err, None, Ok, Option, Result, Some}
 
 -- the tag that LFS_MKTAG makes of fields that fit
 pub tag_made : (type id size r : ℕ) → type < 2 ^ 12 → id < 2 ^ 10 → size < 2 ^ 10 → r ≡ mk_tag type id size
@@ -32,40 +27,40 @@ unfolding tag_of
 tag_made type id size r ht hi hs e = e ∙ mk_tag_sum type id size ht hi hs
 
 -- which of two answers it was
-refused_is : (c : Bool) (x : Found) (a : Got) (r : Refusal) → a ≡ cond c (got.Found x) (got.Refused Corrupt)
-    → a ≡ got.Refused r → (c ≡ false) × (r ≡ Corrupt)
+refused_is : (c : Bool) (x : Found) (a : Result Found Refusal) (r : Refusal) → a ≡ cond c (Ok x) (Err Corrupt)
+    → a ≡ Err r → (c ≡ false) × (r ≡ Corrupt)
 refused_is true x a r e q = let z : ◌≡◌ {A = ℕ} 0 1 = cc in absurd (omega arith)
 refused_is false x a r e q = (refl, cc)
 
-found_is : (c : Bool) (x y : Found) (a : Got) → a ≡ cond c (got.Found x) (got.Refused Corrupt) → a ≡ got.Found y
+found_is : (c : Bool) (x y : Found) (a : Result Found Refusal) → a ≡ cond c (Ok x) (Err Corrupt) → a ≡ Ok y
     → c ≡ true
 found_is true x y a e q = refl
 found_is false x y a e q = let z : ◌≡◌ {A = ℕ} 0 1 = cc in absurd (omega arith)
 
 -- a is the slice's answer at the entry u
-module _ (b : List ℕ) (u : Found) (gstate : LfsGstate) (a : Got) (e : a ≡ slice_answer b 0 12 (hit.Found u)) where
+module _ (b : List ℕ) (u : Found) (gstate : LfsGstate) (a : Result Found Refusal) (e : a ≡ slice_answer b 0 12 (Some u)) where
   abbrev inside : Bool
   inside = leb (slice_end u 0 12) (length b)
 
-  pub move_refused : (r : Refusal) → a ≡ got.Refused r
-      → (altered.Refused r ≡ move_answer b (hit.Found u)) × (gstate ≡ move_state b gstate (hit.Found u))
+  pub move_refused : (r : Refusal) → a ≡ Err r
+      → (Err r ≡ move_answer b (Some u)) × (gstate ≡ move_state b gstate (Some u))
   move_refused r q = let f = refused_is inside u a r e q in
-      (ap altered.Refused f.1 ∙ sym (rw f.0), sym (rw f.0))
+      (ap Err f.1 ∙ sym (rw f.0), sym (rw f.0))
 
   -- d is the buffer, s the state in it, x the two XORed
-  pub move_found : (y : Found) → a ≡ got.Found y → (d : List ℕ) → d ≡ slice_buffer b 0 (blank_buffer 12) (hit.Found u)
+  pub move_found : (y : Found) → a ≡ Ok y → (d : List ℕ) → d ≡ slice_buffer b 0 (blank_buffer 12) (Some u)
       → (s x : LfsGstate) → s ≡ gstate_in d
-      → x ≡ gstate_xor gstate s → (altered.Done ≡ move_answer b (hit.Found u))
-      × (x ≡ move_state b gstate (hit.Found u))
+      → x ≡ gstate_xor gstate s → ((Ok tt) ≡ move_answer b (Some u))
+      × (x ≡ move_state b gstate (Some u))
   move_found y q d ed s x es ex =
       let f = found_is inside u y a e q in
       (sym (rw f), ex ∙ ap (gstate_xor gstate) (es ∙ ap gstate_in ed) ∙ sym (rw f))
 
 -- gm and gt are the mask and the key that LFS_MKTAG makes, h what the search answers
 module _ (b : List ℕ) (dir : LfsMdir) (gdisk gstate : LfsGstate) (gm gt : ℕ) (em : gm ≡ mk_tag 0x7ff 0 0)
-    (et : gt ≡ mk_tag 0x7ff 0 12) (h : Hit)
+    (et : gt ≡ mk_tag 0x7ff 0 12) (h : Option Found)
     (e : h ≡ searched b dir gdisk gm gt) where
-  abbrev u : Hit
+  abbrev u : Option Found
   u = searched b dir gdisk move_mask move_key
 
   move_search : h ≡ u
@@ -74,14 +69,14 @@ module _ (b : List ℕ) (dir : LfsMdir) (gdisk gstate : LfsGstate) (gm gt : ℕ)
       let k : gt ≡ move_key = tag_made 0x7ff 0 12 gt (omega arith) (omega arith) (omega arith) et in
       e ∙ (λ i. searched b dir gdisk (m i) (k i))
 
-  pub move_none : h ≡ hit.Nothing → (altered.Done ≡ move_answer b u) × (gstate ≡ move_state b gstate u)
+  pub move_none : h ≡ None → ((Ok tt) ≡ move_answer b u) × (gstate ≡ move_state b gstate u)
   move_none q = (
     of_hit h u move_search (λ f. move_answer b f) q,
     of_hit h u move_search (λ f. move_state b gstate f) q,
   )
 
-  pub move_some : {w : Found} → h ≡ hit.Found w → (a : Altered) (x : LfsGstate)
-      → a ≡ move_answer b (hit.Found w) → x ≡ move_state b gstate (hit.Found w)
+  pub move_some : {w : Found} → h ≡ Some w → (a : Result Unit Refusal) (x : LfsGstate)
+      → a ≡ move_answer b (Some w) → x ≡ move_state b gstate (Some w)
       → (a ≡ move_answer b u) × (x ≡ move_state b gstate u)
   move_some q a x ea ex = (
     ea ∙ of_hit h u move_search (λ f. move_answer b f) q,
@@ -92,13 +87,13 @@ module _ (b : List ℕ) (dir : LfsMdir) (gdisk gstate : LfsGstate) (gm gt : ℕ)
 module _ (g : Geometry) (b0 b1 : List ℕ) (n0 n1 : ℕ) (dir : LfsMdir) (gdisk gstate : LfsGstate) (fits : Bool)
     (e : fits ≡ record_fits g (length b0) (length b1) n0 n1 dir) where
   pub getgstate_refused : fits ≡ false
-      → (altered.Refused Invalid ≡ getgstate_of g b0 b1 n0 n1 dir gdisk)
+      → (Err Invalid ≡ getgstate_of g b0 b1 n0 n1 dir gdisk)
       × (gstate ≡ getgstate_state g b0 b1 n0 n1 dir gdisk gstate)
   unfolding getgstate_of getgstate_state
   getgstate_refused h = (sym (rw (← e, h)), sym (rw (← e, h)))
 
   -- b is the block that is read
-  pub getgstate_read : fits ≡ true → (b : List ℕ) → b ≡ block_of b0 b1 n0 dir → (a : Altered) (x : LfsGstate)
+  pub getgstate_read : fits ≡ true → (b : List ℕ) → b ≡ block_of b0 b1 n0 dir → (a : Result Unit Refusal) (x : LfsGstate)
       → a ≡ move_answer b (searched b dir gdisk move_mask move_key)
       → x ≡ move_state b gstate (searched b dir gdisk move_mask move_key)
       → (a ≡ getgstate_of g b0 b1 n0 n1 dir gdisk) × (x ≡ getgstate_state g b0 b1 n0 n1 dir gdisk gstate)

@@ -5,13 +5,13 @@ ghost use Rattle.format.specs.Lookup.{name_mask, name_key, struct_mask, struct_k
 ghost use Rattle.lookup.specs.Info.{info_named};
 
 use format::types::*;
-use format::{Altered, Got, Informed, LfsGstate, LfsInfo, LfsMdir, Refusal};
+use format::{LfsGstate, LfsInfo, LfsMdir, Refusal};
 
-pub fn refused(r: Refusal) -> Informed
+pub fn refused(r: Refusal) -> Result<LfsInfo, Refusal>
     ensures { result ≡ info_refused r }
 {
     Informed {
-        answer: Altered::Refused(r),
+        answer: Err(r),
         info: LfsInfo {
             kind: 0,
             size: 0,
@@ -20,13 +20,13 @@ pub fn refused(r: Refusal) -> Informed
     }
 }
 
-pub fn root() -> Informed
+pub fn root() -> Result<LfsInfo, Refusal>
     ensures { result ≡ info_root }
 {
     let mut name = [0u8; 256];
     name[0] = b'/';
     Informed {
-        answer: Altered::Done,
+        answer: Ok(()),
         info: LfsInfo {
             kind: LFS_TYPE_DIR as u8,
             size: 0,
@@ -52,7 +52,7 @@ pub fn size_of(t: u32, s: &[u8]) -> u32
 }
 
 // The info of an entry whose name is read: t is the name's tag.
-fn named(b: &[u8], dir: LfsMdir, gdisk: LfsGstate, id: u32, t: u32, name: [u8; 256]) -> Informed
+fn named(b: &[u8], dir: LfsMdir, gdisk: LfsGstate, id: u32, t: u32, name: [u8; 256]) -> Result<LfsInfo, Refusal>
     requires { (dir.off ≤ length b.now) × (id ≤ 1023) }
     ensures { result ≡ info_named t name
         (read_answer b.now 8 (searched b.now dir gdisk struct_mask (struct_key id)))
@@ -62,11 +62,11 @@ fn named(b: &[u8], dir: LfsMdir, gdisk: LfsGstate, id: u32, t: u32, name: [u8; 2
     let gmask = tag::lfs_mktag(TYPE1_MASK, NO_SLOT, 0);
     let gtag = tag::lfs_mktag(LFS_TYPE_STRUCT as u32, id, 8);
     match lookup_search::slice::read(b, dir, gdisk, gmask, gtag, 0, &mut s) {
-        Got::Refused(r) => refused(r),
-        Got::Found(u) => {
+        Err(r) => refused(r),
+        Ok(u) => {
             let size = size_of(u.tag, &s);
             Informed {
-                answer: Altered::Done,
+                answer: Ok(()),
                 info: LfsInfo {
                     kind: (tag::lfs_tag_type3(t) % 0x100) as u8,
                     size: size,
@@ -78,7 +78,7 @@ fn named(b: &[u8], dir: LfsMdir, gdisk: LfsGstate, id: u32, t: u32, name: [u8; 2
 }
 
 // The info of an entry. The name is read into the front of a buffer of zeros, so what is not read of it is 0.
-pub fn read(b: &[u8], dir: LfsMdir, gdisk: LfsGstate, name_max: u32, id: u32) -> Informed
+pub fn read(b: &[u8], dir: LfsMdir, gdisk: LfsGstate, name_max: u32, id: u32) -> Result<LfsInfo, Refusal>
     requires { (dir.off ≤ length b.now) × (name_max ≤ 255) × (id ≤ 1023) }
     ensures { result ≡ info_of b.now name_max
         (searched b.now dir gdisk name_mask (name_key id name_max))
@@ -89,7 +89,7 @@ pub fn read(b: &[u8], dir: LfsMdir, gdisk: LfsGstate, name_max: u32, id: u32) ->
     let gmask = tag::lfs_mktag(TYPE2_MASK, NO_SLOT, 0);
     let gtag = tag::lfs_mktag(LFS_TYPE_NAME as u32, id, name_max + 1);
     match lookup_search::slice::read(b, dir, gdisk, gmask, gtag, 0, &mut name[..size]) {
-        Got::Refused(r) => refused(r),
-        Got::Found(e) => named(b, dir, gdisk, id, e.tag, name),
+        Err(r) => refused(r),
+        Ok(e) => named(b, dir, gdisk, id, e.tag, name),
     }
 }

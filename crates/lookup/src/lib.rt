@@ -8,7 +8,7 @@ ghost use Rattle.format.specs.Lookup.{getslice_of, getslice_buffer, get_of, get_
 ghost use Rattle.format.specs.Lookup.{getinfo_of};
 
 use format::types::{LONGEST_BUFFER, NO_SLOT};
-use format::{Altered, Geometry, Got, Informed, LfsGstate, LfsMdir, Refusal};
+use format::{Geometry, LfsGstate, LfsMdir, Refusal};
 
 // an info from a block; for the crates of this repository, some functions ask for an end inside it
 pub mod info;
@@ -27,7 +27,7 @@ pub fn lfs_dir_getslice(
     gtag: u32,
     goff: u32,
     buffer: &mut [u8],
-) -> Got
+) -> Result<Found, Refusal>
     ensures value { result ≡ getslice_of g b0.now b1.now n0 n1 dir gdisk gmask gtag goff
         buffer.old }
     ensures buffer_after { buffer.new ≡ getslice_buffer g b0.now b1.now n0 n1 dir gdisk gmask
@@ -35,7 +35,7 @@ pub fn lfs_dir_getslice(
 {
     let fits = sizes::record_fits(g, b0.len(), b1.len(), n0, n1, dir);
     if !(fits & (buffer.len() <= LONGEST_BUFFER)) {
-        return Got::Refused(Refusal::Invalid);
+        return Err(Refusal::Invalid);
     }
     let pair = dir.pair;
     if pair.n0 == n0 {
@@ -57,7 +57,7 @@ pub fn lfs_dir_get(
     gmask: u32,
     gtag: u32,
     buffer: &mut [u8],
-) -> Got
+) -> Result<Found, Refusal>
     ensures value { result ≡ get_of g b0.now b1.now n0 n1 dir gdisk gmask gtag
         buffer.old }
     ensures buffer_after { buffer.new ≡ get_buffer g b0.now b1.now n0 n1 dir gdisk gmask gtag
@@ -65,10 +65,10 @@ pub fn lfs_dir_get(
 {
     let size = tag::lfs_tag_size(gtag) as usize;
     if buffer.len() < size {
-        return Got::Refused(Refusal::Invalid);
+        return Err(Refusal::Invalid);
     }
     if LONGEST_BUFFER < buffer.len() {
-        return Got::Refused(Refusal::Invalid);
+        return Err(Refusal::Invalid);
     }
     lfs_dir_getslice(
         g,
@@ -97,7 +97,7 @@ pub fn lfs_dir_getinfo(
     gdisk: LfsGstate,
     name_max: u32,
     id: u32,
-) -> Informed
+) -> Result<LfsInfo, Refusal>
     ensures { result ≡ getinfo_of g b0.now b1.now n0 n1 dir gdisk name_max id }
 {
     let fits = sizes::record_fits(g, b0.len(), b1.len(), n0, n1, dir);
@@ -118,7 +118,7 @@ pub fn lfs_dir_getinfo(
 // A global state and an answer: what lfs_dir_getgstate leaves, by value.
 #[derive(Clone, Copy)]
 pub struct GotGstate {
-    pub answer: Altered,
+    pub answer: Result<(), Refusal>,
     pub gstate: LfsGstate,
 }
 
@@ -138,7 +138,7 @@ pub fn getgstate_of(
 {
     if !sizes::record_fits(g, b0.len(), b1.len(), n0, n1, dir) {
         return GotGstate {
-            answer: Altered::Refused(Refusal::Invalid),
+            answer: Err(Refusal::Invalid),
             gstate: gstate,
         };
     }
@@ -161,7 +161,7 @@ pub fn lfs_dir_getgstate(
     dir: LfsMdir,
     gdisk: LfsGstate,
     gstate: &mut LfsGstate,
-) -> Altered
+) -> Result<(), Refusal>
     ensures { (result ≡ getgstate_of g b0.now b1.now n0 n1 dir gdisk)
         × (gstate.new ≡ getgstate_state g b0.now b1.now n0 n1 dir gdisk
         gstate.old) }

@@ -1,11 +1,10 @@
 // The move state of a pair, XORed into a global state.
 ghost use Rattle.std.specs.Prelude.{◌≡◌, ◌≤◌, length};
 ghost use Rattle.format.specs.Lookup.{gstate_in, move_mask, move_key, move_answer, move_state, searched};
-ghost use Rattle.format.specs.declared.Hit.TheVariants as hit;
 
 use crate::GotGstate;
 use format::types::{LFS_TYPE_MOVESTATE, TYPE3_MASK};
-use format::{Altered, Found, Got, Hit, LfsGstate, LfsMdir, LfsPair};
+use format::{Found, LfsGstate, LfsMdir, LfsPair};
 
 // The three words of a state, little-endian: what the Rust has by a pointer cast and lfs_gstate_fromle32.
 fn gstate_in(d: &[u8]) -> LfsGstate
@@ -24,19 +23,19 @@ fn gstate_in(d: &[u8]) -> LfsGstate
 // The state with the move state XORed in that stands in the entry.
 fn xored_at(b: &[u8], e: Found, gstate: LfsGstate) -> GotGstate
     requires { 4 ≤ e.length }
-    ensures { (result.answer ≡ move_answer b.now (hit.Found e))
-        × (result.gstate ≡ move_state b.now gstate (hit.Found e)) }
+    ensures { (result.answer ≡ move_answer b.now (Some e))
+        × (result.gstate ≡ move_state b.now gstate (Some e)) }
 {
     let mut d = [0u8; 12];
     match lookup_search::slice::read_at(b, e, 0, &mut d) {
-        Got::Refused(r) => GotGstate {
-            answer: Altered::Refused(r),
+        Err(r) => GotGstate {
+            answer: Err(r),
             gstate: gstate,
         },
-        Got::Found(_) => {
+        Ok(_) => {
             let found = gstate_in(&d);
             GotGstate {
-                answer: Altered::Done,
+                answer: Ok(()),
                 gstate: gstate::xored(gstate, found),
             }
         }
@@ -52,10 +51,10 @@ pub fn read(b: &[u8], dir: LfsMdir, gdisk: LfsGstate, gstate: LfsGstate) -> GotG
     let gmask = tag::lfs_mktag(TYPE3_MASK, 0, 0);
     let gtag = tag::lfs_mktag(LFS_TYPE_MOVESTATE as u32, 0, 12);
     match lookup_search::newest(b, dir, gdisk, gmask, gtag) {
-        Hit::Nothing => GotGstate {
-            answer: Altered::Done,
+        None => GotGstate {
+            answer: Ok(()),
             gstate: gstate,
         },
-        Hit::Found(e) => xored_at(b, e, gstate),
+        Some(e) => xored_at(b, e, gstate),
     }
 }

@@ -11,8 +11,7 @@ use Rattle.format.specs.Back.{back}
 use Rattle.format.proofs.Back.{back_none, back_more}
 use Rattle.format.proofs.Words.{tag_length_ge}
 use Rattle.lookup_back.specs.Step.{Ends, Placed, tag_before}
-use Rattle.lookup_back.specs.declared.Back.{Back}
-use Rattle.lookup_back.specs.declared.Back.TheVariants.{At, Over}
+use Rattle.std.specs.Prelude.{None, Option, Some}
 
 -- the code's XOR; w is the word that stands there
 pub before_is : (b : List ℕ) (at t w : ℕ) → w ≡ be32 (drop at b) → bit_xor w t % 0x8000_0000 ≡ tag_before b at t
@@ -37,8 +36,8 @@ module _ (off t at : ℕ) (e : Ends off t at) where
   back_word = omega (arith, e.more, e.is, tag_length_ge t)
 
 -- what `place` answers, p, by its variant
-pub placed_at_lem : (off t at : ℕ) (p : Back) → Placed off t p → p ≡ At at → Ends off t at
+pub placed_at_lem : (off t at : ℕ) (p : Option ℕ) → Placed off t p → p ≡ Some at → Ends off t at
 placed_at_lem off t at p h e = rw e at h
 
-pub placed_over : (off t : ℕ) (p : Back) → Placed off t p → p ≡ Over → off < 4 + tag_length t
+pub placed_over : (off t : ℕ) (p : Option ℕ) → Placed off t p → p ≡ None → off < 4 + tag_length t
 placed_over off t p h e = rw e at h

@@ -6,22 +6,15 @@
 ghost use Rattle.std.specs.Prelude.{◌≡◌, ◌+◌, ◌≤◌, length};
 ghost use Rattle.lookup_back.specs.Step.{Placed, tag_before};
 
-// Where a tag stands; over: the walk has met all tags.
-#[derive(Clone, Copy)]
-pub enum Back {
-    At(usize),
-    Over,
-}
-
 // "while the offset is at least 4 plus the tag's length": `off` is where the tag ends.
-pub fn place(off: usize, tag: u32) -> Back
+pub fn place(off: usize, tag: u32) -> Option<usize>
     ensures { Placed off tag result }
 {
     let size = tag::lfs_tag_dsize(tag) as usize;
     if off < 4 + size {
-        return Back::Over;
+        return None;
     }
-    Back::At(off - size)
+    Some(off - size)
 }
 
 // The tag before the one that stands at `at`. "Bit 31 of each earlier tag is cleared."

@@ -7,19 +7,17 @@ use borrow.Author.Tests.{lt-leb}
 use Rattle.format.specs.Look.{data_size}
 use Rattle.format.specs.Lookup.{slice_start, slice_end, slice_answer, slice_buffer}
 use Rattle.format.specs.declared.Refusal.TheVariants.{Corrupt}
-use Rattle.format.specs.declared.Got.TheVariants as got
 use Rattle.format.specs.declared.Found.{Found}
-use Rattle.format.specs.declared.Hit.{Hit}
-use Rattle.format.specs.declared.Hit.TheVariants as hit
 use Rattle.lookup_search.proofs.Fill.{filled, zeroed}
+use Rattle.std.specs.Prelude.{Err, None, Ok, Option, Some}
 
 -- ---- the entry e, of which n bytes are read into d
 module _ (b : List ℕ) (e : Found) (goff : ℕ) (d : List ℕ) (n : ℕ) (en : n ≡ min (data_size e) (length d)) where
   ends : slice_end e goff (length d) ≡ e.off + goff + n
   ends = rw en
 
-  pub slice_past : length b < e.off + goff + n → (got.Refused Corrupt ≡ slice_answer b goff (length d) (hit.Found e))
-      × (d ≡ slice_buffer b goff d (hit.Found e))
+  pub slice_past : length b < e.off + goff + n → (Err Corrupt ≡ slice_answer b goff (length d) (Some e))
+      × (d ≡ slice_buffer b goff d (Some e))
   slice_past h =
       let f = lt-leb (slice_end e goff (length d)) (length b) (omega (arith, ends)) in
       (sym (rw f), sym (rw f))
@@ -42,15 +40,15 @@ module _ (b : List ℕ) (e : Found) (goff : ℕ) (d : List ℕ) (n : ℕ) (en : 
 
   pub slice_in : e.off + goff + n ≤ length b → (m l : List ℕ)
       → m ≡ filled (drop (e.off + goff) b) d n → l ≡ zeroed n m
-      → (got.Found e ≡ slice_answer b goff (length d) (hit.Found e)) × (l ≡ slice_buffer b goff d (hit.Found e))
+      → (Ok e ≡ slice_answer b goff (length d) (Some e)) × (l ≡ slice_buffer b goff d (Some e))
   slice_in h m l em el =
       let f = le-leb (slice_end e goff (length d)) (length b) (omega (arith, ends)) in
       (sym (rw f), whole m l h em el ∙ sym (rw f))
 
 -- a slice leaves as many bytes as it was lent
-pub slice_length : (b : List ℕ) (goff : ℕ) (d : List ℕ) (u : Hit) → length (slice_buffer b goff d u) ≡ length d
-slice_length b goff d hit.Nothing = refl
-slice_length b goff d (hit.Found e) = go (leb (slice_end e goff (length d)) (length b)) refl
+pub slice_length : (b : List ℕ) (goff : ℕ) (d : List ℕ) (u : Option Found) → length (slice_buffer b goff d u) ≡ length d
+slice_length b goff d None = refl
+slice_length b goff d (Some e) = go (leb (slice_end e goff (length d)) (length b)) refl
   where
     x : List ℕ
     x = take (min (data_size e) (length d)) (drop (slice_start e goff) b)
@@ -69,6 +67,6 @@ slice_length b goff d (hit.Found e) = go (leb (slice_end e goff (length d)) (len
     go false f = refl
 
 -- ---- h is what the search answers, u what it should
-module _ (h u : Hit) (e : h ≡ u) where
-  pub of_hit : {A : Type 0} (f : Hit → A) {w : Hit} → h ≡ w → f w ≡ f u
+module _ (h u : Option Found) (e : h ≡ u) where
+  pub of_hit : {A : Type 0} (f : Option Found → A) {w : Option Found} → h ≡ w → f w ≡ f u
   of_hit f q = ap f (sym q ∙ e)

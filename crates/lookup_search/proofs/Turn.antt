@@ -10,19 +10,18 @@ use Rattle.format.specs.Look.{found_at, FoundIn, as_ids, spliced_at, create_at, 
 use Rattle.format.specs.Lookup.{has_ids, searched_from, searched}
 use Rattle.format.specs.Gstate.{gstate_has_move_here}
 use Rattle.format.specs.declared.Found.{Found}
-use Rattle.format.specs.declared.Hit.{Hit}
-use Rattle.format.specs.declared.Hit.TheVariants as hit
 use Rattle.format.specs.declared.LfsMdir.{LfsMdir}
 use Rattle.format.specs.declared.LfsGstate.{LfsGstate}
 use Rattle.format.proofs.Searched.{found_in}
 use Rattle.lookup_back.specs.Step.{Ends, tag_before}
 use Rattle.lookup_back.proofs.Step.{back_over, back_on}
+use Rattle.std.specs.Prelude.{None, Option, Some}
 
 -- u is what the whole walk answers, `at` where the tag t stands, k the key here, s whether the tag is a splice at or
 -- below it
-module _ (b : List ℕ) (ids : Bool) (mask key off t d : ℕ) (u : Hit) (inv : u ≡ wlook ids mask key d (back b off t))
+module _ (b : List ℕ) (ids : Bool) (mask key off t d : ℕ) (u : Option Found) (inv : u ≡ wlook ids mask key d (back b off t))
   where
-    pub walk_over : off < 4 + tag_length t → hit.Nothing ≡ u
+    pub walk_over : off < 4 + tag_length t → None ≡ u
     unfolding wlook
     walk_over h = sym (inv ∙ ap (wlook ids mask key d) (back_over b off t h))
 
@@ -35,7 +34,7 @@ module _ (b : List ℕ) (ids : Bool) (mask key off t d : ℕ) (u : Hit) (inv : u
       here : u ≡ wlook ids mask key d (record { tag = t; off = at } ∷ older)
       here = inv ∙ ap (wlook ids mask key d) (back_on b off t at e)
 
-      pub turn_created : s && eqb t c ≡ true → hit.Nothing ≡ u
+      pub turn_created : s && eqb t c ≡ true → None ≡ u
       unfolding wlook
       turn_created q = sym (here ∙ rw (← ek, ← es, ← ec, q))
 
@@ -43,16 +42,16 @@ module _ (b : List ℕ) (ids : Bool) (mask key off t d : ℕ) (u : Hit) (inv : u
       module _ (q : s && eqb t c ≡ false) (f : ℕ) (ef : f ≡ cond s (plus32 d (as_ids (tag_splice t))) d) (l : ℕ)
           (el : l ≡ minus32 key f) where
         past_create : u ≡ cond (eqb (bit_and t mask) (bit_and l mask))
-            (cond (tag_delete t) hit.Nothing (hit.Found (found_at t at f))) (wlook ids mask key f older)
+            (cond (tag_delete t) None (Some (found_at t at f))) (wlook ids mask key f older)
         unfolding wlook
         past_create = here ∙ rw (← ek, ← es, ← ec, q, ← ef, ← el)
 
-        pub turn_removed : bit_and t mask ≡ bit_and l mask → tag_delete t ≡ true → hit.Nothing ≡ u
+        pub turn_removed : bit_and t mask ≡ bit_and l mask → tag_delete t ≡ true → None ≡ u
         turn_removed m r = sym (past_create ∙ rw (eq-eqb (bit_and t mask) (bit_and l mask) m, r))
 
         pub turn_found : bit_and t mask ≡ bit_and l mask → tag_delete t ≡ false → (e : Found) → e ≡ found_at t at f
-            → hit.Found e ≡ u
-        turn_found m r e ee = ap hit.Found ee
+            → Some e ≡ u
+        turn_found m r e ee = ap Some ee
             ∙ sym (past_create ∙ rw (eq-eqb (bit_and t mask) (bit_and l mask) m, r))
 
         -- w is the tag before
@@ -74,15 +73,15 @@ module _ (b : List ℕ) (dir : LfsMdir) (gdisk : LfsGstate) (mask key : ℕ) whe
   moved = tag_id gdisk.tag
 
   pub starts : searched b dir gdisk mask key
-      ≡ cond (moves && eqb moved (tag_id key)) hit.Nothing
+      ≡ cond (moves && eqb moved (tag_id key)) None
       (searched_from b dir mask key (cond (moves && ltb moved (tag_id key)) (minus32 0 (2 ^ 10)) 0))
   unfolding searched
   starts = go moves (eqb moved (tag_id key)) (ltb moved (tag_id key))
     where
       go : (p e l : Bool)
-          → cond p (cond e hit.Nothing (cond l (searched_from b dir mask key (minus32 0 (2 ^ 10)))
+          → cond p (cond e None (cond l (searched_from b dir mask key (minus32 0 (2 ^ 10)))
           (searched_from b dir mask key 0))) (searched_from b dir mask key 0)
-          ≡ cond (p && e) hit.Nothing (searched_from b dir mask key (cond (p && l) (minus32 0 (2 ^ 10)) 0))
+          ≡ cond (p && e) None (searched_from b dir mask key (cond (p && l) (minus32 0 (2 ^ 10)) 0))
       go true true l = refl
       go true false true = refl
       go true false false = refl
@@ -91,11 +90,11 @@ module _ (b : List ℕ) (dir : LfsMdir) (gdisk : LfsGstate) (mask key : ℕ) whe
   -- i and j are the ids of the mask and the key, m that of the move, h whether it is here
   module _ (i m j : ℕ) (h : Bool) (ei : i ≡ tag_id mask) (eh : h ≡ gstate_has_move_here gdisk dir.pair) (em : m ≡ moved)
       (ej : j ≡ tag_id key) where
-    pub start_moved : (not (eqb i 0) && h) && eqb m j ≡ true → hit.Nothing ≡ searched b dir gdisk mask key
+    pub start_moved : (not (eqb i 0) && h) && eqb m j ≡ true → None ≡ searched b dir gdisk mask key
     start_moved q = sym (starts ∙ rw (← ei, ← eh, ← em, ← ej, q))
 
     -- d is the difference at the start, u what the walk answers
     pub start_from : (not (eqb i 0) && h) && eqb m j ≡ false → (d : ℕ)
         → d ≡ cond ((not (eqb i 0) && h) && ltb m j) (minus32 0 (2 ^ 10)) 0
-        → (u : Hit) → u ≡ searched_from b dir mask key d → u ≡ searched b dir gdisk mask key
+        → (u : Option Found) → u ≡ searched_from b dir mask key d → u ≡ searched b dir gdisk mask key
     start_from q d ed u eu = eu ∙ sym (starts ∙ rw (← ei, ← eh, ← em, ← ej, q, ← ed))

@@ -12,8 +12,7 @@ ghost use Rattle.format.specs.Look.{found_at, HitIn, as_ids, spliced_at, create_
 ghost use Rattle.format.specs.Lookup.{has_ids, searched};
 
 use format::types::{LFS_TYPE_CREATE, LFS_TYPE_SPLICE};
-use format::{Found, Hit, LfsGstate, LfsMdir};
-use lookup_back::Back;
+use format::{Found, LfsGstate, LfsMdir};
 
 pub mod slice;
 
@@ -69,7 +68,7 @@ fn found_at(tag: u32, at: usize, diff: u32) -> Found
 
 // The walk back, from an end, the tag that ends there, and a difference. A turn has no branch but the three that end
 // it: what is rare, and the match.
-pub fn find_back(b: &[u8], end: u32, etag: u32, gmask: u32, gtag: u32, diff: u32) -> Hit
+pub fn find_back(b: &[u8], end: u32, etag: u32, gmask: u32, gtag: u32, diff: u32) -> Option<Found>
     requires { end ≤ length b.now }
     ensures { (result ≡ wlook (has_ids gmask) gmask gtag diff (back b.now end etag)) × HitIn end result }
 {
@@ -78,21 +77,21 @@ pub fn find_back(b: &[u8], end: u32, etag: u32, gmask: u32, gtag: u32, diff: u32
     let mut tag = etag;
     let mut gdiff = diff;
     loop {
-        let Back::At(at) = lookup_back::place(off, tag) else {
-            return Hit::Nothing;
+        let Some(at) = lookup_back::place(off, tag) else {
+            return None;
         };
         let key = key_at(gtag, gdiff);
         let spliced = splices(ids, tag, key);
         if spliced & (tag == create_at(key)) {
-            return Hit::Nothing;
+            return None;
         }
         let next = diff_after(spliced, tag, gdiff);
         // the match is tested with the tag's own splice added
         if tag & gmask == key_at(gtag, next) & gmask {
             if tag::lfs_tag_isdelete(tag) {
-                return Hit::Nothing;
+                return None;
             }
-            return Hit::Found(found_at(tag, at, next));
+            return Some(found_at(tag, at, next));
         }
         tag = lookup_back::tag_before(b, at, tag);
         off = at;
@@ -108,7 +107,7 @@ fn first_diff(moved_below: bool) -> u32
 }
 
 // The newest entry of a record's block. A pending move is compared with the id that was asked for, before any splice.
-pub fn newest(b: &[u8], dir: LfsMdir, gdisk: LfsGstate, gmask: u32, gtag: u32) -> Hit
+pub fn newest(b: &[u8], dir: LfsMdir, gdisk: LfsGstate, gmask: u32, gtag: u32) -> Option<Found>
     requires { dir.off ≤ length b.now }
     ensures { (result ≡ searched b.now dir gdisk gmask gtag) × HitIn dir.off result }
 {
@@ -117,7 +116,7 @@ pub fn newest(b: &[u8], dir: LfsMdir, gdisk: LfsGstate, gmask: u32, gtag: u32) -
     let moved = tag::lfs_tag_id(gdisk.tag);
     let id = tag::lfs_tag_id(gtag);
     if moves & (moved == id) {
-        return Hit::Nothing;
+        return None;
     }
     find_back(
         b,

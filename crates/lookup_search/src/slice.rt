@@ -2,9 +2,8 @@
 // its end is inside.
 ghost use Rattle.std.specs.Prelude.{◌≡◌, ◌+◌, ◌-◌, ◌≤◌, min, ◌++◌, length, take, drop, replicate};
 ghost use Rattle.format.specs.Lookup.{slice_answer, slice_buffer, searched};
-ghost use Rattle.format.specs.declared.Hit.TheVariants as hit;
 
-use format::{Found, Got, Hit, LfsGstate, LfsMdir, Refusal};
+use format::{Found, LfsGstate, LfsMdir, Refusal};
 
 fn smaller(a: usize, b: usize) -> usize
     ensures { result ≡ min a b }
@@ -39,19 +38,19 @@ fn zero_rest(n: usize, buffer: &mut [u8])
 
 // The slice of an entry. What it reads may run into the next entry, and not past the block. The entry is the answer as
 // it is, whatever the offset and the buffer.
-pub fn read_at(b: &[u8], e: Found, goff: u32, buffer: &mut [u8]) -> Got
+pub fn read_at(b: &[u8], e: Found, goff: u32, buffer: &mut [u8]) -> Result<Found, Refusal>
     requires { 4 ≤ e.length }
-    ensures value { result ≡ slice_answer b.now goff (length buffer.old) (hit.Found e) }
-    ensures buffer_after { buffer.new ≡ slice_buffer b.now goff buffer.old (hit.Found e) }
+    ensures value { result ≡ slice_answer b.now goff (length buffer.old) (Some e) }
+    ensures buffer_after { buffer.new ≡ slice_buffer b.now goff buffer.old (Some e) }
 {
     let n = smaller((e.length - 4) as usize, buffer.len());
     let from = e.off as usize + goff as usize;
     if b.len() < from + n {
-        return Got::Refused(Refusal::Corrupt);
+        return Err(Refusal::Corrupt);
     }
     copy_in(b, from, n, buffer);
     zero_rest(n, buffer);
-    Got::Found(e)
+    Ok(e)
 }
 
 // The slice of the newest entry.
@@ -63,7 +62,7 @@ pub fn read(
     gtag: u32,
     goff: u32,
     buffer: &mut [u8],
-) -> Got
+) -> Result<Found, Refusal>
     requires { dir.off ≤ length b.now }
     ensures value { result ≡ slice_answer b.now goff (length buffer.old)
         (searched b.now dir gdisk gmask gtag) }
@@ -71,7 +70,7 @@ pub fn read(
         (searched b.now dir gdisk gmask gtag) }
 {
     match crate::newest(b, dir, gdisk, gmask, gtag) {
-        Hit::Nothing => Got::Refused(Refusal::NoEntry),
-        Hit::Found(e) => read_at(b, e, goff, buffer),
+        None => Err(Refusal::NoEntry),
+        Some(e) => read_at(b, e, goff, buffer),
     }
 }

@@ -1,7 +1,7 @@
 -- Demand 2: "Commit and compaction are accepted exactly when document 01 says". The conditions, one by one, each the
 -- negation of one refusal; a call is accepted exactly if all of them hold, and then with these entries and this check.
 -- Assumes nothing.
-use Rattle.std.specs.Prelude.{◌≡◌, refl, ◌↔◌, true, false, not, length, ltb}
+use Rattle.std.specs.Prelude.{◌≡◌, refl, ◌↔◌, true, false, not, length, ltb, Ok}
 use Rattle.std.proofs.Math.Bool.{Bool}
 use mathlib.Core.List.{List}
 use Prim.Native.Nat.{ℕ}
@@ -24,10 +24,10 @@ use Rattle.format.specs.declared.Geometry.{Geometry}
 use Rattle.format.specs.declared.LfsMdir.{LfsMdir}
 use Rattle.format.specs.declared.Entry.{Entry}
 use Rattle.format.specs.declared.Refusal.TheVariants.{Invalid, Irregular, NoSpace, Coincidence}
-use Rattle.format.specs.declared.Fetched.TheVariants as fetched
 use Rattle.format.proofs.Rooms.{clean_holds, holds_clean}
 use Rattle.theory.specs.Commit.AcceptedVerdict.{past, past_room, found_then, good_then}
 use Rattle.theory.proofs.Compact.AcceptedVerdict as anew
+use Rattle.format.specs.Record.{fetched}
 
 -- ---- a commit
 module _ (g : Geometry) (b0 b1 : List ℕ) (n0 n1 count seed rules e : ℕ) (entries : List Entry) (dat : List ℕ) where
@@ -38,7 +38,7 @@ module _ (g : Geometry) (b0 b1 : List ℕ) (n0 n1 count seed rules e : ℕ) (ent
     -- none of "fetch's own refusals"
     pub dir : LfsMdir
     pub read : ℕ
-    pub found : fetch_of g b0 b1 n0 n1 count seed ≡ fetched.Found dir read
+    pub found : fetch_of g b0 b1 n0 n1 count seed ≡ Ok (fetched dir read)
     pub place : is_second n0 dir ≡ second
     pub block : b ≡ block_at second b0 b1
     -- not -202: "the committed log" is "regular", by the rule that was asked for
@@ -141,7 +141,7 @@ module _ (g : Geometry) (b0 b1 : List ℕ) (n0 n1 count seed rules e : ℕ) wher
     pub writes : writes_fit rules e ≡ true
     pub dir : LfsMdir
     pub read : ℕ
-    pub found : fetch_of g b0 b1 n0 n1 count seed ≡ fetched.Found dir read
+    pub found : fetch_of g b0 b1 n0 n1 count seed ≡ Ok (fetched dir read)
     pub place : is_second n0 dir ≡ second
     pub block : b ≡ block_at second b0 b1
     -- not -202, by the rule that was asked for

@@ -2,7 +2,7 @@
 -- decides, for each of the two: for 0xff what document 01 has; and that behind an accepted call the end tag's bit fits
 -- the byte again. That demands 2 and 3 hold for both is said where they are said, with the byte as a variable:
 -- Accepted, Room, Torn, Forward, Stopped. Assumes nothing.
-use Rattle.std.specs.Prelude.{◌≡◌, Bool, true, false, not, ◌&&◌, List, ℕ}
+use Rattle.std.specs.Prelude.{◌≡◌, Bool, true, false, not, ◌&&◌, List, ℕ, Err, Ok, Result}
 use Rattle.std.proofs.Math.Path.{refl, ap₂}
 use Rattle.format.specs.Word.{le32, all_ones}
 use Rattle.format.specs.Tag.{tag_valid, tag_of}
@@ -18,13 +18,13 @@ use Rattle.format.specs.Stopped.{Bytes}
 use Rattle.format.specs.declared.Geometry.{Geometry}
 use Rattle.format.specs.declared.Entry.{Entry}
 use Rattle.format.specs.declared.LfsMdir.{LfsMdir}
-use Rattle.format.specs.declared.Committed.{Committed}
 use Rattle.format.specs.declared.Refusal.TheVariants.{Invalid}
-use Rattle.format.specs.declared.Committed.TheVariants as committed
-use Rattle.format.specs.declared.Stored.TheVariants as stored
 use Rattle.format.proofs.Erased.{erases, bit_fits}
 use Rattle.theory.proofs.Stopped.Commit as commit
 use Rattle.theory.proofs.Stopped.Compaction as compaction
+use Rattle.format.specs.declared.Fetched.{Fetched}
+use Rattle.format.specs.declared.Refusal.{Refusal}
+use Rattle.format.specs.Record.{fetched}
 
 -- ---- what the byte decides: the check tag, the end tag's bit, and what the coincidence is compared with
 pub for_ones : (size etag : ℕ) → (check_tag 0xff size ≡ tag_of type_check no_slot size)
@@ -53,19 +53,19 @@ module _ (g : Geometry) (b0 b1 : List ℕ) (n0 n1 count seed rules e : ℕ) (oth
   no_compaction = rw (other, never (rules_fit rules))
 
   pub other_byte : (entries : List Entry) (dat : List ℕ) (n : ℕ)
-      → (commit_of g b0 b1 n0 n1 count seed rules e entries dat ≡ committed.Refused Invalid)
-      × (commit_stores_of g b0 b1 n0 n1 count seed rules e entries dat n ≡ stored.Refused Invalid)
-      × (compact_of g b0 b1 n0 n1 count seed rules e ≡ committed.Refused Invalid)
-      × (compact_stores_of g b0 b1 n0 n1 count seed rules e n ≡ stored.Refused Invalid)
+      → (commit_of g b0 b1 n0 n1 count seed rules e entries dat ≡ Err Invalid)
+      × (commit_stores_of g b0 b1 n0 n1 count seed rules e entries dat n ≡ Err Invalid)
+      × (compact_of g b0 b1 n0 n1 count seed rules e ≡ Err Invalid)
+      × (compact_stores_of g b0 b1 n0 n1 count seed rules e n ≡ Err Invalid)
   unfolding commit_of commit_stores_of compact_of compact_stores_of
   other_byte entries dat n = rw (no_commit entries dat, no_compaction) (refl, refl, refl, refl)
 
 -- ---- an accepted call leaves an end tag whose validity bit fits the byte: with the same byte the next commit is not
 -- -212. Said of the record that it answers.
-pub record EndsFitting (e : ℕ) (answer : Committed) : Type 0 where
+pub record EndsFitting (e : ℕ) (answer : Result Fetched Refusal) : Type 0 where
   pub dir : LfsMdir
   pub read : ℕ
-  pub done : answer ≡ committed.Done dir read
+  pub done : answer ≡ Ok (fetched dir read)
   pub fits : BitFits e dir.etag
 
 module _ (g : Geometry) (b0 b1 : List ℕ) (n0 n1 count seed rules e : ℕ) where

@@ -1,8 +1,7 @@
 -- Demand 3 on document 01's listing pair, by computation: a commit of a new deadline for q212, and a compaction, each
 -- stopped after every number of its stores. And that both are accepted, so that the theorems of Stopped.antt speak of
 -- them. Assumes nothing.
-use Rattle.std.specs.Prelude.{◌≡◌, refl, Bool, true, false, ◌&&◌, List, [], ◌∷◌, ◌++◌, map, ℕ, zero, suc, ◌^◌, ltb, replicate}
-use Rattle.std.proofs.Math.Option.{some}
+use Rattle.std.specs.Prelude.{◌≡◌, refl, Bool, true, false, ◌&&◌, List, [], ◌∷◌, ◌++◌, map, ℕ, zero, suc, ◌^◌, ltb, replicate, Err, Ok, Result, Some}
 use Rattle.std.proofs.Common.{arith, ltb-true}
 use Rattle.format.specs.Crc.{crc, crc_byte, crc_bits, crc_bit}
 use Rattle.format.specs.Word.{be32, le32, to_be32, to_le32, xor}
@@ -33,10 +32,10 @@ use Rattle.format.specs.declared.Rules.TheVariants.{Document}
 use Rattle.format.specs.declared.Geometry.{Geometry}
 use Rattle.format.specs.declared.LfsGstate.{LfsGstate}
 use Rattle.format.specs.declared.Entry.{Entry}
-use Rattle.format.specs.declared.Fetched.{Fetched}
-use Rattle.format.specs.declared.Fetched.TheVariants as fetched
 use Rattle.theory.specs.Walk.Step.{both_true}
 use Rattle.promises.specs.Stopped.{commit_stopped, compact_stopped}
+use Rattle.format.specs.declared.Fetched.{Fetched}
+use Rattle.format.specs.declared.Refusal.{Refusal}
 
 abbrev geometry : Geometry
 geometry = record { block_size = 128; prog_size = 16 }
@@ -78,14 +77,14 @@ pub record Seen : Type 0 where
 abbrev nothing : Seen
 nothing = record { block = 9; rev = 0; end = 0; due = [] }
 
-pub seen_by : List ℕ → List ℕ → Fetched → Seen
-seen_by i0 i1 (fetched.Refused r) = nothing
-seen_by i0 i1 (fetched.Found m s) =
+pub seen_by : List ℕ → List ℕ → Result Fetched Refusal → Seen
+seen_by i0 i1 (Err r) = nothing
+seen_by i0 i1 (Ok f) =
     record {
-      block = m.pair.n0;
-      rev = m.rev;
-      end = m.off;
-      due = getslice_buffer geometry i0 i1 0 1 m no_move mask_type3 (tag_of 0x374 0 0) 0 (replicate 4 0);
+      block = f.dir.pair.n0;
+      rev = f.dir.rev;
+      end = f.dir.off;
+      due = getslice_buffer geometry i0 i1 0 1 f.dir no_move mask_type3 (tag_of 0x374 0 0) 0 (replicate 4 0);
     }
 
 abbrev seen : Images → Seen
@@ -159,9 +158,9 @@ commit_example n = commit_stopped geometry first second 0 1 0 0 0 0xff (deadline
 
 -- which is the new deadline, and the name of before
 pub holds_the_hour : (asked (ran (machine_of (log first)) (written (items_of hour (deadline ∷ [])) [])) (attribute 0 0x74)
-    ≡ some (record { type = 0x374; bytes = hour }))
+    ≡ Some (record { type = 0x374; bytes = hour }))
     × (asked (ran (machine_of (log first)) (written (items_of hour (deadline ∷ [])) [])) (name 0)
-    ≡ some (record { type = 0x001; bytes = 0x71 ∷ 0x32 ∷ 0x31 ∷ 0x32 ∷ [] }))
+    ≡ Some (record { type = 0x001; bytes = 0x71 ∷ 0x32 ∷ 0x31 ∷ 0x32 ∷ [] }))
 unfolding written dir_of dir acts act apply reaching apply_all upd empty log committed walk walk_from walk_in class_of
     read_behind body_length tag_length tag_flipped be32 le32 xor crc crc_byte crc_bits crc_bit entry_body tag_of
 holds_the_hour = (refl, refl)

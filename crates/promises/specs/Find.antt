@@ -1,10 +1,9 @@
 -- Document 02, L4: "Prove it equal to asking slot by slot on every regular log with no pending move." Asking slot by
 -- slot is said of `lfs_dir_getslice`'s own definition. Assumes nothing.
-use Rattle.std.specs.Prelude.{◌≡◌, ◌≢◌, Bool, true, false, not, ◌&&◌, ◌||◌, length, take, replicate, get_or, eqb}
+use Rattle.std.specs.Prelude.{◌≡◌, ◌≢◌, Bool, true, false, not, ◌&&◌, ◌||◌, length, take, replicate, get_or, eqb, Err, None, Ok, Option, Result, Some}
 use Rattle.std.proofs.Math.Path.{refl, ap}
 use Rattle.std.proofs.Common.{sym, ap₂, ◌∙◌, ne_eqb, lt-ltb}
 use Rattle.std.proofs.Math.Bool.{cond}
-use Rattle.std.proofs.Math.Option.{Option, none, some}
 use mathlib.Core.List.{List, [], ◌∷◌, ◌++◌}
 use Prim.Native.Nat.{ℕ, zero, suc, ◌+◌, ◌-◌, ◌^◌, ◌≤◌, ◌<◌}
 use native.Mathlib.Omega.{arith}
@@ -26,13 +25,6 @@ use Rattle.format.specs.Find.{same_bytes, is_named, first_named, find_in, find_o
 use Rattle.format.specs.declared.Geometry.{Geometry}
 use Rattle.format.specs.declared.LfsMdir.{LfsMdir}
 use Rattle.format.specs.declared.LfsGstate.{LfsGstate}
-use Rattle.format.specs.declared.Fetched.TheVariants as fetched
-use Rattle.format.specs.declared.Got.{Got}
-use Rattle.format.specs.declared.Got.TheVariants as got
-use Rattle.format.specs.declared.Word.{Word}
-use Rattle.format.specs.declared.Word.TheVariants as word
-use Rattle.format.specs.declared.Named.{Named}
-use Rattle.format.specs.declared.Named.TheVariants.{At, Nothing}
 use Rattle.format.proofs.Growing.{widest}
 use Rattle.format.proofs.Tags.{of_type3, of_size}
 use Rattle.theory.specs.Blocks.SlotItems.{OkSlot, OkSlots, ok_get, ok_dir_of}
@@ -41,18 +33,23 @@ use Rattle.theory.proofs.Compact.AcceptedVerdict.{slots_few}
 use Rattle.theory.specs.Fetch.FoundRecord.{past_test}
 use Rattle.theory.proofs.Stopped.Shown.{block_is}
 use Rattle.promises.specs.Directory.{directory_lookups}
+use Rattle.format.specs.declared.Found.{Found}
+use Rattle.format.specs.declared.Refusal.{Refusal}
+use Rattle.format.specs.declared.Fetched.{Fetched}
+use Rattle.format.specs.Record.{fetched}
+use Rattle.format.specs.Answer.{answer_mdir}
 
 -- ---- asking
 -- an answer with "the given bytes and type": the type in the tag that was found, and as many bytes as its size says
-abbrev pub answers_name : List ℕ → ℕ → Got → List ℕ → Bool
-answers_name name type (got.Found e) buffer = eqb (tag_type3 e.tag) type && same_bytes (take (tag_size e.tag) buffer)
+abbrev pub answers_name : List ℕ → ℕ → Result Found Refusal → List ℕ → Bool
+answers_name name type (Ok e) buffer = eqb (tag_type3 e.tag) type && same_bytes (take (tag_size e.tag) buffer)
     name
-answers_name name type (got.Refused r) buffer = false
+answers_name name type (Err r) buffer = false
 
 module _ (g : Geometry) (b0 b1 : List ℕ) (n0 n1 : ℕ) (dir : LfsMdir) (gdisk : LfsGstate) (name : List ℕ)
     (type : ℕ) where
   -- the lookup of the name of the slot id, with a buffer for the longest
-  abbrev pub name_answer : ℕ → Got
+  abbrev pub name_answer : ℕ → Result Found Refusal
   name_answer id = getslice_of g b0 b1 n0 n1 dir gdisk mask_type1 (tag_of type_name id 0) 0 (blank_buffer 1_022)
 
   abbrev pub name_buffer : ℕ → List ℕ
@@ -62,12 +59,12 @@ module _ (g : Geometry) (b0 b1 : List ℕ) (n0 n1 : ℕ) (dir : LfsMdir) (gdisk 
   asked id = answers_name name type (name_answer id) (name_buffer id)
 
   -- n ids from id on, one after the other
-  unfoldable pub ask_from : ℕ → ℕ → Named
-  ask_from zero id = Nothing
-  ask_from (suc n) id = cond (asked id) (At id) (ask_from n (suc id))
+  unfoldable pub ask_from : ℕ → ℕ → Result (Option ℕ) Refusal
+  ask_from zero id = (Ok None)
+  ask_from (suc n) id = cond (asked id) (Ok (Some id)) (ask_from n (suc id))
 
   -- "asking slot by slot": every id below the record's count
-  abbrev pub asking : Named
+  abbrev pub asking : Result (Option ℕ) Refusal
   asking = ask_from dir.count 0
 
   -- ---- the slots hold what is answered
@@ -81,17 +78,17 @@ module _ (g : Geometry) (b0 b1 : List ℕ) (n0 n1 : ℕ) (dir : LfsMdir) (gdisk 
       let here : asked id ≡ is_named name type (s 0) = ap asked (sym z) ∙ h 0 (omega arith) in
       let rest = asks_first D (suc id) (λ k l. let e : suc id + k ≡ id + suc k = omega arith in
       ap asked e ∙ h (suc k) (omega arith)) in
-      rw here (ap (λ (x : Named). cond (is_named name type (s 0)) (At id) x) rest)
+      rw here (ap (λ (x : Result (Option ℕ) Refusal). cond (is_named name type (s 0)) (Ok (Some id)) x) rest)
 
 -- an answer's word is enough
-abbrev word_names : List ℕ → ℕ → Word → List ℕ → Bool
-word_names name type (word.Is t) buffer = eqb (tag_type3 t) type && same_bytes (take (tag_size t) buffer) name
-word_names name type (word.Refused r) buffer = false
+abbrev word_names : List ℕ → ℕ → Result ℕ Refusal → List ℕ → Bool
+word_names name type (Ok t) buffer = eqb (tag_type3 t) type && same_bytes (take (tag_size t) buffer) name
+word_names name type (Err r) buffer = false
 
-by_word : (name : List ℕ) (type : ℕ) (x : Got) (buffer : List ℕ)
+by_word : (name : List ℕ) (type : ℕ) (x : Result Found Refusal) (buffer : List ℕ)
     → answers_name name type x buffer ≡ word_names name type (got_word x) buffer
-by_word name type (got.Found e) buffer = refl
-by_word name type (got.Refused r) buffer = refl
+by_word name type (Ok e) buffer = refl
+by_word name type (Err r) buffer = refl
 
 -- what a slot holds, as it is answered
 take_front : (l : List ℕ) (n : ℕ) (m : List ℕ) → length l ≤ n → take (length l) (take n l ++ m) ≡ l
@@ -106,8 +103,8 @@ held_names name type id s ok low = go (s 0) refl
   where
     go : (o : Option Load) → s 0 ≡ o
         → word_names name type (held_word id o) (held_buffer (blank_buffer 1_022) o) ≡ is_named name type o
-    go none e = refl
-    go (some v) e =
+    go None e = refl
+    go (Some v) e =
         let k = ok 0 v e in
         let n : ℕ = length v.bytes in
         let t : tag_type3 (tag_of v.type id n) ≡ v.type = of_type3 v.type id n (omega (arith, k.0)) low
@@ -120,19 +117,19 @@ held_names name type id s ok low = go (s 0) refl
 
 -- a pair that fetch finds passes its block count
 low_enough : (g : Geometry) (b0 b1 : List ℕ) (n0 n1 count seed : ℕ) (dir : LfsMdir) (read : ℕ)
-    → fetch_of g b0 b1 n0 n1 count seed ≡ fetched.Found dir read → too_high count n0 || too_high count n1 ≡ false
+    → fetch_of g b0 b1 n0 n1 count seed ≡ Ok (fetched dir read) → too_high count n0 || too_high count n1 ≡ false
 unfolding fetch_of
 low_enough g b0 b1 n0 n1 count seed dir read f =
     let p = past_test (not (pair_fits g (length b0) (length b1) n0 n1)) _ _ dir read f in
     (past_test (too_high count n0 || too_high count n1) _ _ dir read p.1).0
 
-found_same : {m k : LfsMdir} {s t : ℕ} → fetched.Found m s ≡ fetched.Found k t → m ≡ k
-found_same e = cc
+found_same : {m k : LfsMdir} {s t : ℕ} → ◌≡◌ {A = Result Fetched Refusal} (Ok (fetched m s)) (Ok (fetched k t)) → m ≡ k
+found_same e = ap answer_mdir e
 
 -- THE THEOREM. The pair is one that fetch finds, its log is regular by the rule that is asked for, no move is pending,
 -- and the name is not empty.
 pub find_is_asking : (g : Geometry) (b0 b1 : List ℕ) (n0 n1 count seed rules : ℕ) (dir : LfsMdir) (read : ℕ)
-    (gdisk : LfsGstate) (name : List ℕ) (type : ℕ) → fetch_of g b0 b1 n0 n1 count seed ≡ fetched.Found dir read
+    (gdisk : LfsGstate) (name : List ℕ) (type : ℕ) → fetch_of g b0 b1 n0 n1 count seed ≡ Ok (fetched dir read)
     → rules_fit rules ≡ true → Regular (rules_of rules) (log (block_of b0 b1 n0 dir)) ≡ true
     → gstate_has_move_here gdisk dir.pair ≡ false → length name ≢ 0
     → find_of g b0 b1 n0 n1 count seed rules name type ≡ asking g b0 b1 n0 n1 dir gdisk name type

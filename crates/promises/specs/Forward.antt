@@ -1,7 +1,7 @@
 -- Document 02, L5: the forward check. What -28 accepts is what it accepted without one; behind a commit or a compaction
 -- that carried one fetch's erased mark is yes, and the record that is answered holds it; what a commit or a compaction
 -- leaves of the directory is what it left without one (Stopped). Assumes nothing.
-use Rattle.std.specs.Prelude.{◌≡◌, Bool, true, List, ℕ, ◌+◌, ◌≤◌, length, ltb}
+use Rattle.std.specs.Prelude.{◌≡◌, Bool, true, List, ℕ, ◌+◌, ◌≤◌, length, ltb, Ok, Result}
 use Rattle.std.proofs.Math.Path.{ap₂}
 use Rattle.format.specs.Log.{log, log_end}
 use Rattle.format.specs.Fetch.{mdir_of}
@@ -16,11 +16,12 @@ use Rattle.format.specs.Stopped.{Bytes}
 use Rattle.format.specs.declared.Geometry.{Geometry}
 use Rattle.format.specs.declared.LfsMdir.{LfsMdir}
 use Rattle.format.specs.declared.Entry.{Entry}
-use Rattle.format.specs.declared.Committed.{Committed}
-use Rattle.format.specs.declared.Committed.TheVariants.{Done}
 use Rattle.theory.specs.Commit.ForwardCheck as forward
 use Rattle.theory.proofs.Stopped.Commit as commit
 use Rattle.theory.proofs.Stopped.Compaction as compaction
+use Rattle.format.specs.declared.Fetched.{Fetched}
+use Rattle.format.specs.declared.Refusal.{Refusal}
+use Rattle.format.specs.Record.{fetched}
 
 -- ---- -28 goes by the end that is really laid, and that passes the block exactly if the entries' own rounded end does,
 -- so that what is accepted is what was. Of entries that begin at `from`, a commit's at the old end and a compaction's
@@ -31,10 +32,10 @@ pub space_same : (e prog block from : ℕ) (is : List Item) → 4 ≤ prog
 space_same e prog block from is some = forward.space_same e prog block from is some
 
 -- ---- a record whose mark is yes, and which holds the check of an erased unit
-pub record Marked (e prog : ℕ) (answer : Committed) : Type 0 where
+pub record Marked (e prog : ℕ) (answer : Result Fetched Refusal) : Type 0 where
   pub dir : LfsMdir
   pub read : ℕ
-  pub done : answer ≡ Done dir read
+  pub done : answer ≡ Ok (fetched dir read)
   pub erased : dir.erased ≡ true
   pub held : dir.fcrc ≡ unit_check e prog
 

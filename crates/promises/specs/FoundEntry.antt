@@ -2,7 +2,7 @@
 -- is the one that the answer's tag tells, the data stand before the record's end, and a buffer of their length gets
 -- them; and the answer is the same whatever the offset and the buffer, so that a short buffer hides nothing. Assumes
 -- nothing.
-use Rattle.std.specs.Prelude.{◌≡◌, refl, Bool, List, [], ◌∷◌, ◌++◌, take, drop, leb, ℤ, pos, negsuc}
+use Rattle.std.specs.Prelude.{◌≡◌, refl, Bool, List, [], ◌∷◌, ◌++◌, take, drop, leb, ℤ, pos, negsuc, Err, None, Ok, Option, Result, Some}
 use Rattle.std.proofs.Common.{sym, ap, ◌∙◌, append-nil, le_refl}
 use Rattle.std.proofs.Math.Bool.{true, false, cond}
 use Prim.Native.Nat.{ℕ, ◌+◌, ◌-◌, ◌%◌, ◌^◌, ◌≤◌, min}
@@ -21,14 +21,11 @@ use Rattle.format.specs.declared.LfsMdir.{LfsMdir}
 use Rattle.format.specs.declared.LfsGstate.{LfsGstate}
 use Rattle.format.specs.declared.Refusal.TheVariants.{Invalid, Corrupt}
 use Rattle.format.specs.declared.Found.{Found}
-use Rattle.format.specs.declared.Hit.{Hit}
-use Rattle.format.specs.declared.Hit.TheVariants as hit
-use Rattle.format.specs.declared.Got.{Got}
-use Rattle.format.specs.declared.Got.TheVariants as got
 use Rattle.format.proofs.Tags.{length_size}
 use Rattle.format.proofs.Searched.{slice_is}
 use Rattle.theory.specs.Lookup.WhatIsFound.{AllMet, searched_has}
 use Rattle.theory.specs.Lookup.AtStart.{searched_in}
+use Rattle.format.specs.declared.Refusal.{Refusal}
 
 -- ---- the difference counts ids, so it leaves a tag's size alone
 abbrev Whole : ℕ → Type 0
@@ -53,12 +50,12 @@ size_kept : (t d : ℕ) → Whole d → tag_size (plus32 t d) ≡ tag_size t
 size_kept t d h = omega arith
 
 -- "The stored length is 4 plus size"
-abbrev Sized : Hit → Type 0
-Sized hit.Nothing = Unit {0}
-Sized (hit.Found e) = e.length ≡ 4 + tag_size e.tag
+abbrev Sized : Option Found → Type 0
+Sized None = Unit {0}
+Sized (Some e) = e.length ≡ 4 + tag_size e.tag
 
 found_sized : (m : Met) (d : ℕ) → Whole d → tag_delete m.tag ≡ false
-    → Sized (hit.Found (found_at m.tag m.off d))
+    → Sized (Some (found_at m.tag m.off d))
 found_sized m d w e = length_size m.tag (eqb-false (tag_size m.tag) removal_size e)
     ∙ ap (λ (n : ℕ). 4 + n) (sym (size_kept m.tag d w))
 
@@ -73,8 +70,8 @@ searched_sized b dir gdisk mask key =
     key refl refl (any_met (back b dir.off dir.etag))
 
 -- ---- an answer that is found is the search's
-behind : (test : Bool) (x : Got) (e : Found) → cond test x (got.Refused Invalid) ≡ got.Found e
-    → (test ≡ true) × (x ≡ got.Found e)
+behind : (test : Bool) (x : Result Found Refusal) (e : Found) → cond test x (Err Invalid) ≡ Ok e
+    → (test ≡ true) × (x ≡ Ok e)
 behind true x e h = (refl, h)
 behind false x e h = (cc, cc)
 
@@ -84,8 +81,8 @@ module _ (g : Geometry) (b0 b1 : List ℕ) (n0 n1 : ℕ) (dir : LfsMdir) (gdisk 
   block = block_of b0 b1 n0 dir
 
   module _ (offset : ℕ) (buffer : List ℕ) (e : Found)
-      (h : getslice_of g b0 b1 n0 n1 dir gdisk mask key offset buffer ≡ got.Found e) where
-    pub found_searched : searched block dir gdisk mask key ≡ hit.Found e
+      (h : getslice_of g b0 b1 n0 n1 dir gdisk mask key offset buffer ≡ Ok e) where
+    pub found_searched : searched block dir gdisk mask key ≡ Some e
     unfolding getslice_of
     found_searched = slice_is block offset (length buffer) (searched block dir gdisk mask key) e
         (behind (getslice_fits g b0 b1 n0 n1 dir buffer) _ e h).1
@@ -100,25 +97,25 @@ module _ (g : Geometry) (b0 b1 : List ℕ) (n0 n1 : ℕ) (dir : LfsMdir) (gdisk 
 
   -- two lookups that differ in offset and buffer only answer the same, tag, length and place
   pub found_whole : (offset offset' : ℕ) (buffer buffer' : List ℕ) (e e' : Found)
-      → getslice_of g b0 b1 n0 n1 dir gdisk mask key offset buffer ≡ got.Found e
-      → getslice_of g b0 b1 n0 n1 dir gdisk mask key offset' buffer' ≡ got.Found e' → e ≡ e'
+      → getslice_of g b0 b1 n0 n1 dir gdisk mask key offset buffer ≡ Ok e
+      → getslice_of g b0 b1 n0 n1 dir gdisk mask key offset' buffer' ≡ Ok e' → e ≡ e'
   found_whole offset offset' buffer buffer' e e' h k =
       same (sym (found_searched offset buffer e h) ∙ found_searched offset' buffer' e' k)
     where
-      same : hit.Found e ≡ hit.Found e' → e ≡ e'
+      same : Some e ≡ Some e' → e ≡ e'
       same q = cc
 
   -- a buffer that is as long as the data gets what stands at the place
   pub found_read : (buffer : List ℕ) (e : Found)
-      → getslice_of g b0 b1 n0 n1 dir gdisk mask key 0 buffer ≡ got.Found e → length buffer ≡ e.length - 4
+      → getslice_of g b0 b1 n0 n1 dir gdisk mask key 0 buffer ≡ Ok e → length buffer ≡ e.length - 4
       → getslice_buffer g b0 b1 n0 n1 dir gdisk mask key 0 buffer ≡ bytes_of block e
   unfolding getslice_of getslice_buffer
   found_read buffer e h long =
       let f = behind (getslice_fits g b0 b1 n0 n1 dir buffer) _ e h in
-      let q : searched block dir gdisk mask key ≡ hit.Found e = found_searched 0 buffer e h in
+      let q : searched block dir gdisk mask key ≡ Some e = found_searched 0 buffer e h in
       rw (f.0, q) (go (leb (slice_end e 0 (length buffer)) (length block)) (rw q at f.1))
     where
-      go : (c : Bool) → cond c (got.Found e) (got.Refused Corrupt) ≡ got.Found e
+      go : (c : Bool) → cond c (Ok e) (Err Corrupt) ≡ Ok e
           → cond c (take (min (data_size e) (length buffer)) (drop (slice_start e 0) block)
           ++ replicate (length buffer - data_size e) 0) buffer
           ≡ bytes_of block e
@@ -129,7 +126,7 @@ module _ (g : Geometry) (b0 b1 : List ℕ) (n0 n1 : ℕ) (dir : LfsMdir) (gdisk 
       go false k = cc
 
   -- `lfs_dir_get` answers what that does from 0 on, so all of this is said of its answer too
-  pub get_found : (buffer : List ℕ) (e : Found) → get_of g b0 b1 n0 n1 dir gdisk mask key buffer ≡ got.Found e
-      → getslice_of g b0 b1 n0 n1 dir gdisk mask key 0 (take (tag_size key) buffer) ≡ got.Found e
+  pub get_found : (buffer : List ℕ) (e : Found) → get_of g b0 b1 n0 n1 dir gdisk mask key buffer ≡ Ok e
+      → getslice_of g b0 b1 n0 n1 dir gdisk mask key 0 (take (tag_size key) buffer) ≡ Ok e
   unfolding get_of
   get_found buffer e h = (behind (get_fits key buffer) _ e h).1

@@ -4,9 +4,8 @@
 -- Assumes nothing.
 use Rattle.std.proofs.Math.Path.{◌≡◌, refl, ap}
 use Rattle.std.proofs.Common.{sym, ◌∙◌, take-take}
-use Rattle.std.specs.Prelude.{◌≢◌, Bool, not, ◌&&◌, get_or, ltb, eqb}
+use Rattle.std.specs.Prelude.{◌≢◌, Bool, not, ◌&&◌, get_or, ltb, eqb, Err, None, Ok, Option, Some}
 use Rattle.std.proofs.Math.Bool.{true, false, cond, and-false}
-use Rattle.std.proofs.Math.Option.{Option, none, some}
 use mathlib.Core.List.{List, [], ◌∷◌, ◌++◌, append-nil}
 use Prim.Native.Nat.{ℕ, ◌+◌, ◌*◌, ◌/◌, ◌%◌, ◌^◌, ◌≤◌, ◌<◌}
 use native.Mathlib.Omega.{arith}
@@ -38,9 +37,6 @@ use Rattle.format.specs.declared.Refusal.{Refusal}
 use Rattle.format.specs.declared.Refusal.TheVariants.{Invalid, Irregular, TableFull}
 use Rattle.format.specs.declared.Rules.{Rules}
 use Rattle.format.specs.declared.Rules.TheVariants.{Littlefs}
-use Rattle.format.specs.declared.Fetched.TheVariants as fetched
-use Rattle.format.specs.declared.Hit.{Hit}
-use Rattle.format.specs.declared.Indexed.TheVariants as indexed
 use Rattle.format.proofs.Growing.{widest}
 use Rattle.theory.specs.Walk.Step.{both_true}
 use Rattle.theory.specs.Log.Continued.{log_whole, some_long}
@@ -62,6 +58,8 @@ use Rattle.index_theory.specs.Ends.{end_is, end_some, long, log_begins, ends_the
 use Rattle.index_theory.specs.Items.{placed_count}
 use Rattle.promises.specs.PossibleLookups.{end_inside}
 use Rattle.index_theory.proofs.Extended.{placed_fit, padded_length, built_places, built_fits, extend_afresh}
+use Rattle.format.specs.declared.Found.{Found}
+use Rattle.format.specs.Record.{fetched}
 
 -- ---- what is asked
 -- "any 0x0xx asks the name, any 0x2xx the struct, 0x300 to 0x3ff that attribute"
@@ -83,7 +81,7 @@ module _ (b : List ℕ) (end : ℕ) (ends : ends_at b end ≡ true) (inside : en
   search_is mask T c id size q hs hi =
       let f : List ℕ = take end b in
       let es : List Event = log_to b end in
-      let h : Hit = wlook true mask (tag_of T id size) 0 (back f (log_end es) (log_end_tag es)) in
+      let h : Option Found = wlook true mask (tag_of T id size) 0 (back f (log_end es) (log_end_tag es)) in
       let same : back b end (log_end_tag es) ≡ back f (log_end es) (log_end_tag es) =
       back_same end b f (sym (take-take end end b (omega arith))) end (log_end_tag es) (omega arith)
       ∙ ap (λ (n : ℕ). back f n (log_end_tag es)) (sym (end_is b end ends)) in
@@ -144,10 +142,10 @@ pub record Built (g : Geometry) (b0 b1 : List ℕ) (n0 n1 : ℕ) (dir : LfsMdir)
   pub fits : index_fits g b0 b1 n0 n1 dir rules ≡ true
   pub regular : indexable (rules_of rules) (block_of b0 b1 n0 dir) dir.off ≡ true
   pub all : built n (log_to (block_of b0 b1 n0 dir) dir.off)
-      ≡ some (places_of (log_to (block_of b0 b1 n0 dir) dir.off))
+      ≡ Some (places_of (log_to (block_of b0 b1 n0 dir) dir.off))
 
 module _ (g : Geometry) (b0 b1 : List ℕ) (n0 n1 : ℕ) (dir : LfsMdir) (rules : ℕ) (table : List ℕ) where
-  pub places_built : (k : ℕ) → index_of g b0 b1 n0 n1 dir rules table ≡ indexed.Places k
+  pub places_built : (k : ℕ) → index_of g b0 b1 n0 n1 dir rules table ≡ Ok k
       → Built g b0 b1 n0 n1 dir rules (length table)
   unfolding index_of
   places_built k h =
@@ -156,14 +154,14 @@ module _ (g : Geometry) (b0 b1 : List ℕ) (n0 n1 : ℕ) (dir : LfsMdir) (rules 
       let q = cond_else (indexable (rules_of rules) b dir.off) _ _ _ p.1 (λ e. other e) in
       record { fits = p.0; regular = q.0; all = go (built (length table) (log_to b dir.off)) refl q.1 }
     where
-      other : {r : Refusal} → indexed.Refused r ≢ indexed.Places k
+      other : {r : Refusal} → Err r ≢ Ok k
       other e = absurd (let z : ◌≡◌ {A = ℕ} 0 1 = cc in omega arith)
 
       go : (v : Option (List ℕ)) → built (length table) (log_to (block_of b0 b1 n0 dir) dir.off) ≡ v
-          → indexed_as v ≡ indexed.Places k → built (length table) (log_to (block_of b0 b1 n0 dir) dir.off)
-          ≡ some (places_of (log_to (block_of b0 b1 n0 dir) dir.off))
-      go none e h = absurd (let z : ◌≡◌ {A = ℕ} 0 1 = cc in omega arith)
-      go (some P) e h = e ∙ ap some (built_places (length table) (log_to (block_of b0 b1 n0 dir) dir.off) P e)
+          → indexed_as v ≡ Ok k → built (length table) (log_to (block_of b0 b1 n0 dir) dir.off)
+          ≡ Some (places_of (log_to (block_of b0 b1 n0 dir) dir.off))
+      go None e h = absurd (let z : ◌≡◌ {A = ℕ} 0 1 = cc in omega arith)
+      go (Some P) e h = e ∙ ap Some (built_places (length table) (log_to (block_of b0 b1 n0 dir) dir.off) P e)
 
   table_built : Built g b0 b1 n0 n1 dir rules (length table) → index_table g b0 b1 n0 n1 dir rules table
       ≡ padded (length table) (places_of (log_to (block_of b0 b1 n0 dir) dir.off))
@@ -174,7 +172,7 @@ module _ (g : Geometry) (b0 b1 : List ℕ) (n0 n1 : ℕ) (dir : LfsMdir) (rules 
 -- number of slots, and every type, buffer and size in the key: answer and buffer are those of `lfs_dir_getslice`.
 pub index_answers : (g : Geometry) (b0 b1 : List ℕ) (n0 n1 : ℕ) (dir : LfsMdir) (rules : ℕ) (table : List ℕ) (k : ℕ)
     (gdisk : LfsGstate) (type id size : ℕ) (buffer : List ℕ)
-    → index_of g b0 b1 n0 n1 dir rules table ≡ indexed.Places k
+    → index_of g b0 b1 n0 n1 dir rules table ≡ Ok k
     → dir.etag ≡ log_end_tag (log_to (block_of b0 b1 n0 dir) dir.off) → gstate_has_move_here gdisk dir.pair ≡ false
     → askable type id ≡ true → id < length (dir_of (log_to (block_of b0 b1 n0 dir) dir.off)) → size < 2 ^ 10
     → (index_get_of g b0 b1 n0 n1 dir (index_table g b0 b1 n0 n1 dir rules table) type id buffer
@@ -199,7 +197,7 @@ index_answers g b0 b1 n0 n1 dir rules table k gdisk type id size buffer accepted
 
 -- No build has more places than 1,023 slots of 258 classes.
 pub index_few : (g : Geometry) (b0 b1 : List ℕ) (n0 n1 : ℕ) (dir : LfsMdir) (rules : ℕ) (table : List ℕ) (k : ℕ)
-    → index_of g b0 b1 n0 n1 dir rules table ≡ indexed.Places k → k ≤ 263_934
+    → index_of g b0 b1 n0 n1 dir rules table ≡ Ok k → k ≤ 263_934
 unfolding index_of
 index_few g b0 b1 n0 n1 dir rules table k accepted =
     let b : List ℕ = block_of b0 b1 n0 dir in
@@ -207,14 +205,14 @@ index_few g b0 b1 n0 n1 dir rules table k accepted =
     let u = places_built g b0 b1 n0 n1 dir rules table k accepted in
     let wide = widest (rules_of rules) (log_to b dir.off)
     (both_true (ends_at b dir.off) (Regular (rules_of rules) (log_to b dir.off)) u.regular).1 in
-    let e : indexed.Places (length (places_of (log_to b dir.off)) / 2) ≡ indexed.Places k =
+    let e : Ok (length (places_of (log_to b dir.off)) / 2) ≡ Ok k =
     rw (u.fits, u.regular, u.all) at accepted in
     let q : length (places_of (log_to b dir.off)) / 2 ≡ k = cc in
     omega (arith, q, dir_few 0 (placed_dir f wide), placed_few f wide)
 
 -- A table of half as many words as a block has bytes is never too small.
 pub index_enough : (g : Geometry) (b0 b1 : List ℕ) (n0 n1 : ℕ) (dir : LfsMdir) (rules : ℕ) (table : List ℕ)
-    → g.block_size / 2 ≤ length table → index_of g b0 b1 n0 n1 dir rules table ≢ indexed.Refused TableFull
+    → g.block_size / 2 ≤ length table → index_of g b0 b1 n0 n1 dir rules table ≢ Err TableFull
 unfolding index_of record_fits
 index_enough g b0 b1 n0 n1 dir rules table long =
     go (index_fits g b0 b1 n0 n1 dir rules) refl (indexable (rules_of rules) b end) refl
@@ -225,13 +223,13 @@ index_enough g b0 b1 n0 n1 dir rules table long =
     end : ℕ
     end = dir.off
 
-    kept : (v : Option (List ℕ)) → v ≢ none → indexed_as v ≢ indexed.Refused TableFull
-    kept none k = λ e. k refl
-    kept (some P) k = λ e. absurd (let z : ◌≡◌ {A = ℕ} 0 1 = cc in omega arith)
+    kept : (v : Option (List ℕ)) → v ≢ None → indexed_as v ≢ Err TableFull
+    kept None k = λ e. k refl
+    kept (Some P) k = λ e. absurd (let z : ◌≡◌ {A = ℕ} 0 1 = cc in omega arith)
 
     go : (x : Bool) → index_fits g b0 b1 n0 n1 dir rules ≡ x → (y : Bool) → indexable (rules_of rules) b end ≡ y
-        → cond (not x) (indexed.Refused Invalid) (cond (not y) (indexed.Refused Irregular)
-        (indexed_as (built (length table) (log_to b end)))) ≢ indexed.Refused TableFull
+        → cond (not x) (Err Invalid) (cond (not y) (Err Irregular)
+        (indexed_as (built (length table) (log_to b end)))) ≢ Err TableFull
     go false f y r = λ e. absurd (let z : ◌≡◌ {A = ℕ} 0 1 = cc in omega arith)
     go true f false r = λ e. absurd (let z : ◌≡◌ {A = ℕ} 0 1 = cc in omega arith)
     go true f true r =
@@ -246,7 +244,7 @@ index_enough g b0 b1 n0 n1 dir rules table long =
 -- the log up to it is the block's, the end tag is the log's, and the count is the number of its slots. So a build with
 -- room enough is accepted.
 pub index_fetched : (g : Geometry) (b0 b1 : List ℕ) (n0 n1 count seed rules : ℕ) (dir : LfsMdir) (read : ℕ)
-    → fetch_of g b0 b1 n0 n1 count seed ≡ fetched.Found dir read
+    → fetch_of g b0 b1 n0 n1 count seed ≡ Ok (fetched dir read)
     → Regular (rules_of rules) (log (block_of b0 b1 n0 dir)) ≡ true
     → (record_fits g (length b0) (length b1) n0 n1 dir ≡ true)
     × (indexable (rules_of rules) (block_of b0 b1 n0 dir) dir.off ≡ true)
@@ -288,7 +286,7 @@ table_at g b0 b1 n0 n1 dir rules table p q = rw (p, q)
 -- ---- extending is building afresh: the table of the old record, made by a build, and a later record of the same block
 -- whose log is regular. Answer and table are those of a build for the later record; so is -221.
 pub index_extends : (g : Geometry) (b0 b1 : List ℕ) (n0 n1 : ℕ) (old dir : LfsMdir) (rules : ℕ) (table : List ℕ) (k : ℕ)
-    → index_of g b0 b1 n0 n1 old rules table ≡ indexed.Places k → old.pair.n0 ≡ dir.pair.n0 → old.off ≤ dir.off
+    → index_of g b0 b1 n0 n1 old rules table ≡ Ok k → old.pair.n0 ≡ dir.pair.n0 → old.off ≤ dir.off
     → index_fits g b0 b1 n0 n1 dir rules ≡ true
     → indexable (rules_of rules) (block_of b0 b1 n0 dir) dir.off ≡ true
     → (extend_of g b0 b1 n0 n1 old dir rules (index_table g b0 b1 n0 n1 old rules table)
@@ -307,7 +305,7 @@ index_extends g b0 b1 n0 n1 old dir rules table k accepted one later fits regula
     let h = both_true (record_fits g (length b0) (length b1) n0 n1 dir) (rules_fit rules) fits in
     let inside = end_inside g b0 b1 n0 n1 dir h.0 in
     let P : List ℕ = places_of (log_to b old.off) in
-    let all : built n (log_to b old.off) ≡ some P = rw same at u.all in
+    let all : built n (log_to b old.off) ≡ Some P = rw same at u.all in
     let t : index_table g b0 b1 n0 n1 old rules table ≡ padded n P =
     table_built g b0 b1 n0 n1 old rules table u ∙ ap (λ (x : List ℕ). padded n (places_of (log_to x old.off))) same in
     let len : length (padded n P) ≡ n =

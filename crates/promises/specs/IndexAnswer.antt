@@ -4,10 +4,9 @@
 -- nothing.
 use Rattle.std.proofs.Math.Path.{◌≡◌, refl, sym, ap}
 use Rattle.std.proofs.Common.{◌∙◌, inr, arith}
-use Rattle.std.specs.Prelude.{◌⊎◌, Bool, not, length, replicate, ℤ, eqb, ltb}
+use Rattle.std.specs.Prelude.{◌⊎◌, Bool, not, length, replicate, ℤ, eqb, ltb, Err, None, Ok, Option, Result, Some}
 use Rattle.std.proofs.Math.Logic.{inl}
 use Rattle.std.proofs.Math.Bool.{true, false, cond}
-use Rattle.std.proofs.Math.Option.{Option, none, some}
 use mathlib.Core.List.{List}
 use Prim.Native.Nat.{ℕ, ◌≤◌, min}
 use Rattle.format.specs.Word.{le32, to_le32, plus32, all_ones}
@@ -23,7 +22,7 @@ use Rattle.format.specs.Compaction.{CompactVerdict, compact_refused, compact_acc
 use Rattle.format.specs.Compaction.{compaction_items, compactable, compact_fetched, compact_verdict, compact_images}
 use Rattle.format.specs.Compaction.{compact_answer, compact_of}
 use Rattle.format.specs.Stopped.{Bytes}
-use Rattle.format.specs.Answer.{indexed_result, indexed_places}
+use Rattle.format.specs.Answer.{result_number, indexed_places, refusal_number}
 use Rattle.format.specs.Index.{log_to, index_fits, indexable, extend_fits, extendable, built, extended, indexed_as, table_as}
 use Rattle.format.specs.Index.{index_of, index_table, extend_of, extend_table, index_hit, index_get_of}
 use Rattle.format.specs.Index.{index_get_buffer, table_renewed, table_fetched, compact_table}
@@ -32,19 +31,15 @@ use Rattle.format.specs.declared.LfsMdir.{LfsMdir}
 use Rattle.format.specs.declared.Refusal.{Refusal}
 use Rattle.format.specs.declared.Rules.{Rules}
 use Rattle.format.specs.declared.Refusal.TheVariants.{Invalid, Irregular, NoSpace, Coincidence, TableFull}
-use Rattle.format.specs.declared.Fetched.{Fetched}
-use Rattle.format.specs.declared.Fetched.TheVariants as fetched
-use Rattle.format.specs.declared.Committed.TheVariants as committed
-use Rattle.format.specs.declared.Got.TheVariants as got
-use Rattle.format.specs.declared.Indexed.{Indexed}
-use Rattle.format.specs.declared.Indexed.TheVariants as indexed
 use Rattle.promises.specs.Refused.{slice_refused}
 use Rattle.promises.specs.Decided.{Decides, decided}
-use Rattle.promises.specs.Possible.{SliceRefuses, slice22, GotOr, through}
+use Rattle.promises.specs.Possible.{SliceRefuses, slice22, AnswerOr, through}
 use Rattle.promises.specs.PossibleLookups.{slice_possible}
 use Rattle.promises.specs.Numbers.{below}
 use Rattle.promises.specs.Stopped.{compact_done}
 use Rattle.promises.specs.Index.{index_few}
+use Rattle.format.specs.declared.Fetched.{Fetched}
+use Rattle.format.specs.Record.{fetched}
 
 -- ---- "-22", "-202", "then -221"
 pub data IndexRefuses : Refusal → Type 0 where
@@ -52,43 +47,39 @@ pub data IndexRefuses : Refusal → Type 0 where
   index202 : IndexRefuses Irregular
   index221 : IndexRefuses TableFull
 
-abbrev pub IndexedOr : (Refusal → Type 0) → Indexed → Type 0
-IndexedOr R (indexed.Places n) = Unit {0}
-IndexedOr R (indexed.Refused r) = R r
-
-as_possible : (v : Option (List ℕ)) → IndexedOr IndexRefuses (indexed_as v)
-as_possible none = index221
-as_possible (some P) = tt
+as_possible : (v : Option (List ℕ)) → AnswerOr IndexRefuses (indexed_as v)
+as_possible None = index221
+as_possible (Some P) = tt
 
 -- ---- what a refusal leaves: -221 zeros, and every other the table as it was
 abbrev pub Left : List ℕ → Refusal → List ℕ → Type 0
 Left table r new = ((r ≡ TableFull) × (new ≡ replicate (length table) 0)) ⊎ (new ≡ table)
 
 left_by : (x y : Bool) (v : Option (List ℕ)) (table : List ℕ) (r : Refusal)
-    → cond (not x) (indexed.Refused Invalid) (cond (not y) (indexed.Refused Irregular) (indexed_as v))
-    ≡ indexed.Refused r
+    → cond (not x) (Err Invalid) (cond (not y) (Err Irregular) (indexed_as v))
+    ≡ Err r
     → Left table r (cond (not x) table (cond (not y) table (table_as (length table) v)))
 left_by false y v table r h = inr refl
 left_by true false v table r h = inr refl
-left_by true true none table r h = inl (cc, refl)
-left_by true true (some P) table r h = absurd (let z : ◌≡◌ {A = ℕ} 0 1 = cc in omega arith)
+left_by true true None table r h = inl (cc, refl)
+left_by true true (Some P) table r h = absurd (let z : ◌≡◌ {A = ℕ} 0 1 = cc in omega arith)
 
 -- ---- the answer back from what C gets
-abbrev pub indexed_from : ℤ → ℕ → Indexed
+abbrev pub indexed_from : ℤ → ℕ → Result ℕ Refusal
 indexed_from number places =
-    cond (eqb (below number) 0) (indexed.Places places)
-    (cond (eqb (below number) 22) (indexed.Refused Invalid)
-    (cond (eqb (below number) 202) (indexed.Refused Irregular) (indexed.Refused TableFull)))
+    cond (eqb (below number) 0) (Ok places)
+    (cond (eqb (below number) 22) (Err Invalid)
+    (cond (eqb (below number) 202) (Err Irregular) (Err TableFull)))
 
 -- of fewer places than C can count
-told_back : (f : Indexed) → IndexedOr IndexRefuses f → ((n : ℕ) → f ≡ indexed.Places n → n ≤ all_ones)
-    → indexed_from (indexed_result f) (indexed_places f) ≡ f
-told_back (indexed.Places n) h few =
+told_back : (f : Result ℕ Refusal) → AnswerOr IndexRefuses f → ((n : ℕ) → f ≡ Ok n → n ≤ all_ones)
+    → indexed_from (result_number f) (indexed_places f) ≡ f
+told_back (Ok n) h few =
     let e : min n all_ones ≡ n = omega (arith, few n refl) in
-    ap indexed.Places e
-told_back (indexed.Refused r) h few = go h
+    ap Ok e
+told_back (Err r) h few = go h
   where
-    go : {r : Refusal} → IndexRefuses r → indexed_from (indexed_result (indexed.Refused r)) 0 ≡ indexed.Refused r
+    go : {r : Refusal} → IndexRefuses r → indexed_from (refusal_number r) 0 ≡ Err r
     go index22 = refl
     go index202 = refl
     go index221 = refl
@@ -101,15 +92,15 @@ module _ (g : Geometry) (b0 b1 : List ℕ) (n0 n1 : ℕ) (dir : LfsMdir) (rules 
   pub index_table_decided : Decides (index_table g b0 b1 n0 n1 dir rules table)
   index_table_decided = decided (index_table g b0 b1 n0 n1 dir rules table)
 
-  pub index_possible : IndexedOr IndexRefuses (index_of g b0 b1 n0 n1 dir rules table)
+  pub index_possible : AnswerOr IndexRefuses (index_of g b0 b1 n0 n1 dir rules table)
   unfolding index_of
   index_possible =
       let b : List ℕ = block_of b0 b1 n0 dir in
-      through (IndexedOr IndexRefuses) (not (index_fits g b0 b1 n0 n1 dir rules)) index22
-      (through (IndexedOr IndexRefuses) (not (indexable (rules_of rules) b dir.off)) index202
+      through (AnswerOr IndexRefuses) (not (index_fits g b0 b1 n0 n1 dir rules)) index22
+      (through (AnswerOr IndexRefuses) (not (indexable (rules_of rules) b dir.off)) index202
       (as_possible (built (length table) (log_to b dir.off))))
 
-  pub index_left : (r : Refusal) → index_of g b0 b1 n0 n1 dir rules table ≡ indexed.Refused r
+  pub index_left : (r : Refusal) → index_of g b0 b1 n0 n1 dir rules table ≡ Err r
       → Left table r (index_table g b0 b1 n0 n1 dir rules table)
   unfolding index_of index_table
   index_left r h =
@@ -117,7 +108,7 @@ module _ (g : Geometry) (b0 b1 : List ℕ) (n0 n1 : ℕ) (dir : LfsMdir) (rules 
       left_by (index_fits g b0 b1 n0 n1 dir rules) (indexable (rules_of rules) b dir.off)
       (built (length table) (log_to b dir.off)) table r h
 
-  pub index_told : indexed_from (indexed_result (index_of g b0 b1 n0 n1 dir rules table))
+  pub index_told : indexed_from (result_number (index_of g b0 b1 n0 n1 dir rules table))
       (indexed_places (index_of g b0 b1 n0 n1 dir rules table)) ≡ index_of g b0 b1 n0 n1 dir rules table
   index_told = told_back (index_of g b0 b1 n0 n1 dir rules table) index_possible
       (λ n h. omega (arith, index_few g b0 b1 n0 n1 dir rules table n h))
@@ -129,15 +120,15 @@ module _ (g : Geometry) (b0 b1 : List ℕ) (n0 n1 : ℕ) (dir : LfsMdir) (rules 
     pub extend_table_decided : Decides (extend_table g b0 b1 n0 n1 old dir rules table)
     extend_table_decided = decided (extend_table g b0 b1 n0 n1 old dir rules table)
 
-    pub extend_possible : IndexedOr IndexRefuses (extend_of g b0 b1 n0 n1 old dir rules table)
+    pub extend_possible : AnswerOr IndexRefuses (extend_of g b0 b1 n0 n1 old dir rules table)
     unfolding extend_of
     extend_possible =
         let b : List ℕ = block_of b0 b1 n0 dir in
-        through (IndexedOr IndexRefuses) (not (extend_fits g b0 b1 n0 n1 old dir rules)) index22
-        (through (IndexedOr IndexRefuses) (not (extendable (rules_of rules) b old.off dir.off)) index202
+        through (AnswerOr IndexRefuses) (not (extend_fits g b0 b1 n0 n1 old dir rules)) index22
+        (through (AnswerOr IndexRefuses) (not (extendable (rules_of rules) b old.off dir.off)) index202
         (as_possible (extended table b old.off dir.off)))
 
-    pub extend_left : (r : Refusal) → extend_of g b0 b1 n0 n1 old dir rules table ≡ indexed.Refused r
+    pub extend_left : (r : Refusal) → extend_of g b0 b1 n0 n1 old dir rules table ≡ Err r
         → Left table r (extend_table g b0 b1 n0 n1 old dir rules table)
     unfolding extend_of extend_table
     extend_left r h =
@@ -146,8 +137,8 @@ module _ (g : Geometry) (b0 b1 : List ℕ) (n0 n1 : ℕ) (dir : LfsMdir) (rules 
         (extended table b old.off dir.off) table r h
 
     -- of a table with fewer places than C can count
-    pub extend_told : ((n : ℕ) → extend_of g b0 b1 n0 n1 old dir rules table ≡ indexed.Places n → n ≤ all_ones)
-        → indexed_from (indexed_result (extend_of g b0 b1 n0 n1 old dir rules table))
+    pub extend_told : ((n : ℕ) → extend_of g b0 b1 n0 n1 old dir rules table ≡ Ok n → n ≤ all_ones)
+        → indexed_from (result_number (extend_of g b0 b1 n0 n1 old dir rules table))
         (indexed_places (extend_of g b0 b1 n0 n1 old dir rules table)) ≡ extend_of g b0 b1 n0 n1 old dir rules table
     extend_told few = told_back (extend_of g b0 b1 n0 n1 old dir rules table) extend_possible few
 
@@ -160,19 +151,19 @@ module _ (g : Geometry) (b0 b1 : List ℕ) (n0 n1 : ℕ) (dir : LfsMdir) (table 
     pub index_buffer_decided : Decides (index_get_buffer g b0 b1 n0 n1 dir table type id buffer)
     index_buffer_decided = decided (index_get_buffer g b0 b1 n0 n1 dir table type id buffer)
 
-    pub index_get_possible : GotOr SliceRefuses (index_get_of g b0 b1 n0 n1 dir table type id buffer)
+    pub index_get_possible : AnswerOr SliceRefuses (index_get_of g b0 b1 n0 n1 dir table type id buffer)
     unfolding index_get_of
     index_get_possible =
-        through (GotOr SliceRefuses) (getslice_fits g b0 b1 n0 n1 dir buffer)
+        through (AnswerOr SliceRefuses) (getslice_fits g b0 b1 n0 n1 dir buffer)
         (slice_possible (block_of b0 b1 n0 dir) 0 (length buffer) (index_hit table type id)) slice22
 
-    pub index_get_refused : (r : Refusal) → index_get_of g b0 b1 n0 n1 dir table type id buffer ≡ got.Refused r
+    pub index_get_refused : (r : Refusal) → index_get_of g b0 b1 n0 n1 dir table type id buffer ≡ Err r
         → index_get_buffer g b0 b1 n0 n1 dir table type id buffer ≡ buffer
     unfolding index_get_of index_get_buffer
     index_get_refused r h = go (getslice_fits g b0 b1 n0 n1 dir buffer) h
       where
         go : (x : Bool) → cond x (slice_answer (block_of b0 b1 n0 dir) 0 (length buffer) (index_hit table type id))
-            (got.Refused Invalid) ≡ got.Refused r
+            (Err Invalid) ≡ Err r
             → cond x (slice_buffer (block_of b0 b1 n0 dir) 0 buffer (index_hit table type id)) buffer ≡ buffer
         go true h = slice_refused (block_of b0 b1 n0 dir) 0 buffer (index_hit table type id) r h
         go false h = refl
@@ -219,25 +210,25 @@ module _ (g : Geometry) (b0 b1 : List ℕ) (n0 n1 count seed rules e : ℕ) (tab
   unfolding compact_verdict compact_table
   verdict_left h = go (writes_fit rules e) (fetch_of g b0 b1 n0 n1 count seed) h
     where
-      go : (x : Bool) (f : Fetched) → cond (not x) (compact_refused Invalid)
+      go : (x : Bool) (f : Result Fetched Refusal) → cond (not x) (compact_refused Invalid)
           (compact_fetched (rules_of rules) e g.prog_size b0 b1 n0 f) ≡ compact_refused r
           → (cond (not x) table (table_fetched (rules_of rules) b0 b1 n0 table f) ≡ table) ⊎ Used r
       go false f h = inl refl
-      go true (fetched.Refused q) h = inl refl
-      go true (fetched.Found m s) h =
-          regular_used (rules_of rules) e g.prog_size (is_second n0 m) (block_at (is_second n0 m) b0 b1) table r h
+      go true (Err q) h = inl refl
+      go true (Ok f) h =
+          regular_used (rules_of rules) e g.prog_size (is_second n0 f.dir) (block_at (is_second n0 f.dir) b0 b1) table r h
 
-  pub compact_table_left : Bytes b0 → Bytes b1 → compact_of g b0 b1 n0 n1 count seed rules e ≡ committed.Refused r
+  pub compact_table_left : Bytes b0 → Bytes b1 → compact_of g b0 b1 n0 n1 count seed rules e ≡ Err r
       → (compact_table g b0 b1 n0 n1 count seed rules e table ≡ table) ⊎ Used r
   unfolding compact_of
   compact_table_left y0 y1 h = go (compact_verdict g b0 b1 n0 n1 count seed rules e) refl h
     where
       go : (v : CompactVerdict) → compact_verdict g b0 b1 n0 n1 count seed rules e ≡ v
           → compact_answer (fetch_of g (compact_images g b0 b1 n0 n1 count seed rules e unlimited).b0
-          (compact_images g b0 b1 n0 n1 count seed rules e unlimited).b1 n0 n1 count seed) v ≡ committed.Refused r
+          (compact_images g b0 b1 n0 n1 count seed rules e unlimited).b1 n0 n1 count seed) v ≡ Err r
           → (compact_table g b0 b1 n0 n1 count seed rules e table ≡ table) ⊎ Used r
       go (compact_refused q) a k = let same : q ≡ r = cc in verdict_left (a ∙ ap compact_refused same)
       go (compact_accepted w rev is size) a k =
           let d = compact_done g b0 b1 n0 n1 count seed rules e y0 y1 w rev is size a in
-          let z : committed.Refused r ≡ committed.Done d.0 d.1 = sym h ∙ d.2 in
+          let z : Err r ≡ Ok (fetched d.0 d.1) = sym h ∙ d.2 in
           absurd (let y : ◌≡◌ {A = ℕ} 0 1 = cc in omega arith)

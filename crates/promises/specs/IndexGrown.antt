@@ -1,7 +1,7 @@
 -- Document 02, L8: "A log that grows by one commit shall be able to extend the table, with the same table as building
 -- afresh." A build reads what stands before the record's end, which a commit leaves as it is; so the table from before
 -- a commit, extended to what fetch gives behind it, is the one that is built there. Assumes nothing.
-use Rattle.std.specs.Prelude.{◌≡◌, refl, ◌⊎◌, Bool, true, not, ◌&&◌, ◌||◌, length, take, leb}
+use Rattle.std.specs.Prelude.{◌≡◌, refl, ◌⊎◌, Bool, true, not, ◌&&◌, ◌||◌, length, take, leb, Ok, Result}
 use Rattle.std.proofs.Common.{sym, ◌∙◌, inl, inr, arith, take-take}
 use Rattle.std.proofs.Math.Path.{ap}
 use mathlib.Core.List.{List}
@@ -20,9 +20,6 @@ use Rattle.format.specs.declared.Geometry.{Geometry}
 use Rattle.format.specs.declared.LfsMdir.{LfsMdir}
 use Rattle.format.specs.declared.LfsPair.{LfsPair}
 use Rattle.format.specs.declared.Entry.{Entry}
-use Rattle.format.specs.declared.Fetched.{Fetched}
-use Rattle.format.specs.declared.Fetched.TheVariants as fetched
-use Rattle.format.specs.declared.Indexed.TheVariants as indexed
 use Rattle.theory.specs.Walk.Step.{both_true}
 use Rattle.theory.specs.Fetch.FoundRecord.{few_found, past_test}
 use Rattle.theory.specs.Fetch.FoundBlock.{found_sized}
@@ -31,6 +28,10 @@ use Rattle.theory.proofs.Stopped.Refetch.{commit_front}
 use Rattle.promises.specs.Refetch.{refetch_behind_commit}
 use Rattle.promises.specs.Stopped.{commit_stopped}
 use Rattle.promises.specs.Index.{places_built, index_fetched, index_extends}
+use Rattle.format.specs.declared.Fetched.{Fetched}
+use Rattle.format.specs.declared.Refusal.{Refusal}
+use Rattle.format.specs.Record.{fetched}
+use Rattle.format.specs.Answer.{answer_mdir}
 
 -- A build reads of both images their lengths, and of the record's block what stands before its end.
 pub index_same : (g : Geometry) (a0 a1 b0 b1 : List ℕ) (n0 n1 : ℕ) (dir : LfsMdir) (rules : ℕ) (table : List ℕ)
@@ -42,13 +43,13 @@ unfolding index_of index_table
 index_same g a0 a1 b0 b1 n0 n1 dir rules table l0 l1 same = rw (l0, l1, same) (refl, refl)
 
 -- two answers of one fetch
-one_record : {f : Fetched} (m k : LfsMdir) (s t : ℕ) → f ≡ fetched.Found m s → f ≡ fetched.Found k t → m ≡ k
-one_record m k s t h q = let e : fetched.Found m s ≡ fetched.Found k t = sym h ∙ q in cc
+one_record : {f : Result Fetched Refusal} (m k : LfsMdir) (s t : ℕ) → f ≡ Ok (fetched m s) → f ≡ Ok (fetched k t) → m ≡ k
+one_record m k s t h q = ap answer_mdir (sym h ∙ q)
 
 module _ (g : Geometry) (b0 b1 : List ℕ) (n0 n1 count seed rules e : ℕ) (entries : List Entry) (dat : List ℕ) (n : ℕ)
     (second : Bool) (is : List Item) (size : ℕ)
     (accepts : verdict_of g b0 b1 n0 n1 count seed rules e entries dat ≡ accepted second is size)
-    (old dir : LfsMdir) (s t : ℕ) (before : fetch_of g b0 b1 n0 n1 count seed ≡ fetched.Found old s) where
+    (old dir : LfsMdir) (s t : ℕ) (before : fetch_of g b0 b1 n0 n1 count seed ≡ Ok (fetched old s)) where
   abbrev i : Images
   i = commit_images g b0 b1 n0 n1 count seed rules e entries dat n
 
@@ -61,7 +62,7 @@ module _ (g : Geometry) (b0 b1 : List ℕ) (n0 n1 count seed rules e : ℕ) (ent
       accepts)
       ∙ take-take old.off k (block_of b0 b1 n0 old) (omega arith)
 
-  module _ (behind : fetch_of g i.b0 i.b1 n0 n1 count seed ≡ fetched.Found dir t) where
+  module _ (behind : fetch_of g i.b0 i.b1 n0 n1 count seed ≡ Ok (fetched dir t)) where
     -- the new record goes on from the old one
     goes_on : (old.pair ≡ dir.pair) × (old.off ≤ dir.off)
     unfolding refetch_of mdir_behind
@@ -78,7 +79,7 @@ module _ (g : Geometry) (b0 b1 : List ℕ) (n0 n1 count seed rules e : ℕ) (ent
     Fit = (record_fits g (length i.b0) (length i.b1) n0 n1 dir ≡ true)
         × (indexable (rules_of rules) (block_of i.b0 i.b1 n0 dir) dir.off ≡ true)
 
-    module _ (table : List ℕ) (k : ℕ) (made : index_of g b0 b1 n0 n1 old rules table ≡ indexed.Places k) where
+    module _ (table : List ℕ) (k : ℕ) (made : index_of g b0 b1 n0 n1 old rules table ≡ Ok k) where
       -- stopped early, the pair reads as before, and the record ends where the old one did
       as_before : ReadsAs g n0 n1 b0 b1 i.b0 i.b1 → Fit
       unfolding record_fits
@@ -110,7 +111,7 @@ module _ (g : Geometry) (b0 b1 : List ℕ) (n0 n1 count seed rules e : ℕ) (ent
           go (inr r) there = as_before r
           go (inl all) there =
               let low = (found_tested g b0 b1 n0 n1 count seed old s before).low in
-              let q : fetch_of g i.b0 i.b1 n0 n1 count seed ≡ fetched.Found there.dir (there.read seed) =
+              let q : fetch_of g i.b0 i.b1 n0 n1 count seed ≡ Ok (fetched there.dir (there.read seed)) =
               rw (all.0, all.1) (there.fetched count seed low) in
               let m : there.dir ≡ dir = one_record there.dir dir (there.read seed) t q behind in
               let r = index_fetched g i.b0 i.b1 n0 n1 count seed rules dir t behind
@@ -138,10 +139,10 @@ pub index_behind_commit : (g : Geometry) (b0 b1 : List ℕ) (n0 n1 count seed ru
     (dat : List ℕ) (n : ℕ) (second : Bool) (is : List Item) (size : ℕ) (old dir : LfsMdir) (s t : ℕ)
     (table : List ℕ) (k : ℕ)
     → verdict_of g b0 b1 n0 n1 count seed rules e entries dat ≡ accepted second is size
-    → fetch_of g b0 b1 n0 n1 count seed ≡ fetched.Found old s
-    → index_of g b0 b1 n0 n1 old rules table ≡ indexed.Places k
+    → fetch_of g b0 b1 n0 n1 count seed ≡ Ok (fetched old s)
+    → index_of g b0 b1 n0 n1 old rules table ≡ Ok k
     → (let i : Images = commit_images g b0 b1 n0 n1 count seed rules e entries dat n in
-    fetch_of g i.b0 i.b1 n0 n1 count seed ≡ fetched.Found dir t
+    fetch_of g i.b0 i.b1 n0 n1 count seed ≡ Ok (fetched dir t)
     → (extend_of g i.b0 i.b1 n0 n1 old dir rules (index_table g b0 b1 n0 n1 old rules table)
     ≡ index_of g i.b0 i.b1 n0 n1 dir rules table)
     × (extend_table g i.b0 i.b1 n0 n1 old dir rules (index_table g b0 b1 n0 n1 old rules table)

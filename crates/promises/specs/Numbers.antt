@@ -2,7 +2,7 @@
 -- from document 01's number and the values that come with it (format/specs/Answer.antt), whatever refusal the call can
 -- give (Possible). So two answers of a call with equal number and values are equal. One exception: -2 from a call with
 -- a limit of stores comes without the record and the seed. Assumes nothing.
-use Rattle.std.specs.Prelude.{◌≡◌, refl, ◌≢◌, cond, List, ℕ, suc, eqb, ℤ, pos, negsuc, neg_ℤ}
+use Rattle.std.specs.Prelude.{◌≡◌, refl, ◌≢◌, cond, List, ℕ, suc, eqb, ℤ, pos, negsuc, neg_ℤ, Err, Ok, Result}
 use Rattle.std.proofs.Common.{ap}
 use Rattle.format.specs.Arith.{align_down, align_up}
 use Rattle.format.specs.Bytes.{le32_at, be32_at, put_answer}
@@ -10,10 +10,8 @@ use Rattle.format.specs.Fetch.{fetch_of}
 use Rattle.format.specs.Lookup.{getslice_of, get_of, getinfo_of, getgstate_of}
 use Rattle.format.specs.Writer.{commit_of, commit_stores_of}
 use Rattle.format.specs.Compaction.{compact_of, compact_stores_of}
-use Rattle.format.specs.Answer.{zero_mdir, refusal_number, refusal_mdir, refusal_seed, refusal_index, word_result, word_value}
-use Rattle.format.specs.Answer.{altered_result, fetched_result, fetched_mdir, fetched_seed, got_result, none_found, got_found}
-use Rattle.format.specs.Answer.{committed_result, committed_mdir, committed_seed, committed_index}
-use Rattle.format.specs.Answer.{stored_result, stored_made, stored_index}
+use Rattle.format.specs.Answer.{zero_mdir, refusal_number, refusal_mdir, refusal_seed, refusal_index, result_number}
+use Rattle.format.specs.Answer.{answer_value, answer_mdir, answer_seed, answer_index, answer_info, none_found, got_found}
 use Rattle.format.specs.declared.Geometry.{Geometry}
 use Rattle.format.specs.declared.Entry.{Entry}
 use Rattle.format.specs.declared.LfsMdir.{LfsMdir}
@@ -23,31 +21,21 @@ use Rattle.format.specs.declared.Refusal.TheVariants.{Invalid, Corrupt, NoEntry,
 use Rattle.format.specs.declared.Refusal.TheVariants.{BadEntry, Irregular, NoSpace, Misaligned, WrongValidity}
 use Rattle.format.specs.declared.Refusal.TheVariants.{NotErased}
 use Rattle.format.specs.declared.Refusal.TheVariants.{Coincidence, TableFull, Spent, TooDeep}
-use Rattle.format.specs.declared.Fetched.{Fetched}
-use Rattle.format.specs.declared.Fetched.TheVariants as fetched
 use Rattle.format.specs.declared.Found.{Found}
-use Rattle.format.specs.declared.Got.{Got}
-use Rattle.format.specs.declared.Got.TheVariants as got
-use Rattle.format.specs.declared.Altered.{Altered}
-use Rattle.format.specs.declared.Altered.TheVariants as altered
-use Rattle.format.specs.declared.Word.{Word}
-use Rattle.format.specs.declared.Word.TheVariants as word
-use Rattle.format.specs.declared.Informed.{Informed}
-use Rattle.format.specs.declared.Committed.{Committed}
-use Rattle.format.specs.declared.Committed.TheVariants as committed
-use Rattle.format.specs.declared.Stored.{Stored}
-use Rattle.format.specs.declared.Stored.TheVariants as stored
 use Rattle.promises.specs.Possible.{FetchRefuses, fetch22, fetch84, fetch2, SliceRefuses, slice22, slice84}
 use Rattle.promises.specs.Possible.{slice2, GetRefuses, get22, get2, GstateRefuses, gstate22, WordRefuses, word84}
 use Rattle.promises.specs.Possible.{AlignRefuses, align22, CommitRefuses, commit22, commit_fetch, commit202}
 use Rattle.promises.specs.Possible.{commit201, commit28, commit211, commit212, commit213, commit204}
 use Rattle.promises.specs.Possible.{CompactRefuses, compact_fetch, compact202, compact28, compact204}
-use Rattle.promises.specs.Possible.{FetchedOr, GotOr, AlteredOr, WordOr, CommittedOr, StoredOr}
+use Rattle.promises.specs.Possible.{AnswerOr}
 use Rattle.promises.specs.Possible.{le32_possible, be32_possible, put_possible}
 use Rattle.promises.specs.Possible.{aligndown_possible, alignup_possible, fetch_possible}
 use Rattle.promises.specs.PossibleLookups.{getslice_possible, get_possible, getinfo_possible, getgstate_possible}
 use Rattle.promises.specs.PossibleWrites.{commit_possible, commit_stores_possible}
 use Rattle.promises.specs.PossibleWrites.{compact_possible, compact_stores_possible}
+use Rattle.format.specs.declared.Fetched.{Fetched}
+use Rattle.format.specs.declared.LfsInfo.{LfsInfo}
+use Rattle.format.specs.Record.{fetched}
 
 -- ---- the answer back from its number and values
 -- a number below zero, without its sign
@@ -72,24 +60,27 @@ refusal_from two number index =
 abbrev pub answer_from : {A : Type 0} → A → (Refusal → A) → Refusal → ℤ → ℕ → A
 answer_from done refuse two number index = cond (eqb (below number) 0) done (refuse (refusal_from two number index))
 
-abbrev pub fetched_from : ℤ → LfsMdir → ℕ → Fetched
-fetched_from number m s = answer_from (fetched.Found m s) fetched.Refused (TooMany m s) number 0
+abbrev pub fetched_from : ℤ → LfsMdir → ℕ → Result Fetched Refusal
+fetched_from number m s = answer_from (Ok (fetched m s)) Err (TooMany (fetched m s)) number 0
 
-abbrev pub got_from : ℤ → Found → Got
-got_from number e = answer_from (got.Found e) got.Refused NoEntry number 0
+abbrev pub got_from : ℤ → Found → Result Found Refusal
+got_from number e = answer_from (Ok e) Err NoEntry number 0
 
-abbrev pub altered_from : ℤ → Altered
-altered_from number = answer_from altered.Done altered.Refused NoEntry number 0
+abbrev pub altered_from : ℤ → Result Unit Refusal
+altered_from number = answer_from (Ok tt) Err NoEntry number 0
 
-abbrev pub word_from : ℤ → ℕ → Word
-word_from number v = answer_from (word.Is v) word.Refused NoEntry number 0
+abbrev pub word_from : ℤ → ℕ → Result ℕ Refusal
+word_from number v = answer_from (Ok v) Err NoEntry number 0
 
-abbrev pub committed_from : ℤ → LfsMdir → ℕ → ℕ → Committed
-committed_from number m s index = answer_from (committed.Done m s) committed.Refused (TooMany m s) number index
+abbrev pub info_from_number : ℤ → LfsInfo → Result LfsInfo Refusal
+info_from_number number i = answer_from (Ok i) Err NoEntry number 0
+
+abbrev pub committed_from : ℤ → LfsMdir → ℕ → ℕ → Result Fetched Refusal
+committed_from number m s index = answer_from (Ok (fetched m s)) Err (TooMany (fetched m s)) number index
 
 -- -2 comes without a record: the exception
-abbrev pub stored_from : ℤ → ℕ → ℕ → Stored
-stored_from number made index = answer_from (stored.Made made) stored.Refused (TooMany zero_mdir 0) number index
+abbrev pub stored_from : ℤ → ℕ → ℕ → Result ℕ Refusal
+stored_from number made index = answer_from (Ok made) Err (TooMany (fetched zero_mdir 0)) number index
 
 -- ---- a refusal of each kind of call comes back
 module _ {A : Type 0} (done : A) (refuse : Refusal → A) where
@@ -102,7 +93,7 @@ module _ {A : Type 0} (done : A) (refuse : Refusal → A) where
   -- of a call that fetches: -2 means a count above 1,023, and `two` has the record and the seed as read
   module _ (two : Refusal) (seed : ℕ) where
     abbrev Known : Refusal → Type 0
-    Known r = refusal_number r ≡ neg_ℤ (pos 2) → two ≡ TooMany (refusal_mdir r) (refusal_seed seed r)
+    Known r = refusal_number r ≡ neg_ℤ (pos 2) → two ≡ TooMany (fetched (refusal_mdir r) (refusal_seed seed r))
 
     fetch_back : {r : Refusal} (index : ℕ) → Known r → FetchRefuses r
         → answer_from done refuse two (refusal_number r) index ≡ refuse r
@@ -130,7 +121,7 @@ get_plain : Within GetRefuses SliceRefuses
 get_plain Invalid get22 = slice22
 get_plain NoEntry get2 = slice2
 get_plain Corrupt x' = elim x' [ ]
-get_plain (TooMany _ _) x4 = elim x4 [ ]
+get_plain (TooMany _) x4 = elim x4 [ ]
 get_plain (BadEntry _) x4 = elim x4 [ ]
 get_plain Irregular x4 = elim x4 [ ]
 get_plain NoSpace x5 = elim x5 [ ]
@@ -146,7 +137,7 @@ gstate_plain : Within GstateRefuses SliceRefuses
 gstate_plain Invalid gstate22 = slice22
 gstate_plain Corrupt x' = elim x' [ ]
 gstate_plain NoEntry x'' = elim x'' [ ]
-gstate_plain (TooMany _ _) x5 = elim x5 [ ]
+gstate_plain (TooMany _) x5 = elim x5 [ ]
 gstate_plain (BadEntry _) x5 = elim x5 [ ]
 gstate_plain Irregular x5 = elim x5 [ ]
 gstate_plain NoSpace x6 = elim x6 [ ]
@@ -162,7 +153,7 @@ word_plain : Within WordRefuses SliceRefuses
 word_plain Corrupt word84 = slice84
 word_plain Invalid x' = elim x' [ ]
 word_plain NoEntry x'' = elim x'' [ ]
-word_plain (TooMany _ _) x5 = elim x5 [ ]
+word_plain (TooMany _) x5 = elim x5 [ ]
 word_plain (BadEntry _) x5 = elim x5 [ ]
 word_plain Irregular x5 = elim x5 [ ]
 word_plain NoSpace x6 = elim x6 [ ]
@@ -178,7 +169,7 @@ align_plain : Within AlignRefuses SliceRefuses
 align_plain Invalid align22 = slice22
 align_plain Corrupt x' = elim x' [ ]
 align_plain NoEntry x'' = elim x'' [ ]
-align_plain (TooMany _ _) x5 = elim x5 [ ]
+align_plain (TooMany _) x5 = elim x5 [ ]
 align_plain (BadEntry _) x5 = elim x5 [ ]
 align_plain Irregular x5 = elim x5 [ ]
 align_plain NoSpace x6 = elim x6 [ ]
@@ -197,63 +188,63 @@ compact_written NoSpace compact28 = commit28
 compact_written Coincidence compact204 = commit204
 
 -- ---- the laws, by the type of the answer: the number and the values give it back
-abbrev pub FetchedTold : ℕ → Fetched → Type 0
-FetchedTold seed f = fetched_from (fetched_result f) (fetched_mdir f) (fetched_seed seed f) ≡ f
+abbrev pub FetchedTold : ℕ → Result Fetched Refusal → Type 0
+FetchedTold seed f = fetched_from (result_number f) (answer_mdir f) (answer_seed seed f) ≡ f
 
-pub fetched_determined : (seed : ℕ) (f : Fetched) → FetchedOr FetchRefuses f → FetchedTold seed f
-fetched_determined seed (fetched.Found m s) h = refl
-fetched_determined seed (fetched.Refused r) h =
-    fetch_back (fetched.Found (refusal_mdir r) (refusal_seed seed r)) fetched.Refused
-    (TooMany (refusal_mdir r) (refusal_seed seed r)) seed 0 (λ e. refl) h
+pub fetched_determined : (seed : ℕ) (f : Result Fetched Refusal) → AnswerOr FetchRefuses f → FetchedTold seed f
+fetched_determined seed (Ok f) h = refl
+fetched_determined seed (Err r) h =
+    fetch_back (Ok (fetched (refusal_mdir r) (refusal_seed seed r))) Err
+    (TooMany (fetched (refusal_mdir r) (refusal_seed seed r))) seed 0 (λ e. refl) h
 
-abbrev pub GotTold : Got → Type 0
-GotTold f = got_from (got_result f) (got_found f) ≡ f
+abbrev pub GotTold : Result Found Refusal → Type 0
+GotTold f = got_from (result_number f) (got_found f) ≡ f
 
-abbrev pub WordTold : Word → Type 0
-WordTold f = word_from (word_result f) (word_value f) ≡ f
+abbrev pub WordTold : Result ℕ Refusal → Type 0
+WordTold f = word_from (result_number f) (answer_value f) ≡ f
 
-abbrev pub AlteredTold : Altered → Type 0
-AlteredTold f = altered_from (altered_result f) ≡ f
+abbrev pub AlteredTold : Result Unit Refusal → Type 0
+AlteredTold f = altered_from (result_number f) ≡ f
 
--- an info comes with all its fields, so only its answer is to be told from a number
-abbrev pub InformedTold : Informed → Type 0
-InformedTold f = ◌≡◌ {A = Informed} (record { answer = altered_from (altered_result f.answer); info = f.info }) f
+abbrev pub InformedTold : Result LfsInfo Refusal → Type 0
+InformedTold f = info_from_number (result_number f) (answer_info f) ≡ f
 
 module _ (R : Refusal → Type 0) (plain : Within R SliceRefuses) where
-  pub got_determined : (f : Got) → GotOr R f → GotTold f
-  got_determined (got.Found e) h = refl
-  got_determined (got.Refused r) h = plain_back (got.Found none_found) got.Refused (plain r h)
+  pub got_determined : (f : Result Found Refusal) → AnswerOr R f → GotTold f
+  got_determined (Ok e) h = refl
+  got_determined (Err r) h = plain_back (Ok none_found) Err (plain r h)
 
-  pub word_determined : (f : Word) → WordOr R f → WordTold f
-  word_determined (word.Is v) h = refl
-  word_determined (word.Refused r) h = plain_back (word.Is 0) word.Refused (plain r h)
+  pub word_determined : (f : Result ℕ Refusal) → AnswerOr R f → WordTold f
+  word_determined (Ok v) h = refl
+  word_determined (Err r) h = plain_back (Ok 0) Err (plain r h)
 
-  pub altered_determined : (f : Altered) → AlteredOr R f → AlteredTold f
-  altered_determined altered.Done h = refl
-  altered_determined (altered.Refused r) h = plain_back altered.Done altered.Refused (plain r h)
+  pub altered_determined : (f : Result Unit Refusal) → AnswerOr R f → AlteredTold f
+  altered_determined (Ok x) h = refl
+  altered_determined (Err r) h = plain_back (Ok tt) Err (plain r h)
 
-  pub informed_determined : (f : Informed) → AlteredOr R f.answer → InformedTold f
-  informed_determined f h = rw (altered_determined f.answer h)
+  pub informed_determined : (f : Result LfsInfo Refusal) → AnswerOr R f → InformedTold f
+  informed_determined (Ok i) h = refl
+  informed_determined (Err r) h = plain_back (Ok (answer_info (Err r))) Err (plain r h)
 
-abbrev pub CommittedTold : ℕ → Committed → Type 0
+abbrev pub CommittedTold : ℕ → Result Fetched Refusal → Type 0
 CommittedTold seed f =
-    committed_from (committed_result f) (committed_mdir f) (committed_seed seed f) (committed_index f) ≡ f
+    committed_from (result_number f) (answer_mdir f) (answer_seed seed f) (answer_index f) ≡ f
 
 -- the exception is left out
-abbrev pub StoredTold : Stored → Type 0
-StoredTold f = stored_result f ≢ neg_ℤ (pos 2) → stored_from (stored_result f) (stored_made f) (stored_index f) ≡ f
+abbrev pub StoredTold : Result ℕ Refusal → Type 0
+StoredTold f = result_number f ≢ neg_ℤ (pos 2) → stored_from (result_number f) (answer_value f) (answer_index f) ≡ f
 
 module _ (R : Refusal → Type 0) (written : Within R CommitRefuses) where
-  pub committed_determined : (seed : ℕ) (f : Committed) → CommittedOr R f → CommittedTold seed f
-  committed_determined seed (committed.Done m s) h = refl
-  committed_determined seed (committed.Refused r) h =
-      commit_back (committed.Done (refusal_mdir r) (refusal_seed seed r)) committed.Refused
-      (TooMany (refusal_mdir r) (refusal_seed seed r)) seed (λ e. refl) (written r h)
+  pub committed_determined : (seed : ℕ) (f : Result Fetched Refusal) → AnswerOr R f → CommittedTold seed f
+  committed_determined seed (Ok f) h = refl
+  committed_determined seed (Err r) h =
+      commit_back (Ok (fetched (refusal_mdir r) (refusal_seed seed r))) Err
+      (TooMany (fetched (refusal_mdir r) (refusal_seed seed r))) seed (λ e. refl) (written r h)
 
-  pub stored_determined : (f : Stored) → StoredOr R f → StoredTold f
-  stored_determined (stored.Made n) h other = refl
-  stored_determined (stored.Refused r) h other =
-      commit_back (stored.Made 0) stored.Refused (TooMany zero_mdir 0) 0 (λ e. absurd (other e)) (written r h)
+  pub stored_determined : (f : Result ℕ Refusal) → AnswerOr R f → StoredTold f
+  stored_determined (Ok n) h other = refl
+  stored_determined (Err r) h other =
+      commit_back (Ok 0) Err (TooMany (fetched zero_mdir 0)) 0 (λ e. absurd (other e)) (written r h)
 
 -- ---- the same, of each call
 pub le32_told : (s : List ℕ) (off : ℕ) → WordTold (le32_at s off)

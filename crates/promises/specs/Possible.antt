@@ -1,7 +1,7 @@
 -- Demand 2: which refusals each call can give. "No refusal comes at any other time": here are the refusals of each
 -- kind of call, as document 01 has them, and the laws that words, alignments and fetch give no others. Those of the
 -- lookups are in PossibleLookups, of the calls that write in PossibleWrites. Assumes nothing.
-use Rattle.std.specs.Prelude.{◌≡◌, refl, Bool, true, false, not, cond, ◌||◌, List, ℕ, length, eqb, ltb}
+use Rattle.std.specs.Prelude.{◌≡◌, refl, Bool, true, false, not, cond, ◌||◌, List, ℕ, length, eqb, ltb, Err, Ok, Result}
 use Rattle.format.specs.Word.{plus32, minus32}
 use Rattle.format.specs.Arith.{align_down, align_up}
 use Rattle.format.specs.Bytes.{inside, le32_at, be32_at, put_answer}
@@ -16,24 +16,15 @@ use Rattle.format.specs.declared.Refusal.TheVariants.{BadEntry, Irregular, NoSpa
 use Rattle.format.specs.declared.Refusal.TheVariants.{NotErased}
 use Rattle.format.specs.declared.Refusal.TheVariants.{Coincidence}
 use Rattle.format.specs.declared.Fetched.{Fetched}
-use Rattle.format.specs.declared.Fetched.TheVariants as fetched
-use Rattle.format.specs.declared.Got.{Got}
-use Rattle.format.specs.declared.Got.TheVariants as got
-use Rattle.format.specs.declared.Altered.{Altered}
-use Rattle.format.specs.declared.Altered.TheVariants as altered
-use Rattle.format.specs.declared.Word.{Word}
-use Rattle.format.specs.declared.Word.TheVariants as word
-use Rattle.format.specs.declared.Committed.{Committed}
-use Rattle.format.specs.declared.Committed.TheVariants as committed
-use Rattle.format.specs.declared.Stored.{Stored}
-use Rattle.format.specs.declared.Stored.TheVariants as stored
+use Rattle.format.specs.declared.Found.{Found}
+use Rattle.format.specs.Record.{fetched}
 
 -- ---- the refusals of each kind of call
 -- "Fetch tests -22, -84, -2."
 pub data FetchRefuses : Refusal → Type 0 where
   fetch22 : FetchRefuses Invalid
   fetch84 : FetchRefuses Corrupt
-  fetch2 : {m : LfsMdir} {s : ℕ} → FetchRefuses (TooMany m s)
+  fetch2 : {m : LfsMdir} {s : ℕ} → FetchRefuses (TooMany (fetched m s))
 
 -- `lfs_dir_getslice`: "A lookup tests -22 first", then "-84 | lookup: the matched bytes pass the block" and "-2 |
 -- lookup: no entry"
@@ -81,29 +72,9 @@ pub data CompactRefuses : Refusal → Type 0 where
   compact204 : CompactRefuses Coincidence
 
 -- ---- an answer that is no refusal, or one of these
-abbrev pub FetchedOr : (Refusal → Type 0) → Fetched → Type 0
-FetchedOr R (fetched.Found m s) = Unit {0}
-FetchedOr R (fetched.Refused r) = R r
-
-abbrev pub GotOr : (Refusal → Type 0) → Got → Type 0
-GotOr R (got.Found e) = Unit {0}
-GotOr R (got.Refused r) = R r
-
-abbrev pub AlteredOr : (Refusal → Type 0) → Altered → Type 0
-AlteredOr R altered.Done = Unit {0}
-AlteredOr R (altered.Refused r) = R r
-
-abbrev pub WordOr : (Refusal → Type 0) → Word → Type 0
-WordOr R (word.Is v) = Unit {0}
-WordOr R (word.Refused r) = R r
-
-abbrev pub CommittedOr : (Refusal → Type 0) → Committed → Type 0
-CommittedOr R (committed.Done m s) = Unit {0}
-CommittedOr R (committed.Refused r) = R r
-
-abbrev pub StoredOr : (Refusal → Type 0) → Stored → Type 0
-StoredOr R (stored.Made n) = Unit {0}
-StoredOr R (stored.Refused r) = R r
+abbrev pub AnswerOr : {A : Type 0} → (Refusal → Type 0) → Result A Refusal → Type 0
+AnswerOr R (Ok x) = Unit {0}
+AnswerOr R (Err r) = R r
 
 -- a test decides between two answers that are possible; the first may be so because the test holds
 pub behind : {A : Type 0} (P : A → Type 0) (test : Bool) {x y : A} → (test ≡ true → P x) → P y → P (cond test x y)
@@ -114,26 +85,26 @@ pub through : {A : Type 0} (P : A → Type 0) (test : Bool) {x y : A} → P x �
 through P test h k = behind P test (λ e. h) k
 
 -- ---- words and alignments
-pub le32_possible : (s : List ℕ) (off : ℕ) → WordOr WordRefuses (le32_at s off)
-le32_possible s off = through (WordOr WordRefuses) (inside s off) tt word84
+pub le32_possible : (s : List ℕ) (off : ℕ) → AnswerOr WordRefuses (le32_at s off)
+le32_possible s off = through (AnswerOr WordRefuses) (inside s off) tt word84
 
-pub be32_possible : (s : List ℕ) (off : ℕ) → WordOr WordRefuses (be32_at s off)
-be32_possible s off = through (WordOr WordRefuses) (inside s off) tt word84
+pub be32_possible : (s : List ℕ) (off : ℕ) → AnswerOr WordRefuses (be32_at s off)
+be32_possible s off = through (AnswerOr WordRefuses) (inside s off) tt word84
 
-pub put_possible : (s : List ℕ) (off : ℕ) → AlteredOr WordRefuses (put_answer s off)
-put_possible s off = through (AlteredOr WordRefuses) (inside s off) tt word84
+pub put_possible : (s : List ℕ) (off : ℕ) → AnswerOr WordRefuses (put_answer s off)
+put_possible s off = through (AnswerOr WordRefuses) (inside s off) tt word84
 
-pub aligndown_possible : (a m : ℕ) → WordOr AlignRefuses (align_down a m)
+pub aligndown_possible : (a m : ℕ) → AnswerOr AlignRefuses (align_down a m)
 unfolding align_down
-aligndown_possible a m = through (WordOr AlignRefuses) (eqb m 0) align22 tt
+aligndown_possible a m = through (AnswerOr AlignRefuses) (eqb m 0) align22 tt
 
-pub alignup_possible : (a m : ℕ) → WordOr AlignRefuses (align_up a m)
+pub alignup_possible : (a m : ℕ) → AnswerOr AlignRefuses (align_up a m)
 unfolding align_up
 alignup_possible a m = aligndown_possible (minus32 (plus32 a m) 1) m
 
 -- ---- fetch
-abbrev pub Fetches : Fetched → Type 0
-Fetches f = FetchedOr FetchRefuses f
+abbrev pub Fetches : Result Fetched Refusal → Type 0
+Fetches f = AnswerOr FetchRefuses f
 
 pub few_possible : (m : LfsMdir) (s : ℕ) → Fetches (few_enough m s)
 few_possible m s = through Fetches (ltb 1_023 m.count) fetch2 tt
@@ -144,7 +115,7 @@ viewed_possible prog n0 n1 b0 b1 seed (at false rev es) = few_possible (mdir_of 
 viewed_possible prog n0 n1 b0 b1 seed (at true rev es) = few_possible (mdir_of prog n1 n0 b1 rev es) (seed_of seed es)
 
 pub fetch_possible : (g : Geometry) (b0 b1 : List ℕ) (n0 n1 count seed : ℕ)
-    → FetchedOr FetchRefuses (fetch_of g b0 b1 n0 n1 count seed)
+    → AnswerOr FetchRefuses (fetch_of g b0 b1 n0 n1 count seed)
 unfolding fetch_of
 fetch_possible g b0 b1 n0 n1 count seed =
     through Fetches (not (pair_fits g (length b0) (length b1) n0 n1)) fetch22

@@ -1,6 +1,6 @@
 -- Demand 2: the lookups give no refusals but those of Possible. At offset 0 none answers -84: what is read is in the
 -- entry that matched, and that ends at the record's end or before it, so in the block. Assumes nothing.
-use Rattle.std.specs.Prelude.{◌≡◌, Bool, true, not, ◌&&◌, List, ℕ, ◌+◌, ◌≤◌, length, take, eqb}
+use Rattle.std.specs.Prelude.{◌≡◌, Bool, true, not, ◌&&◌, List, ℕ, ◌+◌, ◌≤◌, length, take, eqb, Err, None, Ok, Option, Result, Some}
 use Rattle.std.proofs.Math.Nat.{min-le_left}
 use Rattle.std.proofs.Common.{arith, leb-true, le-leb, eqb-true}
 use Rattle.std.proofs.Math.Dec.{leb}
@@ -17,46 +17,43 @@ use Rattle.format.specs.declared.Geometry.{Geometry}
 use Rattle.format.specs.declared.LfsMdir.{LfsMdir}
 use Rattle.format.specs.declared.LfsGstate.{LfsGstate}
 use Rattle.format.specs.declared.Found.{Found}
-use Rattle.format.specs.declared.Hit.{Hit}
-use Rattle.format.specs.declared.Hit.TheVariants as hit
-use Rattle.format.specs.declared.Got.{Got}
-use Rattle.format.specs.declared.Got.TheVariants as got
-use Rattle.format.specs.declared.Informed.{Informed}
 use Rattle.theory.specs.Walk.Step.{both_true}
 use Rattle.theory.specs.Lookup.AtStart.{searched_in}
 use Rattle.promises.specs.Possible.{SliceRefuses, slice22, slice84, slice2, GetRefuses, get22, get2}
-use Rattle.promises.specs.Possible.{GstateRefuses, gstate22, GotOr, AlteredOr, behind, through}
+use Rattle.promises.specs.Possible.{GstateRefuses, gstate22, AnswerOr, behind, through}
+use Rattle.format.specs.declared.LfsInfo.{LfsInfo}
+use Rattle.format.specs.declared.Refusal.{Refusal}
 
 -- ---- what was found is read
-pub slice_possible : (b : List ℕ) (offset size : ℕ) (f : Hit) → GotOr SliceRefuses (slice_answer b offset size f)
-slice_possible b offset size hit.Nothing = slice2
-slice_possible b offset size (hit.Found e) =
-    through (GotOr SliceRefuses) (leb (slice_end e offset size) (length b)) tt slice84
+pub slice_possible : (b : List ℕ) (offset size : ℕ) (f : Option Found) → AnswerOr SliceRefuses (slice_answer b offset size f)
+slice_possible b offset size None = slice2
+slice_possible b offset size (Some e) =
+    through (AnswerOr SliceRefuses) (leb (slice_end e offset size) (length b)) tt slice84
 
 -- at offset 0, what was found before the block's end is read before it
-start_fits : (b : List ℕ) (size : ℕ) (e : Found) → HitIn (length b) (hit.Found e)
+start_fits : (b : List ℕ) (size : ℕ) (e : Found) → HitIn (length b) (Some e)
     → leb (slice_end e 0 size) (length b) ≡ true
 start_fits b size e h = le-leb (slice_end e 0 size) (length b) (omega (arith, h.inside, min-le_left (data_size e) size))
 
-start_possible : (b : List ℕ) (size : ℕ) (f : Hit) → HitIn (length b) f → GotOr GetRefuses (slice_answer b 0 size f)
-start_possible b size hit.Nothing h = get2
-start_possible b size (hit.Found e) h = rw (start_fits b size e h) tt
+start_possible : (b : List ℕ) (size : ℕ) (f : Option Found) → HitIn (length b) f → AnswerOr GetRefuses (slice_answer b 0 size f)
+start_possible b size None h = get2
+start_possible b size (Some e) h = rw (start_fits b size e h) tt
 
-move_possible : (b : List ℕ) (f : Hit) → HitIn (length b) f → AlteredOr GstateRefuses (move_answer b f)
-move_possible b hit.Nothing h = tt
-move_possible b (hit.Found e) h = rw (start_fits b 12 e h) tt
+move_possible : (b : List ℕ) (f : Option Found) → HitIn (length b) f → AnswerOr GstateRefuses (move_answer b f)
+move_possible b None h = tt
+move_possible b (Some e) h = rw (start_fits b 12 e h) tt
 
 -- an info is refused as the first of its two lookups that is
-abbrev Informs : Informed → Type 0
-Informs i = AlteredOr GetRefuses i.answer
+abbrev Informs : Result LfsInfo Refusal → Type 0
+Informs i = AnswerOr GetRefuses i
 
-info_from_lem : (x y : Got) (name struct : List ℕ) → GotOr GetRefuses x → GotOr GetRefuses y
+info_from_lem : (x y : Result Found Refusal) (name struct : List ℕ) → AnswerOr GetRefuses x → AnswerOr GetRefuses y
     → Informs (info_from x name y struct)
-info_from_lem (got.Refused r) y name struct h k = h
-info_from_lem (got.Found t) (got.Refused r) name struct h k = k
-info_from_lem (got.Found t) (got.Found u) name struct h k = tt
+info_from_lem (Err r) y name struct h k = h
+info_from_lem (Ok t) (Err r) name struct h k = k
+info_from_lem (Ok t) (Ok u) name struct h k = tt
 
-info_possible : (b : List ℕ) (nameMax : ℕ) (name struct : Hit) → HitIn (length b) name → HitIn (length b) struct
+info_possible : (b : List ℕ) (nameMax : ℕ) (name struct : Option Found) → HitIn (length b) name → HitIn (length b) struct
     → Informs (info_of b nameMax name struct)
 info_possible b nameMax name struct h k =
     info_from_lem (read_answer b (nameMax + 1) name) (read_answer b 8 struct)
@@ -87,7 +84,7 @@ module _ (g : Geometry) (b0 b1 : List ℕ) (n0 n1 : ℕ) (dir : LfsMdir) (gdisk 
   abbrev block : List ℕ
   block = block_of b0 b1 n0 dir
 
-  abbrev search : ℕ → ℕ → Hit
+  abbrev search : ℕ → ℕ → Option Found
   search mask key = searched block dir gdisk mask key
 
   -- a search finds nothing behind the record's end
@@ -95,43 +92,43 @@ module _ (g : Geometry) (b0 b1 : List ℕ) (n0 n1 : ℕ) (dir : LfsMdir) (gdisk 
   search_inside mask key h = searched_in (length block) block dir gdisk mask key (end_inside g b0 b1 n0 n1 dir h)
 
   pub getslice_possible : (mask key offset : ℕ) (buffer : List ℕ)
-      → GotOr SliceRefuses (getslice_of g b0 b1 n0 n1 dir gdisk mask key offset buffer)
+      → AnswerOr SliceRefuses (getslice_of g b0 b1 n0 n1 dir gdisk mask key offset buffer)
   unfolding getslice_of
   getslice_possible mask key offset buffer =
-      through (GotOr SliceRefuses) (getslice_fits g b0 b1 n0 n1 dir buffer)
+      through (AnswerOr SliceRefuses) (getslice_fits g b0 b1 n0 n1 dir buffer)
       (slice_possible block offset (length buffer) (search mask key)) slice22
 
   -- at offset 0 without -84
   pub getslice_start_possible : (mask key : ℕ) (buffer : List ℕ)
-      → GotOr GetRefuses (getslice_of g b0 b1 n0 n1 dir gdisk mask key 0 buffer)
+      → AnswerOr GetRefuses (getslice_of g b0 b1 n0 n1 dir gdisk mask key 0 buffer)
   unfolding getslice_of getslice_fits
   getslice_start_possible mask key buffer =
-      behind (GotOr GetRefuses) (fits && leb (length buffer) longest_buffer)
+      behind (AnswerOr GetRefuses) (fits && leb (length buffer) longest_buffer)
       (λ e. start_possible block (length buffer) (search mask key) (search_inside mask key (both_true _ _ e).0)) get22
 
   pub get_possible : (mask key : ℕ) (buffer : List ℕ)
-      → GotOr GetRefuses (get_of g b0 b1 n0 n1 dir gdisk mask key buffer)
+      → AnswerOr GetRefuses (get_of g b0 b1 n0 n1 dir gdisk mask key buffer)
   unfolding get_of
   get_possible mask key buffer =
-      through (GotOr GetRefuses) (get_fits key buffer)
+      through (AnswerOr GetRefuses) (get_fits key buffer)
       (getslice_start_possible mask key (take (tag_size key) buffer)) get22
 
-  pub getgstate_possible : AlteredOr GstateRefuses (getgstate_of g b0 b1 n0 n1 dir gdisk)
+  pub getgstate_possible : AnswerOr GstateRefuses (getgstate_of g b0 b1 n0 n1 dir gdisk)
   unfolding getgstate_of
   getgstate_possible =
-      behind (AlteredOr GstateRefuses) fits
+      behind (AnswerOr GstateRefuses) fits
       (λ e. move_possible block (search move_mask move_key) (search_inside move_mask move_key e)) gstate22
 
-  pub getinfo_possible : (nameMax id : ℕ) → AlteredOr GetRefuses (getinfo_of g b0 b1 n0 n1 dir gdisk nameMax id).answer
+  pub getinfo_possible : (nameMax id : ℕ) → AnswerOr GetRefuses (getinfo_of g b0 b1 n0 n1 dir gdisk nameMax id)
   unfolding getinfo_of getinfo_fits
   getinfo_possible nameMax id =
       behind Informs (fits && leb 1 nameMax && leb nameMax 255 && leb id no_slot)
       (λ e. through Informs (eqb id no_slot) tt (read (both_true _ _ (both_true _ _ (both_true _ _ e).0).0).0)) get22
     where
-      name : Hit
+      name : Option Found
       name = search name_mask (name_key id nameMax)
 
-      struct : Hit
+      struct : Option Found
       struct = search struct_mask (struct_key id)
 
       read : fits ≡ true → Informs (info_of block nameMax name struct)

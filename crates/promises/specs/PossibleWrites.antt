@@ -1,6 +1,6 @@
 -- Demand 2: commit and compaction, without a limit of stores and with one, give no refusals but those of Possible.
 -- Assumes nothing.
-use Rattle.std.specs.Prelude.{Bool, not, length, drop, ltb, eqb}
+use Rattle.std.specs.Prelude.{Bool, not, length, drop, ltb, eqb, Err, Ok, Result}
 use mathlib.Core.List.{List}
 use Prim.Native.Nat.{ℕ, ◌%◌}
 use Rattle.format.specs.Word.{le32, to_le32, all_ones, plus32}
@@ -26,14 +26,12 @@ use Rattle.format.specs.Compaction.{compact_images, compact_of, compact_stores_o
 use Rattle.format.specs.declared.Geometry.{Geometry}
 use Rattle.format.specs.declared.Entry.{Entry}
 use Rattle.format.specs.declared.LfsMdir.{LfsMdir}
-use Rattle.format.specs.declared.Room.{Room}
-use Rattle.format.specs.declared.Room.TheVariants as room
-use Rattle.format.specs.declared.Fetched.{Fetched}
-use Rattle.format.specs.declared.Fetched.TheVariants as fetched
 use Rattle.promises.specs.Possible.{CommitRefuses, commit22, commit_fetch, commit202, commit201, commit28}
 use Rattle.promises.specs.Possible.{commit211, commit212, commit213, commit204}
 use Rattle.promises.specs.Possible.{CompactRefuses, compact_fetch, compact202, compact28, compact204, fetch22}
-use Rattle.promises.specs.Possible.{CommittedOr, StoredOr, through, Fetches, fetch_possible}
+use Rattle.promises.specs.Possible.{AnswerOr, through, Fetches, fetch_possible}
+use Rattle.format.specs.declared.Fetched.{Fetched}
+use Rattle.format.specs.declared.Refusal.{Refusal}
 
 -- ---- commit: a verdict that is no refusal, or one of these
 abbrev Commits : Verdict → Type 0
@@ -45,13 +43,13 @@ judged_possible (bad i) v h = commit201
 judged_possible (good c) v h = h
 
 -- a room that is clean, or one of its reasons
-abbrev Rooms : Room → Type 0
-Rooms room.Clean = Unit {0}
-Rooms (room.Refused r) = CommitRefuses r
+abbrev Rooms : Result Unit Refusal → Type 0
+Rooms (Ok x) = Unit {0}
+Rooms (Err r) = CommitRefuses r
 
-room_then_lem : (r : Room) (v : Verdict) → Rooms r → Commits v → Commits (room_then r v)
-room_then_lem room.Clean v h k = k
-room_then_lem (room.Refused r) v h k = h
+room_then_lem : (r : Result Unit Refusal) (v : Verdict) → Rooms r → Commits v → Commits (room_then r v)
+room_then_lem (Ok x) v h k = k
+room_then_lem (Err r) v h k = h
 
 room_possible : (e prog : ℕ) (b : List ℕ) (end etag : ℕ) → Rooms (room_of e prog b end etag)
 unfolding room_of
@@ -77,18 +75,18 @@ appended_possible r e prog second b es entries dat =
     (judged_possible (judge dat 0 (count_of 0 es) entries) _
     (placed_possible e prog second b es (with_forward e prog (length b) (log_end es) (items_of dat entries))))
 
-fetched_then_lem : (f : Fetched) (on : LfsMdir → Verdict) → Fetches f → ((m : LfsMdir) → Commits (on m))
+fetched_then_lem : (f : Result Fetched Refusal) (on : LfsMdir → Verdict) → Fetches f → ((m : LfsMdir) → Commits (on m))
     → Commits (fetched_then f on)
-fetched_then_lem (fetched.Found m s) on h k = k m
-fetched_then_lem (fetched.Refused r) on h k = commit_fetch h
+fetched_then_lem (Ok f) on h k = k f.dir
+fetched_then_lem (Err r) on h k = commit_fetch h
 
 -- an accepted call answers as fetch does on the finished pair
-verdict_answer : (f : Fetched) (v : Verdict) → Fetches f → Commits v → CommittedOr CommitRefuses (answer_of f v)
+verdict_answer : (f : Result Fetched Refusal) (v : Verdict) → Fetches f → Commits v → AnswerOr CommitRefuses (answer_of f v)
 verdict_answer f (refused r) h k = k
-verdict_answer (fetched.Found m s) (accepted second is size) h k = tt
-verdict_answer (fetched.Refused r) (accepted second is size) h k = commit_fetch h
+verdict_answer (Ok f) (accepted second is size) h k = tt
+verdict_answer (Err r) (accepted second is size) h k = commit_fetch h
 
-verdict_made : (n : ℕ) (v : Verdict) → Commits v → StoredOr CommitRefuses (stores_made n v)
+verdict_made : (n : ℕ) (v : Verdict) → Commits v → AnswerOr CommitRefuses (stores_made n v)
 verdict_made n (refused r) h = h
 verdict_made n (accepted second is size) h = tt
 
@@ -112,20 +110,20 @@ compactable_possible r e prog second b es =
     through Compacts (not (Regular r es)) compact202
     (anew_possible e prog (length b) second (plus32 (le32 b) 1) (with_forward e prog (length b) 4 (compaction_items es)))
 
-compact_fetched_lem : (r : Rules) (e prog : ℕ) (b0 b1 : List ℕ) (n0 : ℕ) (f : Fetched) → Fetches f
+compact_fetched_lem : (r : Rules) (e prog : ℕ) (b0 b1 : List ℕ) (n0 : ℕ) (f : Result Fetched Refusal) → Fetches f
     → Compacts (compact_fetched r e prog b0 b1 n0 f)
-compact_fetched_lem r e prog b0 b1 n0 (fetched.Refused q) h = compact_fetch h
-compact_fetched_lem r e prog b0 b1 n0 (fetched.Found m s) h =
-    let b : List ℕ = block_at (is_second n0 m) b0 b1 in
-    compactable_possible r e prog (is_second n0 m) b (log b)
+compact_fetched_lem r e prog b0 b1 n0 (Err q) h = compact_fetch h
+compact_fetched_lem r e prog b0 b1 n0 (Ok f) h =
+    let b : List ℕ = block_at (is_second n0 f.dir) b0 b1 in
+    compactable_possible r e prog (is_second n0 f.dir) b (log b)
 
-compact_answer_lem : (f : Fetched) (v : CompactVerdict) → Fetches f → Compacts v
-    → CommittedOr CompactRefuses (compact_answer f v)
+compact_answer_lem : (f : Result Fetched Refusal) (v : CompactVerdict) → Fetches f → Compacts v
+    → AnswerOr CompactRefuses (compact_answer f v)
 compact_answer_lem f (compact_refused r) h k = k
-compact_answer_lem (fetched.Found m s) (compact_accepted second rev is size) h k = tt
-compact_answer_lem (fetched.Refused r) (compact_accepted second rev is size) h k = compact_fetch h
+compact_answer_lem (Ok f) (compact_accepted second rev is size) h k = tt
+compact_answer_lem (Err r) (compact_accepted second rev is size) h k = compact_fetch h
 
-compact_made_lem : (n : ℕ) (v : CompactVerdict) → Compacts v → StoredOr CompactRefuses (compact_made n v)
+compact_made_lem : (n : ℕ) (v : CompactVerdict) → Compacts v → AnswerOr CompactRefuses (compact_made n v)
 compact_made_lem n (compact_refused r) h = h
 compact_made_lem n (compact_accepted second rev is size) h = tt
 
@@ -141,7 +139,7 @@ module _ (g : Geometry) (b0 b1 : List ℕ) (n0 n1 count seed rules e : ℕ) wher
       appended_possible (rules_of rules) e g.prog_size (is_second n0 m) b (log b) entries dat))
 
   pub commit_possible : (entries : List Entry) (dat : List ℕ)
-      → CommittedOr CommitRefuses (commit_of g b0 b1 n0 n1 count seed rules e entries dat)
+      → AnswerOr CommitRefuses (commit_of g b0 b1 n0 n1 count seed rules e entries dat)
   unfolding commit_of
   commit_possible entries dat =
       let after : Images = commit_images g b0 b1 n0 n1 count seed rules e entries dat unlimited in
@@ -150,7 +148,7 @@ module _ (g : Geometry) (b0 b1 : List ℕ) (n0 n1 count seed rules e : ℕ) wher
       (fetch_possible g after.b0 after.b1 n0 n1 count seed) (verdict_possible entries dat)
 
   pub commit_stores_possible : (entries : List Entry) (dat : List ℕ) (n : ℕ)
-      → StoredOr CommitRefuses (commit_stores_of g b0 b1 n0 n1 count seed rules e entries dat n)
+      → AnswerOr CommitRefuses (commit_stores_of g b0 b1 n0 n1 count seed rules e entries dat n)
   unfolding commit_stores_of
   commit_stores_possible entries dat n =
       verdict_made n (verdict_of g b0 b1 n0 n1 count seed rules e entries dat) (verdict_possible entries dat)
@@ -162,7 +160,7 @@ module _ (g : Geometry) (b0 b1 : List ℕ) (n0 n1 count seed rules e : ℕ) wher
       (compact_fetched_lem (rules_of rules) e g.prog_size b0 b1 n0 (fetch_of g b0 b1 n0 n1 count seed)
       (fetch_possible g b0 b1 n0 n1 count seed))
 
-  pub compact_possible : CommittedOr CompactRefuses (compact_of g b0 b1 n0 n1 count seed rules e)
+  pub compact_possible : AnswerOr CompactRefuses (compact_of g b0 b1 n0 n1 count seed rules e)
   unfolding compact_of
   compact_possible =
       let after : Images = compact_images g b0 b1 n0 n1 count seed rules e unlimited in
@@ -170,6 +168,6 @@ module _ (g : Geometry) (b0 b1 : List ℕ) (n0 n1 count seed rules e : ℕ) wher
       (compact_verdict g b0 b1 n0 n1 count seed rules e)
       (fetch_possible g after.b0 after.b1 n0 n1 count seed) compact_verdict_possible
 
-  pub compact_stores_possible : (n : ℕ) → StoredOr CompactRefuses (compact_stores_of g b0 b1 n0 n1 count seed rules e n)
+  pub compact_stores_possible : (n : ℕ) → AnswerOr CompactRefuses (compact_stores_of g b0 b1 n0 n1 count seed rules e n)
   unfolding compact_stores_of
   compact_stores_possible n = compact_made_lem n (compact_verdict g b0 b1 n0 n1 count seed rules e) compact_verdict_possible

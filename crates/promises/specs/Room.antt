@@ -1,7 +1,7 @@
 -- Document 02, L1: "What is accepted stays the same". Document 01's condition, by the erased byte (L7), and the three
 -- reasons side by side: the room is clean exactly if none of them applies. Then each reason, exactly when it is given.
 -- Assumes nothing.
-use Rattle.std.specs.Prelude.{◌≡◌, refl, ◌≢◌, ◌↔◌, Bool, true, false, ◌&&◌, List, ℕ, ◌+◌, ◌-◌, ◌%◌, ◌≤◌, ◌<◌, length, get_or, drop, ltb}
+use Rattle.std.specs.Prelude.{◌≡◌, refl, ◌≢◌, ◌↔◌, Bool, true, false, ◌&&◌, List, ℕ, ◌+◌, ◌-◌, ◌%◌, ◌≤◌, ◌<◌, length, get_or, drop, ltb, Err, Ok}
 use Rattle.std.proofs.Math.Path.{sym}
 use Rattle.std.proofs.Common.{ap, ◌∙◌, subst, get_or-drop}
 use native.Mathlib.Omega.{arith}
@@ -12,7 +12,6 @@ use Rattle.format.specs.Erased.{erased_fits, all_erased, validity_fits, BitFits,
 use Rattle.format.specs.Room.{room_clean, erased_run, first_unerased, room_of}
 use Rattle.format.specs.declared.Refusal.{Refusal}
 use Rattle.format.specs.declared.Refusal.TheVariants.{Misaligned, WrongValidity, NotErased}
-use Rattle.format.specs.declared.Room.TheVariants.{Clean, Refused}
 use Rattle.format.proofs.Refusals.{misaligned_first, validity_next, byte_last}
 use Rattle.format.proofs.Erased.{erases, bit_fits, bit_wrong, fits_bit, wrong_bit}
 use Rattle.format.proofs.Rooms.{tested, room_tested, clean_holds, holds_clean, run_before, run_all, run_ends}
@@ -81,7 +80,7 @@ module _ (e : ℕ) (byte : erased_fits e ≡ true) (prog : ℕ) (b : List ℕ) (
   clean_exactly = (no_reason, then_clean)
 
   -- what the call tests, and document 01's condition
-  pub room_exactly : (room_of e prog b end etag ≡ Clean) ↔ (room_clean e prog b end etag ≡ true)
+  pub room_exactly : (room_of e prog b end etag ≡ (Ok tt)) ↔ (room_clean e prog b end etag ≡ true)
   room_exactly = (clean_holds e prog b end etag, holds_clean e prog b end etag)
 
   -- ---- each reason, by what the three tests answer
@@ -95,9 +94,9 @@ module _ (e : ℕ) (byte : erased_fits e ≡ true) (prog : ℕ) (b : List ℕ) (
   all = all_erased e (drop end b)
 
   abbrev Tells : Refusal → Bool → Bool → Bool → Type 0
-  Tells r a p c = tested e prog b end etag a p c ≡ Refused r
+  Tells r a p c = tested e prog b end etag a p c ≡ Err r
 
-  told : (r : Refusal) → room_of e prog b end etag ≡ Refused r → Tells r aligned bit all
+  told : (r : Refusal) → room_of e prog b end etag ≡ Err r → Tells r aligned bit all
   told r h = sym (room_tested e prog b end etag) ∙ h
 
   told_misaligned : (a p c : Bool) → Tells Misaligned a p c → a ≡ false
@@ -120,18 +119,18 @@ module _ (e : ℕ) (byte : erased_fits e ≡ true) (prog : ℕ) (b : List ℕ) (
   told_not_erased k true true true h = (cc, cc, cc, cc)
 
   -- -211 wherever the old end is no multiple, whatever the end tag and the bytes
-  pub misaligned_exactly : (room_of e prog b end etag ≡ Refused Misaligned) ↔ (end % prog ≢ 0)
+  pub misaligned_exactly : (room_of e prog b end etag ≡ Err Misaligned) ↔ (end % prog ≢ 0)
   misaligned_exactly = (
     λ h. eqb-false (end % prog) 0 (told_misaligned aligned bit all (told Misaligned h)),
     misaligned_first e prog b end etag,
   )
 
-  validity_then : room_of e prog b end etag ≡ Refused WrongValidity → (end % prog ≡ 0) × BitWrong e etag
+  validity_then : room_of e prog b end etag ≡ Err WrongValidity → (end % prog ≡ 0) × BitWrong e etag
   validity_then h = let t = told_validity aligned bit all (told WrongValidity h) in
       (eqb-true (end % prog) 0 t.0, bit_wrong e etag (erases e byte) t.1)
 
   -- -212 behind an end that is one, whatever the bytes
-  pub validity_exactly : (room_of e prog b end etag ≡ Refused WrongValidity) ↔ ((end % prog ≡ 0) × BitWrong e etag)
+  pub validity_exactly : (room_of e prog b end etag ≡ Err WrongValidity) ↔ ((end % prog ≡ 0) × BitWrong e etag)
   validity_exactly = (validity_then, λ h. validity_next e prog b end etag h.0 (wrong_bit e etag h.1))
 
   -- k is the block offset of the first byte from the old end on that isn't erased
@@ -167,7 +166,7 @@ module _ (e : ℕ) (byte : erased_fits e ≡ true) (prog : ℕ) (b : List ℕ) (
         ltb-false (first_unerased e b end) k i,
       )
 
-  not_erased_then : (k : ℕ) → room_of e prog b end etag ≡ Refused (NotErased k)
+  not_erased_then : (k : ℕ) → room_of e prog b end etag ≡ Err (NotErased k)
       → (end % prog ≡ 0) × BitFits e etag × First k
   not_erased_then k h =
       let t = told_not_erased k aligned bit all (told (NotErased k) h) in
@@ -178,11 +177,11 @@ module _ (e : ℕ) (byte : erased_fits e ≡ true) (prog : ℕ) (b : List ℕ) (
       )
 
   then_not_erased : (k : ℕ) → (end % prog ≡ 0) × BitFits e etag × First k
-      → room_of e prog b end etag ≡ Refused (NotErased k)
+      → room_of e prog b end etag ≡ Err (NotErased k)
   then_not_erased k h = byte_last e prog b end etag h.0 (fits_bit e etag h.1) (some_byte k h.2)
-      ∙ ap (λ (j : ℕ). Refused (NotErased j)) (only_first k h.2)
+      ∙ ap (λ (j : ℕ). Err (NotErased j)) (only_first k h.2)
 
   -- -213 behind both, with that offset
-  pub not_erased_exactly : (k : ℕ) → (room_of e prog b end etag ≡ Refused (NotErased k))
+  pub not_erased_exactly : (k : ℕ) → (room_of e prog b end etag ≡ Err (NotErased k))
       ↔ ((end % prog ≡ 0) × BitFits e etag × First k)
   not_erased_exactly k = (not_erased_then k, then_not_erased k)

@@ -3,7 +3,7 @@
 -- directory machine is as it was, and both calls that write answer and leave the same by either rule. (That all of it
 -- holds by either rule is said where it is said: Directory, Accepted, Stopped. What a compaction leaves is regular by
 -- document 01's whichever was asked for: `CompactStopped`.) Assumes nothing.
-use Rattle.std.specs.Prelude.{◌≡◌, Bool, not, ◌&&◌, List, [], ◌∷◌, ◌++◌, ℕ, suc, length, take, drop, set, get_or}
+use Rattle.std.specs.Prelude.{◌≡◌, Bool, not, ◌&&◌, List, [], ◌∷◌, ◌++◌, ℕ, suc, length, take, drop, set, get_or, Err, Ok, Result}
 use Rattle.std.proofs.Math.Path.{refl}
 use Rattle.std.proofs.Common.{ap, ◌∙◌, arith}
 use Rattle.std.proofs.Math.Bool.{true, false, cond}
@@ -27,8 +27,6 @@ use Rattle.format.specs.declared.LfsMdir.{LfsMdir}
 use Rattle.format.specs.declared.Entry.{Entry}
 use Rattle.format.specs.declared.Refusal.TheVariants.{Invalid, Irregular}
 use Rattle.format.specs.declared.Rules.TheVariants.{Document, Littlefs}
-use Rattle.format.specs.declared.Fetched.{Fetched}
-use Rattle.format.specs.declared.Fetched.TheVariants as fetched
 use Rattle.format.proofs.Growing.{raised_never, grows_never, widest}
 use Rattle.format.proofs.Slots.{reaching_there}
 use Rattle.theory.specs.Directory.Machine.{inside_there}
@@ -36,6 +34,8 @@ use Rattle.theory.specs.Directory.Acts.{dir_rev}
 use Rattle.theory.specs.Lookup.SlotCount.{slots_after, AllowedFrom, length_apply}
 use Rattle.theory.specs.Back.EventBytes.{log_stands}
 use Rattle.theory.specs.Commit.Tested.{regular_from_lem}
+use Rattle.format.specs.declared.Fetched.{Fetched}
+use Rattle.format.specs.declared.Refusal.{Refusal}
 
 -- ---- document 01's rule is what it was before there was another
 -- "A log is regular if every check tag's size is 4 to 1,022 and its committed entries pass these rules from c = 0"
@@ -113,7 +113,7 @@ module _ (g : Geometry) (b0 b1 : List ℕ) (n0 n1 count seed e : ℕ) where
   commit_same entries dat = go (commit_fits g (length b0) (length b1) n0 n1 0 e (length entries) (length dat))
       (fetch_of g b0 b1 n0 n1 count seed)
     where
-      go : (x : Bool) (f : Fetched)
+      go : (x : Bool) (f : Result Fetched Refusal)
           → (cond (not x) (refused Invalid) (fetched_then f (λ m. appended Document e g.prog_size (is_second n0 m)
           (block m) (log (block m)) entries dat)) ≡ refused Irregular → ⊥)
           → cond (not x) (refused Invalid) (fetched_then f (λ m. appended Littlefs e g.prog_size (is_second n0 m)
@@ -121,25 +121,25 @@ module _ (g : Geometry) (b0 b1 : List ℕ) (n0 n1 count seed e : ℕ) where
           ≡ cond (not x) (refused Invalid) (fetched_then f (λ m. appended Document e g.prog_size (is_second n0 m)
           (block m) (log (block m)) entries dat))
       go false f h = refl
-      go true (fetched.Refused r) h = refl
-      go true (fetched.Found m s) h = either_rule (log (block m)) (refused Irregular)
-          (judged_by (judge dat 0 (count_of 0 (log (block m))) entries)
-          (placed e g.prog_size (is_second n0 m) (block m) (log (block m))
-          (with_forward e g.prog_size (length (block m)) (log_end (log (block m))) (items_of dat entries)))) h
+      go true (Err r) h = refl
+      go true (Ok f) h = either_rule (log (block f.dir)) (refused Irregular)
+          (judged_by (judge dat 0 (count_of 0 (log (block f.dir))) entries)
+          (placed e g.prog_size (is_second n0 f.dir) (block f.dir) (log (block f.dir))
+          (with_forward e g.prog_size (length (block f.dir)) (log_end (log (block f.dir))) (items_of dat entries)))) h
 
   pub compact_same : (compact_verdict g b0 b1 n0 n1 count seed 0 e ≡ compact_refused Irregular → ⊥)
       → compact_verdict g b0 b1 n0 n1 count seed 1 e ≡ compact_verdict g b0 b1 n0 n1 count seed 0 e
   unfolding compact_verdict compactable
   compact_same = go (erased_fits e) (fetch_of g b0 b1 n0 n1 count seed)
     where
-      go : (x : Bool) (f : Fetched)
+      go : (x : Bool) (f : Result Fetched Refusal)
           → (cond (not x) (compact_refused Invalid) (compact_fetched Document e g.prog_size b0 b1 n0 f)
           ≡ compact_refused Irregular → ⊥)
           → cond (not x) (compact_refused Invalid) (compact_fetched Littlefs e g.prog_size b0 b1 n0 f)
           ≡ cond (not x) (compact_refused Invalid) (compact_fetched Document e g.prog_size b0 b1 n0 f)
       go false f h = refl
-      go true (fetched.Refused r) h = refl
-      go true (fetched.Found m s) h = either_rule (log (block m)) (compact_refused Irregular)
-          (placed_anew e g.prog_size (length (block m)) (is_second n0 m)
-          (plus32 (le32 (block m)) 1)
-          (with_forward e g.prog_size (length (block m)) 4 (compaction_items (log (block m))))) h
+      go true (Err r) h = refl
+      go true (Ok f) h = either_rule (log (block f.dir)) (compact_refused Irregular)
+          (placed_anew e g.prog_size (length (block f.dir)) (is_second n0 f.dir)
+          (plus32 (le32 (block f.dir)) 1)
+          (with_forward e g.prog_size (length (block f.dir)) 4 (compaction_items (log (block f.dir))))) h

@@ -1,7 +1,7 @@
 -- Document 02, L1: where an append that was cut short shows. After one or more stores of an accepted commit the room
 -- behind the old end is refused with -213 at the old end itself, so that an offset further behind it is of bytes that
 -- no commit here left. Assumes nothing.
-use Rattle.std.specs.Prelude.{◌≡◌, ◌≢◌, Bool, true, ℕ, ◌+◌, ◌/◌, ◌^◌, ◌≤◌, ◌<◌, min}
+use Rattle.std.specs.Prelude.{◌≡◌, ◌≢◌, Bool, true, ℕ, ◌+◌, ◌/◌, ◌^◌, ◌≤◌, ◌<◌, min, Err}
 use Rattle.std.proofs.Math.Path.{sym, ap}
 use Rattle.std.proofs.Common.{◌∙◌, inl, inr, le_refl, arith}
 use mathlib.Core.List.{List, [], ◌∷◌, ◌++◌}
@@ -19,7 +19,6 @@ use Rattle.format.specs.Writer.{all_stores, block_at, accepted, verdict_of, stor
 use Rattle.format.specs.declared.Geometry.{Geometry}
 use Rattle.format.specs.declared.Entry.{Entry}
 use Rattle.format.specs.declared.Refusal.TheVariants.{NotErased}
-use Rattle.format.specs.declared.Room.TheVariants.{Refused}
 use Rattle.format.proofs.Tags.{apart_invalid}
 use Rattle.theory.specs.Rules.MadeItem.{AllMade}
 use Rattle.theory.specs.Commit.AcceptedVerdict.{fits_byte}
@@ -98,7 +97,7 @@ module _ (g : Geometry) (b0 b1 : List ℕ) (n0 n1 count seed rules e : ℕ) (ent
       (stopped.ok g b0 b1 n0 n1 count seed rules e entries dat second is size h).check.small
       (stopped.takes g b0 b1 n0 n1 count seed rules e entries dat second is size h).made
 
-  pub torn_at_end : room_of e g.prog_size (block_at second left.b0 left.b1) end etag ≡ Refused (NotErased end)
+  pub torn_at_end : room_of e g.prog_size (block_at second left.b0 left.b1) end etag ≡ Err (NotErased end)
   torn_at_end =
       ap (λ (b : List ℕ). room_of e g.prog_size b end etag)
       (stopped.commit_written g b0 b1 n0 n1 count seed rules e entries dat second is size h n).0

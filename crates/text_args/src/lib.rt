@@ -9,13 +9,6 @@ use format::LfsPair;
 use std::env::{Env, FillError};
 use text_input::{INPUT_PAIR, INPUT_PROG_SIZE, INPUT_RULES};
 
-// A word in decimal, or a text that is none.
-#[derive(Clone, Copy)]
-pub enum Decimal {
-    Is(u32),
-    Not,
-}
-
 // The program size and the block numbers of the pair to be shown, and the rule by which its log must be regular; or
 // arguments that are not understood.
 #[derive(Clone, Copy)]
@@ -25,39 +18,39 @@ pub enum Request {
 }
 
 // A number with one digit more behind it.
-fn digit_behind(value: u32, digit: u8) -> Decimal
+fn digit_behind(value: u32, digit: u8) -> Option<u32>
     ensures { result ≡ digit_behind value digit }
 {
     if digit < b'0' {
-        return Decimal::Not;
+        return None;
     }
     if b'9' < digit {
-        return Decimal::Not;
+        return None;
     }
     let longer = value as u64 * 10 + (digit - b'0') as u64;
     if 0xffff_ffff < longer {
-        return Decimal::Not;
+        return None;
     }
-    Decimal::Is(longer as u32)
+    Some(longer as u32)
 }
 
 // The number that a text is in decimal: some digits and nothing else, and less than 2^32.
-pub fn number(text: &[u8]) -> Decimal
+pub fn number(text: &[u8]) -> Option<u32>
     ensures { result ≡ number_of text.now }
 {
     if text.len() == 0 {
-        return Decimal::Not;
+        return None;
     }
     let mut value = 0;
     let mut i = 0;
     while i < text.len() {
-        let Decimal::Is(longer) = digit_behind(value, text[i]) else {
-            return Decimal::Not;
+        let Some(longer) = digit_behind(value, text[i]) else {
+            return None;
         };
         value = longer;
         i += 1;
     }
-    Decimal::Is(value)
+    Some(value)
 }
 
 // How many arguments the program was started with, its own name among them.
@@ -75,7 +68,7 @@ pub fn word<E: Env>(env: &E, i: usize) -> Decimal {
     let mut text = [0u8; 32];
     match env.arg(i, &mut text) {
         Ok(n) => number(&text[..n]),
-        Err(_) => Decimal::Not,
+        Err(_) => None,
     }
 }
 
@@ -93,13 +86,13 @@ pub fn asked<E: Env>(env: &E, from: usize, ruled: bool) -> Request {
     if 4 < words {
         return Request::Unclear;
     }
-    let Decimal::Is(prog_size) = word(env, from) else {
+    let Some(prog_size) = word(env, from) else {
         return Request::Unclear;
     };
-    let Decimal::Is(n0) = word(env, from + 1) else {
+    let Some(n0) = word(env, from + 1) else {
         return Request::Unclear;
     };
-    let Decimal::Is(n1) = word(env, from + 2) else {
+    let Some(n1) = word(env, from + 2) else {
         return Request::Unclear;
     };
     if words == 3 {
@@ -108,7 +101,7 @@ pub fn asked<E: Env>(env: &E, from: usize, ruled: bool) -> Request {
     if !ruled {
         return Request::Unclear;
     }
-    let Decimal::Is(rules) = word(env, from + 3) else {
+    let Some(rules) = word(env, from + 3) else {
         return Request::Unclear;
     };
     Request::As(prog_size, LfsPair { n0, n1 }, rules)

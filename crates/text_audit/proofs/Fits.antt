@@ -1,7 +1,6 @@
 -- No audit is as long as 2^32 bytes. Assumes nothing.
 use mathlib.Core.Path.{◌≡◌, refl}
 use mathlib.Core.Bool.{Bool, true, false, cond}
-use mathlib.Core.Option.{Option, none, some}
 use mathlib.Core.List.{List, [], ◌∷◌, ◌++◌}
 use Prim.Native.Nat.{ℕ, suc, ◌+◌, ◌*◌, ◌^◌, ◌≤◌, ◌<◌}
 use native.Mathlib.Omega.{arith}
@@ -22,11 +21,12 @@ use Rattle.theory.specs.Commit.Tested.{regular_loads}
 use Rattle.theory.proofs.Compact.AcceptedVerdict.{slots_few}
 use Rattle.text_input.proofs.Short.{decimal_short, name_length, number_short, refused_short, Short, slot_loads}
 use Rattle.text_input.proofs.Short.{ruled_short, fetched_short}
+use Rattle.std.specs.Prelude.{None, Option, Some}
 
 name_short : (o : Option Load) → Short o → length (name_or_dash o) ≤ 4_088
 unfolding name_or_dash
-name_short none h = omega arith
-name_short (some v) h = omega (arith, name_length v.bytes)
+name_short None h = omega arith
+name_short (Some v) h = omega (arith, name_length v.bytes)
 
 lack_short : (id : ℕ) (o : Option Load) (what : List ℕ) → Short o → length what ≤ 13
     → length (lack_line id o what) ≤ 4_117
@@ -43,8 +43,8 @@ lack_short id o what h k =
 
 deadline_short : (id : ℕ) (o v : Option Load) → Short o → length (deadline_line id o v) ≤ 4_134
 unfolding deadline_line
-deadline_short id o none h = omega (arith, lack_short id o (ascii " no deadline\n") h (omega arith))
-deadline_short id o (some v) h =
+deadline_short id o None h = omega (arith, lack_short id o (ascii " no deadline\n") h (omega arith))
+deadline_short id o (Some v) h =
     let N : List ℕ = decimal (length v.bytes) ++ ascii " bytes\n" in
     omega (
       arith,

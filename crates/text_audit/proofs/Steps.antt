@@ -1,7 +1,6 @@
 -- One slot, one slot more, and a block: the text and the two counts go together. Assumes nothing.
 use mathlib.Core.Path.{◌≡◌, refl, sym, ap, ◌∙◌}
 use mathlib.Core.Bool.{Bool, true, false, not, cond, ◌&&◌}
-use mathlib.Core.Option.{Option}
 use mathlib.Core.List.{List, [], ◌∷◌, ◌++◌}
 use Prim.Native.Nat.{ℕ, suc, ◌+◌, ◌^◌, ◌≤◌, ◌<◌}
 use native.Mathlib.Numerals.{add-one}
@@ -17,7 +16,6 @@ use Rattle.format.specs.Audit.{is_instruction, is_payload, is_deadline, is_there
 use Rattle.format.specs.Audit.{lacks_payload, lack_line, deadline_line, audit_line, audit_lines, tally, total_lines}
 use Rattle.format.specs.Audit.{slots_audit, block_audit}
 use Rattle.format.specs.declared.LfsMdir.{LfsMdir}
-use Rattle.format.specs.declared.Hit.{Hit}
 use Rattle.format.specs.declared.Refusal.TheVariants.{Irregular}
 use Rattle.theory.specs.Lookup.ByMask.{holds}
 use Rattle.text.specs.Put.{Text, text, puts_of}
@@ -27,16 +25,18 @@ use Rattle.compact_slot.specs.Slots.{Slots, slot_in, AllInside}
 use Rattle.text_input.proofs.Slots.{Shown, slots_next, slots_done}
 use Rattle.text_audit.specs.Audited.{Told, Few, SlotAudited, SlotsAudited}
 use Rattle.text_audit.specs.declared.Audit.{Audit}
+use Rattle.std.specs.Prelude.{Option}
+use Rattle.format.specs.declared.Found.{Found}
 
 -- ---- what the seats tell: of h, that of class c, an answer
 module _ (b seats : List ℕ) (i : AllInside b seats) where
-  told : (asks : Option Load → Bool) (c : ℕ) → c < classes → (h : Hit) → h ≡ hit_at seats c → (x : Bool)
+  told : (asks : Option Load → Bool) (c : ℕ) → c < classes → (h : Option Found) → h ≡ hit_at seats c → (x : Bool)
       → Told asks h x → x ≡ asks (slot_in b seats c)
-  told asks c l h e x t = t b (rw e (i c l)) ∙ ap (λ (k : Hit). asks (holds b k)) e
+  told asks c l h e x t = t b (rw e (i c l)) ∙ ap (λ (k : Option Found). asks (holds b k)) e
 
 -- what the code has asked of a slot's seats: n, p and d are what was found of its name, its struct and its attribute, x
 -- tells whether it is an instruction, y whether it has a payload
-pub record Asked (b seats : List ℕ) (n p d : Hit) (x y : Bool) : Type 0 where
+pub record Asked (b seats : List ℕ) (n p d : Option Found) (x y : Bool) : Type 0 where
   pub inside : AllInside b seats
   pub name : n ≡ hit_at seats 0
   pub struct : p ≡ hit_at seats 1
@@ -44,7 +44,7 @@ pub record Asked (b seats : List ℕ) (n p d : Hit) (x y : Bool) : Type 0 where
   pub instruction : Told is_instruction n x
   pub payload : Told is_payload p y
 
-module _ (b seats : List ℕ) (n p d : Hit) (x y : Bool) (k : Asked b seats n p d x y) where
+module _ (b seats : List ℕ) (n p d : Option Found) (x y : Bool) (k : Asked b seats n p d x y) where
   told_name : x ≡ is_instruction (slot_in b seats 0)
   told_name = told b seats k.inside is_instruction 0 (omega arith) n k.name x k.instruction
 

@@ -2,7 +2,6 @@
 -- nothing.
 use mathlib.Core.Path.{◌≡◌, refl, sym, ap, ◌∙◌}
 use mathlib.Core.Bool.{Bool, true, false, not, ◌&&◌, ◌||◌}
-use mathlib.Core.Option.{Option}
 use mathlib.Core.List.{List, ◌++◌}
 use Prim.Native.Nat.{ℕ, ◌-◌, ◌≤◌}
 use native.Mathlib.Omega.{arith}
@@ -16,13 +15,12 @@ use Rattle.format.specs.Listing.{ascii, decimal, name_bytes}
 use Rattle.format.specs.Audit.{is_instruction, is_payload, is_deadline, is_there, name_or_dash, lack_line}
 use Rattle.format.specs.Audit.{deadline_line}
 use Rattle.format.specs.declared.Found.{Found}
-use Rattle.format.specs.declared.Hit.{Hit}
-use Rattle.format.specs.declared.Hit.TheVariants as hit
 use Rattle.format.proofs.Searched.{hit_in, bytes_length, part, part_is}
 use Rattle.theory.specs.Lookup.ByMask.{holds, missing, there}
 use Rattle.text.specs.Put.{Text, puts_of}
 use Rattle.text.proofs.Joined.{join}
 use Rattle.text_audit.specs.Audited.{Told}
+use Rattle.std.specs.Prelude.{None, Option, Some}
 
 -- some bytes are behind the tag's four
 some_bytes : (n : ℕ) → ltb 4 n ≡ ltb 0 (n - 4)
@@ -41,8 +39,8 @@ four_bytes n h = go (eqb n 8) refl
     go false e = let f = eqb-false n 8 e in sym (ne_eqb (n - 4) 4 (λ q. f (omega arith)))
 
 -- ---- what was found is h
-module _ (h : Hit) where
-  module _ (q : h ≡ hit.Nothing) where
+module _ (h : Option Found) where
+  module _ (q : h ≡ None) where
     pub instruction_nameless : Told is_instruction h true
     unfolding is_instruction
     instruction_nameless b i = ap is_instruction (missing b h q)
@@ -64,7 +62,7 @@ module _ (h : Hit) where
     dash_shown b s r er = er ∙ ap (λ (l : Option Load). puts_of s (name_or_dash l)) (missing b h q)
 
   -- k is its type
-  module _ {e : Found} (q : h ≡ hit.Found e) where
+  module _ {e : Found} (q : h ≡ Some e) where
     pub instruction_named : (k : ℕ) → k ≡ tag_type3 e.tag
         → Told is_instruction h (not (eqb k 0x002) && not (eqb k 0x0ff))
     unfolding is_instruction
@@ -107,13 +105,13 @@ lack_done id name what s t1 t2 t3 t4 r e1 e2 e3 e4 er =
     (join t2 t3 r (ascii " ") N e3 (join t3 t4 r (name_or_dash name) what e4 er)))
 
 -- ---- a deadline that is missing, or of another length; h is what was found of it
-module _ (b : List ℕ) (id : ℕ) (name : Option Load) (h : Hit) (s : Text) where
-  pub deadline_none : h ≡ hit.Nothing → (r : Text) → r ≡ puts_of s (lack_line id name (ascii " no deadline\n"))
+module _ (b : List ℕ) (id : ℕ) (name : Option Load) (h : Option Found) (s : Text) where
+  pub deadline_none : h ≡ None → (r : Text) → r ≡ puts_of s (lack_line id name (ascii " no deadline\n"))
       → r ≡ puts_of s (deadline_line id name (holds b h))
   unfolding deadline_line
   deadline_none q r er = er ∙ ap (λ (v : Option Load). puts_of s (deadline_line id name v)) (missing b h q)
 
-  pub deadline_unread : {e : Found} → h ≡ hit.Found e → HitIn (length b) h → (t u r : Text)
+  pub deadline_unread : {e : Found} → h ≡ Some e → HitIn (length b) h → (t u r : Text)
       → t ≡ puts_of s (lack_line id name (ascii " deadline of ")) → u ≡ puts_of t (decimal (e.length - 4))
       → r ≡ puts_of u (ascii " bytes\n")
       → r ≡ puts_of s (deadline_line id name (holds b h))

@@ -1,16 +1,15 @@
 -- What the audit's functions ask and leave. Assumes nothing.
-use Rattle.std.specs.Prelude.{◌≡◌, Bool, cond, List, ℕ, ◌+◌, ◌^◌, ◌<◌, length}
-use Rattle.std.proofs.Math.Option.{Option}
+use Rattle.std.specs.Prelude.{◌≡◌, Bool, cond, List, ℕ, ◌+◌, ◌^◌, ◌<◌, length, Option}
 use Rattle.format.specs.Directory.{Load, Slot}
 use Rattle.format.specs.Audit.{lacks_deadline, lacks_payload, audit_line, audit_lines, tally}
 use Rattle.text.specs.Put.{text, puts_of}
 use Rattle.format.specs.Look.{HitIn}
-use Rattle.format.specs.declared.Hit.{Hit}
 use Rattle.theory.specs.Lookup.ByMask.{holds}
 use Rattle.text_audit.specs.declared.Audit.{Audit}
+use Rattle.format.specs.declared.Found.{Found}
 
 -- the answer to a question about what was found, in whatever block
-abbrev pub Told : (Option Load → Bool) → Hit → Bool → Type 0
+abbrev pub Told : (Option Load → Bool) → Option Found → Bool → Type 0
 Told asks h answer = (b : List ℕ) → HitIn (length b) h → answer ≡ asks (holds b h)
 
 -- one more can be counted

@@ -18,7 +18,7 @@ ghost use Rattle.text_input.specs.Input.{Listable};
 ghost use Rattle.text_audit.specs.Audited.{Told, Few, SlotAudited, SlotsAudited};
 
 use format::types::*;
-use format::{Fetched, Hit, LfsMdir, LfsPair, Refusal};
+use format::{Fetched, LfsMdir, LfsPair, Refusal};
 use text_input::{INPUT_PAIR, INPUT_PROG_SIZE, INPUT_RULES};
 
 // The class of the deadline, the user attribute 0x74: a name and a struct come before.
@@ -34,10 +34,10 @@ pub struct Audit {
 }
 
 // "A slot is an instruction unless its name says directory or superblock": with no name it is one.
-fn is_instruction(name: Hit) -> bool
+fn is_instruction(name: Option<Found>) -> bool
     ensures { Told is_instruction name result }
 {
-    let Hit::Found(e) = name else {
+    let Some(e) = name else {
         return true;
     };
     let kind = tag::lfs_tag_type3(e.tag);
@@ -45,10 +45,10 @@ fn is_instruction(name: Hit) -> bool
 }
 
 // "It has a payload if its struct is CTZ, or inline of one byte or more."
-fn is_payload(content: Hit) -> bool
+fn is_payload(content: Option<Found>) -> bool
     ensures { Told is_payload content result }
 {
-    let Hit::Found(e) = content else {
+    let Some(e) = content else {
         return false;
     };
     let kind = tag::lfs_tag_type3(e.tag);
@@ -56,32 +56,32 @@ fn is_payload(content: Hit) -> bool
 }
 
 // "Its deadline is the user attribute 0x74, of four bytes."
-fn is_deadline(attribute: Hit) -> bool
+fn is_deadline(attribute: Option<Found>) -> bool
     ensures { Told is_deadline attribute result }
 {
     match attribute {
-        Hit::Nothing => false,
-        Hit::Found(e) => e.length == 8,
+        None => false,
+        Some(e) => e.length == 8,
     }
 }
 
 // "Of any other length it can't be read: it is there": a removed one isn't.
-fn is_there(attribute: Hit) -> bool
+fn is_there(attribute: Option<Found>) -> bool
     ensures { Told is_there attribute result }
 {
     match attribute {
-        Hit::Nothing => false,
-        Hit::Found(_) => true,
+        None => false,
+        Some(_) => true,
     }
 }
 
 // "The name as in the listing; `-` where there is none."
-fn name_or_dash(out: &mut [u8], at: u32, b: &[u8], name: Hit) -> u32
+fn name_or_dash(out: &mut [u8], at: u32, b: &[u8], name: Option<Found>) -> u32
     requires { HitIn (length b.now) name }
     ensures { text result out.new ≡ puts_of (text at out.old)
         (name_or_dash (holds b.now name)) }
 {
-    let Hit::Found(e) = name else {
+    let Some(e) = name else {
         return text::puts(out, at, b"-");
     };
     let from = e.off as usize;
@@ -90,7 +90,7 @@ fn name_or_dash(out: &mut [u8], at: u32, b: &[u8], name: Hit) -> u32
 }
 
 // The line of a slot: its id, its name, and what it lacks.
-fn lack_line(out: &mut [u8], at: u32, b: &[u8], id: u32, name: Hit, what: &[u8]) -> u32
+fn lack_line(out: &mut [u8], at: u32, b: &[u8], id: u32, name: Option<Found>, what: &[u8]) -> u32
     requires { HitIn (length b.now) name }
     ensures { text result out.new ≡ puts_of (text at out.old)
         (lack_line id (holds b.now name) what.now) }
@@ -103,13 +103,13 @@ fn lack_line(out: &mut [u8], at: u32, b: &[u8], id: u32, name: Hit, what: &[u8])
 }
 
 // "A deadline that can't be read is told apart from a missing one": by its length.
-fn deadline_line(out: &mut [u8], at: u32, b: &[u8], id: u32, name: Hit, attribute: Hit) -> u32
+fn deadline_line(out: &mut [u8], at: u32, b: &[u8], id: u32, name: Option<Found>, attribute: Option<Found>) -> u32
     requires name_in { HitIn (length b.now) name }
     requires attribute_in { HitIn (length b.now) attribute }
     ensures { text result out.new ≡ puts_of (text at out.old)
         (deadline_line id (holds b.now name) (holds b.now attribute)) }
 {
-    let Hit::Found(e) = attribute else {
+    let Some(e) = attribute else {
         return lack_line(out, at, b, id, name, b" no deadline\n");
     };
     let n = lack_line(out, at, b, id, name, b" deadline of ");
@@ -210,7 +210,7 @@ pub fn lfs_dir_audit_as(
     }
     let half = input.len() / 2;
     match text_input::fetch_input(prog_size, numbers, input) {
-        Fetched::Refused(r) => text_input::refused(out, 0, r),
+        Err(r) => text_input::refused(out, 0, r),
         Fetched::Found(m, _) => {
             let pair = m.pair;
             if pair.n0 == numbers.n0 {

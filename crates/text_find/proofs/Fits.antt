@@ -17,27 +17,27 @@ use Rattle.format.specs.FindText.{named_text, found_text, named_by, find_text_as
 use Rattle.format.specs.declared.LfsPair.{LfsPair}
 use Rattle.format.specs.declared.LfsMdir.{LfsMdir}
 use Rattle.format.specs.declared.Refusal.TheVariants.{Invalid}
-use Rattle.format.specs.declared.Named.{Named}
-use Rattle.format.specs.declared.Named.TheVariants.{At, Nothing, Refused}
 use Rattle.theory.specs.Blocks.SlotItems.{OkSlots, ok_get, ok_dir_of}
 use Rattle.theory.specs.Commit.Tested.{regular_loads}
 use Rattle.text_input.proofs.Short.{refused_short, ruled_short, fetched_short}
 use Rattle.text_listing.proofs.Fits.{text_short}
 use Rattle.text_find.proofs.Told.{found_there}
+use Rattle.std.specs.Prelude.{Err, None, Ok, Option, Result, Some}
+use Rattle.format.specs.declared.Refusal.{Refusal}
 
 found_short : (r : Rules) (name : List ℕ) (kind : ℕ) (m : LfsMdir) (b : List ℕ)
     → length (found_text r name kind m b) < 2 ^ 32
 unfolding found_text named_text
 found_short r name kind m b = go (find_in r name kind (log b)) refl
   where
-    go : (x : Named) → find_in r name kind (log b) ≡ x → length (named_text (dir_of (log b)) x) < 2 ^ 32
-    go (At id) e =
+    go : (x : Result (Option ℕ) Refusal) → find_in r name kind (log b) ≡ x → length (named_text (dir_of (log b)) x) < 2 ^ 32
+    go (Ok (Some id)) e =
         let t = found_there r name kind (log b) id (sym e) in
         let D : List Slot = dir_of (log b) in
         let ok : OkSlots D = ok_dir_of (log b) (regular_loads b (log b) refl (widest r (log b) t.regular)) in
         omega (arith, text_short id (get_or D id empty) (ok_get D id ok))
-    go Nothing e = omega arith
-    go (Refused y) e = omega (arith, refused_short y)
+    go (Ok None) e = omega arith
+    go (Err y) e = omega (arith, refused_short y)
 
 named_short : (name text : List ℕ) → length text < 2 ^ 32 → length (named_by name text) < 2 ^ 32
 named_short name text h = go (eqb (length name) 0)

@@ -19,8 +19,6 @@ use Rattle.format.specs.declared.LfsPair.{LfsPair}
 use Rattle.format.specs.declared.LfsMdir.{LfsMdir}
 use Rattle.format.specs.declared.Refusal.{Refusal}
 use Rattle.format.specs.declared.Refusal.TheVariants.{Invalid, Irregular}
-use Rattle.format.specs.declared.Named.{Named}
-use Rattle.format.specs.declared.Named.TheVariants.{At, Nothing, Refused}
 use Rattle.theory.specs.Back.BackActs.{seen}
 use Rattle.compact_slot.specs.Seat.{Gatherable, Gathered}
 use Rattle.compact_slot.specs.Slots.{Slots, slot_in}
@@ -29,20 +27,21 @@ use Rattle.text.specs.Put.{Text, puts_of}
 use Rattle.text_input.specs.Input.{Listable}
 use Rattle.text_input.proofs.Input.{block_slots}
 use Rattle.text_listing.proofs.Loops.{slots_shown}
+use Rattle.std.specs.Prelude.{Err, None, Ok, Option, Result, Some}
 
 -- ---- a slot that is found is there
 never : {A : Type 0} → ◌≡◌ {A = ℕ} 0 1 → A
 never e = absurd (omega arith)
 
-first_there : (name : List ℕ) (kind i : ℕ) (D : List Slot) (id : ℕ) → At id ≡ first_named name kind i D
+first_there : (name : List ℕ) (kind i : ℕ) (D : List Slot) (id : ℕ) → Ok (Some id) ≡ first_named name kind i D
     → (i ≤ id) × (id < i + length D)
 unfolding first_named
 first_there name kind i [] id e = never (cc)
 first_there name kind i (s ∷ D) id e = go (is_named name kind (s 0)) refl (first_there name kind (suc i) D id) e
   where
     go : (x : Bool) → is_named name kind (s 0) ≡ x
-        → (At id ≡ first_named name kind (suc i) D → (suc i ≤ id) × (id < suc i + length D))
-        → At id ≡ cond x (At i) (first_named name kind (suc i) D) → (i ≤ id) × (id < i + length (s ∷ D))
+        → (Ok (Some id) ≡ first_named name kind (suc i) D → (suc i ≤ id) × (id < suc i + length D))
+        → Ok (Some id) ≡ cond x (Ok (Some i)) (first_named name kind (suc i) D) → (i ≤ id) × (id < i + length (s ∷ D))
     go true x r e = let z : id ≡ i = cc in (omega arith, omega arith)
     go false x r e = let z = r e in (omega (arith, z.0), omega (arith, z.1))
 
@@ -50,13 +49,13 @@ pub record There (r : Rules) (es : List Event) (id : ℕ) : Type 0 where
   pub regular : Regular r es ≡ true
   pub inside : id < length (dir_of es)
 
-pub found_there : (r : Rules) (name : List ℕ) (kind : ℕ) (es : List Event) (id : ℕ) → At id ≡ find_in r name kind es
+pub found_there : (r : Rules) (name : List ℕ) (kind : ℕ) (es : List Event) (id : ℕ) → Ok (Some id) ≡ find_in r name kind es
     → There r es id
 unfolding find_in
 found_there r name kind es id e = go (Regular r es) refl e
   where
     go : (x : Bool) → Regular r es ≡ x
-        → At id ≡ cond x (first_named name kind 0 (dir_of es)) (Refused Irregular) → There r es id
+        → Ok (Some id) ≡ cond x (first_named name kind 0 (dir_of es)) (Err Irregular) → There r es id
     go true x e = record { regular = x; inside = omega (arith, (first_there name kind 0 (dir_of es) id e).1) }
     go false x e = never (cc)
 
@@ -64,23 +63,23 @@ found_there r name kind es id e = go (Regular r es) refl e
 module _ (b : List ℕ) (m : LfsMdir) (w : Listable b m) where
   module _ (name : List ℕ) (kind rules : ℕ) (q : Rules) (asked : q ≡ rules_of rules) where
     -- x is what `find_in` answers
-    shown : (x : Named) → x ≡ find_in q name kind (log b) → (s r : Text) → r ≡ puts_of s (named_text (dir_of (log b)) x)
+    shown : (x : Result (Option ℕ) Refusal) → x ≡ find_in q name kind (log b) → (s r : Text) → r ≡ puts_of s (named_text (dir_of (log b)) x)
         → r ≡ puts_of s (found_text (rules_of rules) name kind m b)
     unfolding found_text
-    shown x ex s r er = er ∙ ap (λ (y : Named). puts_of s (named_text (dir_of (log b)) y))
+    shown x ex s r er = er ∙ ap (λ (y : Result (Option ℕ) Refusal). puts_of s (named_text (dir_of (log b)) y))
         (ex ∙ ap (λ (k : Rules). find_in k name kind (log b)) asked)
 
-    pub shown_none : Nothing ≡ find_in q name kind (log b) → (s r : Text) → r ≡ puts_of s (ascii "none\n")
+    pub shown_none : (Ok None) ≡ find_in q name kind (log b) → (s r : Text) → r ≡ puts_of s (ascii "none\n")
         → r ≡ puts_of s (found_text (rules_of rules) name kind m b)
     unfolding named_text
-    shown_none e s r er = shown Nothing e s r er
+    shown_none e s r er = shown (Ok None) e s r er
 
-    pub shown_refused : (y : Refusal) → Refused y ≡ find_in q name kind (log b) → (s r : Text)
+    pub shown_refused : (y : Refusal) → Err y ≡ find_in q name kind (log b) → (s r : Text)
         → r ≡ puts_of s (refused_line y) → r ≡ puts_of s (found_text (rules_of rules) name kind m b)
     unfolding named_text
-    shown_refused y e s r er = shown (Refused y) e s r er
+    shown_refused y e s r er = shown (Err y) e s r er
 
-    module _ (id : ℕ) (e : At id ≡ find_in q name kind (log b)) where
+    module _ (id : ℕ) (e : Ok (Some id) ≡ find_in q name kind (log b)) where
       there : There q (log b) id
       there = found_there q name kind (log b) id e
 
@@ -96,7 +95,7 @@ module _ (b : List ℕ) (m : LfsMdir) (w : Listable b m) where
       pub shown_slot : (seats : List ℕ) → Gathered b (map (seen b) (back b m.off m.etag)) id seats → (s r : Text)
           → r ≡ puts_of s (slot_text id (slot_in b seats)) → r ≡ puts_of s (found_text (rules_of rules) name kind m b)
       unfolding named_text
-      shown_slot seats g s r er = shown (At id) e s r
+      shown_slot seats g s r er = shown (Ok (Some id)) e s r
           (er ∙ ap (puts_of s) (slots_shown.same id (slot_in b seats) (get_or (dir_of (log b)) id empty)
           (slot_holds b m.off m.etag m.count slots id seats low g)))
 

@@ -9,7 +9,7 @@ ghost use Rattle.format.specs.FindText.{found_text, find_text_as};
 ghost use Rattle.text.specs.Put.{text, puts_of};
 ghost use Rattle.text_input.specs.Input.{Listable};
 
-use format::{Fetched, LfsMdir, LfsPair, Named, Refusal};
+use format::{Fetched, LfsMdir, LfsPair, Refusal};
 
 // Of the block that fetch answers from: "the slot's line and its attributes as the listing does, or .. that there is
 // none".
@@ -20,12 +20,12 @@ fn found_text(out: &mut [u8], b: &[u8], m: LfsMdir, rules: u32, name: &[u8], kin
 {
     let end = m.off as usize;
     match find_pass::find_in(b, end, commit_regular::rules_of(rules), name, kind) {
-        Named::At(id) => {
+        Ok(Some(id)) => {
             let seats = compact_slot::gather(b, end, m.etag, id);
             text_listing::slot_text(out, 0, b, id, &seats)
         }
-        Named::Nothing => text::puts(out, 0, b"none\n"),
-        Named::Refused(r) => text_input::refused(out, 0, r),
+        Ok(None) => text::puts(out, 0, b"none\n"),
+        Err(r) => text_input::refused(out, 0, r),
     }
 }
 
@@ -53,7 +53,7 @@ pub fn lfs_dir_find_as(
     }
     let half = input.len() / 2;
     match text_input::fetch_input(prog_size, numbers, input) {
-        Fetched::Refused(r) => text_input::refused(out, 0, r),
+        Err(r) => text_input::refused(out, 0, r),
         Fetched::Found(m, _) => {
             let pair = m.pair;
             if pair.n0 == numbers.n0 {

@@ -24,14 +24,15 @@ use Rattle.format.specs.declared.LfsPair.{LfsPair}
 use Rattle.format.specs.declared.LfsMdir.{LfsMdir}
 use Rattle.format.specs.declared.Refusal.{Refusal}
 use Rattle.format.specs.declared.Refusal.TheVariants.{Invalid}
-use Rattle.format.specs.declared.Fetched.{Fetched}
-use Rattle.format.specs.declared.Fetched.TheVariants as fetched
 use Rattle.theory.specs.Fetch.FoundBlock.{Sized, found_sized, found_reads}
 use Rattle.theory.proofs.Compact.AcceptedVerdict.{slots_counted}
 use Rattle.commit_regular.specs.Ends.{CommittedTo}
 use Rattle.compact_slot.specs.Slots.{Slots}
 use Rattle.text.specs.Put.{Text, puts_of}
 use Rattle.text_input.specs.Input.{Listable, Numbers}
+use Rattle.std.specs.Prelude.{Err, Ok, Result}
+use Rattle.format.specs.declared.Fetched.{Fetched}
+use Rattle.format.specs.Record.{fetched}
 
 -- ---- a refusal; n is its number without the sign
 refused_line_lem : (x : Refusal) (n : ℕ) → refusal_number x ≡ neg_ℤ (pos n) → 0 < n
@@ -100,53 +101,53 @@ module _ (prog : ℕ) (p : LfsPair) (input : List ℕ) where
   rest = take (length input - half) (drop half input)
 
   -- what fetch answers for two images of this size, and what is shown of the input
-  abbrev fetches : List ℕ → List ℕ → Fetched
+  abbrev fetches : List ℕ → List ℕ → Result Fetched Refusal
   fetches x y = fetch_of (input_geometry prog half) x y p.n0 p.n1 0 0
 
   abbrev shown_by : (LfsMdir → List ℕ → List ℕ) → List ℕ
   shown_by shows = fetched_text shows p input (fetch_input prog p input)
 
   -- ---- the tests of the length
-  pub input_odd : length input % 2 ≡ 1 → fetched.Refused Invalid ≡ fetch_input prog p input
+  pub input_odd : length input % 2 ≡ 1 → Err Invalid ≡ fetch_input prog p input
   unfolding fetch_input
   input_odd h = rw (eq-eqb (length input % 2) 1 h)
 
   module _ (even : length input % 2 ≡ 1 → ⊥) where
-    pub input_long : 65_536 < length input → fetched.Refused Invalid ≡ fetch_input prog p input
+    pub input_long : 65_536 < length input → Err Invalid ≡ fetch_input prog p input
     unfolding fetch_input
     input_long h = rw (ne_eqb (length input % 2) 1 even, lt-ltb 65_536 (length input) h)
 
-    pub input_fetched : length input ≤ 65_536 → (r : Fetched) → r ≡ fetches front rest → r ≡ fetch_input prog p input
+    pub input_fetched : length input ≤ 65_536 → (r : Result Fetched Refusal) → r ≡ fetches front rest → r ≡ fetch_input prog p input
     unfolding fetch_input
     input_fetched h r er =
         rw (ne_eqb (length input % 2) 1 even, le-ltb 65_536 (length input) h)
         (er ∙ ap₂ fetches (cut_front half input) (cut_back half input))
 
   -- what is found is found by fetch
-  found_fetched : (m : LfsMdir) (k : ℕ) → fetched.Found m k ≡ fetch_input prog p input
-      → fetched.Found m k ≡ fetches b0 b1
+  found_fetched : (m : LfsMdir) (k : ℕ) → Ok (fetched m k) ≡ fetch_input prog p input
+      → Ok (fetched m k) ≡ fetches b0 b1
   unfolding fetch_input
   found_fetched m k f = go (eqb (length input % 2) 1 || ltb 65_536 (length input)) f
     where
-      go : (x : Bool) → fetched.Found m k ≡ cond x (fetched.Refused Invalid) (fetches b0 b1)
-          → fetched.Found m k ≡ fetches b0 b1
+      go : (x : Bool) → Ok (fetched m k) ≡ cond x (Err Invalid) (fetches b0 b1)
+          → Ok (fetched m k) ≡ fetches b0 b1
       go true e = cc e
       go false e = e
 
   -- ---- the text, by what fetch answered; `shows` is what is said of a record and its block
   module _ (shows : LfsMdir → List ℕ → List ℕ) (s r : Text) where
-    pub shown_refused : (x : Refusal) → fetched.Refused x ≡ fetch_input prog p input → r ≡ puts_of s (refused_line x)
+    pub shown_refused : (x : Refusal) → Err x ≡ fetch_input prog p input → r ≡ puts_of s (refused_line x)
         → r ≡ puts_of s (shown_by shows)
     shown_refused x f er = rw (← f) er
 
-    shown_found : (m : LfsMdir) (k : ℕ) → fetched.Found m k ≡ fetch_input prog p input → (w : Bool)
+    shown_found : (m : LfsMdir) (k : ℕ) → Ok (fetched m k) ≡ fetch_input prog p input → (w : Bool)
         → is_second p.n0 m ≡ w → r ≡ puts_of s (shows m (block_at w b0 b1)) → r ≡ puts_of s (shown_by shows)
     shown_found m k f w e er = rw (← f, e) er
 
-  module _ (m : LfsMdir) (k : ℕ) (f : fetched.Found m k ≡ fetch_input prog p input) where
+  module _ (m : LfsMdir) (k : ℕ) (f : Ok (fetched m k) ≡ fetch_input prog p input) where
     listable : (w : Bool) → is_second p.n0 m ≡ w → Listable (block_at w b0 b1) m
     listable w e =
-        let found : fetched.Found m k ≡ fetches b0 b1 = found_fetched m k f in
+        let found : Ok (fetched m k) ≡ fetches b0 b1 = found_fetched m k f in
         let z = found_sized (input_geometry prog half) b0 b1 p.n0 p.n1 0 0 m k (sym found) in
         let a = found_reads (input_geometry prog half) b0 b1 p.n0 p.n1 0 0 m k (sym found) in
         let same : a.w ≡ w = sym a.place ∙ e in

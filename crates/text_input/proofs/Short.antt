@@ -1,7 +1,6 @@
 -- What every text is made of is short: numbers, names, a refusal, what a slot of a regular log holds. Assumes nothing.
 use mathlib.Core.Path.{◌≡◌, refl}
 use mathlib.Core.Bool.{Bool, true, false, not, cond}
-use mathlib.Core.Option.{Option, none, some}
 use mathlib.Core.List.{List, [], ◌∷◌, ◌++◌}
 use Prim.Native.Nat.{ℕ, zero, suc, ◌+◌, ◌*◌, ◌/◌, ◌^◌, ◌≤◌, ◌<◌}
 use native.Mathlib.Omega.{arith}
@@ -18,9 +17,9 @@ use Rattle.format.specs.declared.Refusal.TheVariants.{Invalid}
 use Rattle.format.specs.declared.LfsPair.{LfsPair}
 use Rattle.format.specs.declared.LfsMdir.{LfsMdir}
 use Rattle.format.specs.declared.Refusal.{Refusal}
-use Rattle.format.specs.declared.Fetched.{Fetched}
-use Rattle.format.specs.declared.Fetched.TheVariants as fetched
 use Rattle.theory.specs.Blocks.SlotItems.{OkSlot}
+use Rattle.std.specs.Prelude.{Err, Ok, Result, None, Option, Some}
+use Rattle.format.specs.declared.Fetched.{Fetched}
 
 -- ---- numbers and names
 pub decimal_short : (k n : ℕ) → length (decimal_in k n) ≤ k
@@ -72,15 +71,15 @@ refused_short r = omega (
 
 -- ---- what a slot holds
 abbrev pub Short : Option Load → Type 0
-Short none = Unit {0}
-Short (some v) = length v.bytes ≤ 1_022
+Short None = Unit {0}
+Short (Some v) = length v.bytes ≤ 1_022
 
 pub slot_loads : (s : Slot) → OkSlot s → (c : ℕ) → Short (s c)
 slot_loads s ok c = go (s c) refl
   where
     go : (o : Option Load) → s c ≡ o → Short o
-    go none e = tt
-    go (some v) e = omega (arith, (ok c v e).1)
+    go None e = tt
+    go (Some v) e = omega (arith, (ok c v e).1)
 
 -- a text that goes by a rule is short if it is
 pub ruled_short : (rules : ℕ) (text : List ℕ) → length text < 2 ^ 32 → length (ruled_text rules text) < 2 ^ 32
@@ -92,7 +91,7 @@ ruled_short rules text h = go (rules_fit rules)
 
 -- a text is short if what is said of each block is
 pub fetched_short : (shows : LfsMdir → List ℕ → List ℕ) → ((m : LfsMdir) (b : List ℕ) → length (shows m b) < 2 ^ 32)
-    → (p : LfsPair) (input : List ℕ) (f : Fetched) → length (fetched_text shows p input f) < 2 ^ 32
-fetched_short shows h p input (fetched.Refused r) = omega (arith, refused_short r)
-fetched_short shows h p input (fetched.Found m s) =
-    h m (block_at (is_second p.n0 m) (take (length input / 2) input) (drop (length input / 2) input))
+    → (p : LfsPair) (input : List ℕ) (f : Result Fetched Refusal) → length (fetched_text shows p input f) < 2 ^ 32
+fetched_short shows h p input (Err r) = omega (arith, refused_short r)
+fetched_short shows h p input (Ok f) =
+    h f.dir (block_at (is_second p.n0 f.dir) (take (length input / 2) input) (drop (length input / 2) input))

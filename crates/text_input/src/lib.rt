@@ -19,15 +19,15 @@ pub const INPUT_RULES: u32 = 0;
 
 // What fetch answers for both images, one behind the other: "block size is half the length, .. block count 0, seed 0;
 // an odd length or one above 65,536 is -22". The program size and the two block numbers are given.
-pub fn fetch_input(prog_size: u32, numbers: LfsPair, input: &[u8]) -> Fetched
+pub fn fetch_input(prog_size: u32, numbers: LfsPair, input: &[u8]) -> Result<Fetched, Refusal>
     ensures { result ≡ fetch_input prog_size numbers input.now }
 {
     let n = input.len();
     if n % 2 == 1 {
-        return Fetched::Refused(Refusal::Invalid);
+        return Err(Refusal::Invalid);
     }
     if 65_536 < n {
-        return Fetched::Refused(Refusal::Invalid);
+        return Err(Refusal::Invalid);
     }
     let half = n / 2;
     let g = Geometry {

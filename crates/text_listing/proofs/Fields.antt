@@ -1,6 +1,5 @@
 -- The fields that show an entry that was found: a name, a struct, a user attribute. Assumes nothing.
 use mathlib.Core.Path.{◌≡◌, refl, sym, ap, ◌∙◌}
-use mathlib.Core.Option.{Option}
 use mathlib.Core.List.{List, [], ◌∷◌, ◌++◌}
 use Prim.Native.Nat.{ℕ, ◌-◌}
 use native.Mathlib.Omega.{arith}
@@ -11,31 +10,30 @@ use Rattle.format.specs.Directory.{Load}
 use Rattle.format.specs.Listing.{ascii, decimal, hex_type, hex_bytes, name_bytes, number_line, name_fields}
 use Rattle.format.specs.Listing.{struct_fields, attr_data, attr_line}
 use Rattle.format.specs.declared.Found.{Found}
-use Rattle.format.specs.declared.Hit.{Hit}
-use Rattle.format.specs.declared.Hit.TheVariants as hit
 use Rattle.format.proofs.Searched.{hit_in, bytes_length, part, part_is}
 use Rattle.theory.specs.Lookup.ByMask.{holds, missing, there}
 use Rattle.text.specs.Put.{Text, puts_of}
 use Rattle.text.proofs.Joined.{puts_none, join}
+use Rattle.std.specs.Prelude.{None, Option, Some}
 
 -- ---- the fields that show what was found, h
-module _ (b : List ℕ) (h : Hit) (s : Text) where
-  pub name_missing : h ≡ hit.Nothing → (r : Text) → r ≡ puts_of s (ascii " - -")
+module _ (b : List ℕ) (h : Option Found) (s : Text) where
+  pub name_missing : h ≡ None → (r : Text) → r ≡ puts_of s (ascii " - -")
       → r ≡ puts_of s (name_fields (holds b h))
   unfolding name_fields
   name_missing q r er = er ∙ ap (λ (l : Option Load). puts_of s (name_fields l)) (missing b h q)
 
-  pub struct_missing : h ≡ hit.Nothing → (r : Text) → r ≡ puts_of s (ascii " - -\n")
+  pub struct_missing : h ≡ None → (r : Text) → r ≡ puts_of s (ascii " - -\n")
       → r ≡ puts_of s (struct_fields (holds b h))
   unfolding struct_fields
   struct_missing q r er = er ∙ ap (λ (l : Option Load). puts_of s (struct_fields l)) (missing b h q)
 
-  pub attr_missing : h ≡ hit.Nothing → (id : ℕ) → s ≡ puts_of s (attr_line id (holds b h))
+  pub attr_missing : h ≡ None → (id : ℕ) → s ≡ puts_of s (attr_line id (holds b h))
   unfolding attr_line
   attr_missing q id = puts_none s ∙ ap (λ (l : Option Load). puts_of s (attr_line id l)) (missing b h q)
 
   -- k is its type
-  module _ {e : Found} (q : h ≡ hit.Found e) (k : ℕ) (ek : k ≡ tag_type3 e.tag) where
+  module _ {e : Found} (q : h ≡ Some e) (k : ℕ) (ek : k ≡ tag_type3 e.tag) where
     abbrev K : ℕ
     K = tag_type3 e.tag
 

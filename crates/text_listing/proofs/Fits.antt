@@ -2,7 +2,6 @@
 -- nothing.
 use mathlib.Core.Path.{◌≡◌, refl}
 use mathlib.Core.Bool.{Bool, true, false, cond}
-use mathlib.Core.Option.{Option, none, some}
 use mathlib.Core.List.{List, [], ◌∷◌, ◌++◌}
 use Prim.Native.Nat.{ℕ, zero, suc, ◌*◌, ◌^◌, ◌≤◌, ◌<◌}
 use native.Mathlib.Omega.{arith}
@@ -25,6 +24,7 @@ use Rattle.theory.specs.Commit.Tested.{regular_loads}
 use Rattle.theory.proofs.Compact.AcceptedVerdict.{slots_few}
 use Rattle.text_input.proofs.Short.{decimal_short, name_length, number_short, refused_short, Short, slot_loads}
 use Rattle.text_input.proofs.Short.{ruled_short, fetched_short}
+use Rattle.std.specs.Prelude.{None, Option, Some}
 
 -- ---- numbers and bytes
 hex_length : (l : List ℕ) → length (hex_bytes l) ≤ 2 * length l
@@ -90,13 +90,13 @@ record_short m =
 -- ---- a slot whose loads are short
 name_fields_short : (o : Option Load) → Short o → length (name_fields o) ≤ 4_093
 unfolding name_fields
-name_fields_short none h = omega arith
-name_fields_short (some v) h = omega (arith, name_length v.bytes)
+name_fields_short None h = omega arith
+name_fields_short (Some v) h = omega (arith, name_length v.bytes)
 
 struct_fields_short : (o : Option Load) → length (struct_fields o) ≤ 16
 unfolding struct_fields
-struct_fields_short none = omega arith
-struct_fields_short (some v) = omega (arith, number_short (ascii " ") (length v.bytes))
+struct_fields_short None = omega arith
+struct_fields_short (Some v) = omega (arith, number_short (ascii " ") (length v.bytes))
 
 data_short : (l : List ℕ) → length l ≤ 1_022 → length (attr_data l) ≤ 2_044
 data_short [] h = omega arith
@@ -104,8 +104,8 @@ data_short (b ∷ l) h = omega (arith, hex_length (b ∷ l))
 
 attr_short : (id : ℕ) (o : Option Load) → Short o → length (attr_line id o) ≤ 2_070
 unfolding attr_line
-attr_short id none h = omega arith
-attr_short id (some v) h =
+attr_short id None h = omega arith
+attr_short id (Some v) h =
     let D : List ℕ = attr_data v.bytes ++ ascii "\n" in
     let T : List ℕ = ascii " " ++ (hex_type v.type ++ (ascii " " ++ D)) in
     omega (

@@ -1,7 +1,6 @@
 -- The loops over a slot's user attributes and over the slots: what is left to show, from where the text stands. Assumes
 -- nothing.
 use mathlib.Core.Path.{◌≡◌, refl, sym, ap, ap₂, ◌∙◌}
-use mathlib.Core.Option.{Option}
 use mathlib.Core.List.{List, [], ◌∷◌, ◌++◌, append_assoc}
 use Prim.Native.Nat.{ℕ, zero, suc, ◌+◌, ◌-◌, ◌^◌, ◌≤◌, ◌<◌}
 use native.Mathlib.Numerals.{add-one}
@@ -12,6 +11,7 @@ use Rattle.format.specs.Listing.{slot_text, slot_lines}
 use Rattle.text.specs.Put.{Text, puts_of}
 use Rattle.text.proofs.Joined.{puts_app, puts_none, join}
 use Rattle.text_input.proofs.Slots.{Shown}
+use Rattle.std.specs.Prelude.{Option}
 
 -- ---- one class more: a is where all classes end, r stands behind class c
 class_next : (c id : ℕ) (s : Slot) → c < classes → attr_lines (classes - c) c id s ≡ attr_line id (s c)

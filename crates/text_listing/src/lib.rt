@@ -17,19 +17,19 @@ ghost use Rattle.compact_slot.specs.Slots.{Slots, slot_in, AllInside};
 ghost use Rattle.text_input.specs.Input.{Listable};
 
 use format::types::LFS_BLOCK_NULL;
-use format::{Fetched, Hit, LfsMdir, LfsPair, Refusal};
+use format::{Fetched, LfsMdir, LfsPair, Refusal};
 use text_input::{INPUT_PAIR, INPUT_PROG_SIZE, INPUT_RULES};
 
 // The class of the first user attribute: a name and a struct come before.
 const ATTRIBUTES: usize = 2;
 
 // "id, name type, name, ..; a missing part prints `-` per field"
-pub fn name_fields(out: &mut [u8], at: u32, b: &[u8], name: Hit) -> u32
+pub fn name_fields(out: &mut [u8], at: u32, b: &[u8], name: Option<Found>) -> u32
     requires { HitIn (length b.now) name }
     ensures { text result out.new ≡ puts_of (text at out.old)
         (name_fields (holds b.now name)) }
 {
-    let Hit::Found(e) = name else {
+    let Some(e) = name else {
         return text::puts(out, at, b" - -");
     };
     let from = e.off as usize;
@@ -41,12 +41,12 @@ pub fn name_fields(out: &mut [u8], at: u32, b: &[u8], name: Hit) -> u32
 }
 
 // ".. struct type, struct length"
-fn struct_fields(out: &mut [u8], at: u32, b: &[u8], content: Hit) -> u32
+fn struct_fields(out: &mut [u8], at: u32, b: &[u8], content: Option<Found>) -> u32
     requires { HitIn (length b.now) content }
     ensures { text result out.new ≡ puts_of (text at out.old)
         (struct_fields (holds b.now content)) }
 {
-    let Hit::Found(e) = content else {
+    let Some(e) = content else {
         return text::puts(out, at, b" - -\n");
     };
     let n = text::puts(out, at, b" ");
@@ -65,12 +65,12 @@ fn attr_data(out: &mut [u8], at: u32, bytes: &[u8]) -> u32
 }
 
 // "Attr, behind its slot: id, type, data hex"; nothing where nothing was found.
-fn attr_line(out: &mut [u8], at: u32, b: &[u8], id: u32, attribute: Hit) -> u32
+fn attr_line(out: &mut [u8], at: u32, b: &[u8], id: u32, attribute: Option<Found>) -> u32
     requires { HitIn (length b.now) attribute }
     ensures { text result out.new ≡ puts_of (text at out.old)
         (attr_line id (holds b.now attribute)) }
 {
-    let Hit::Found(e) = attribute else {
+    let Some(e) = attribute else {
         return at;
     };
     let from = e.off as usize;
@@ -209,7 +209,7 @@ pub fn lfs_dir_list_as(
     }
     let half = input.len() / 2;
     match text_input::fetch_input(prog_size, numbers, input) {
-        Fetched::Refused(r) => text_input::refused(out, 0, r),
+        Err(r) => text_input::refused(out, 0, r),
         Fetched::Found(m, _) => {
             let pair = m.pair;
             if pair.n0 == numbers.n0 {

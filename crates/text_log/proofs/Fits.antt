@@ -21,10 +21,11 @@ use Rattle.format.specs.RawLog.{letters, cells, cut_data, data_line, data_lines,
 use Rattle.format.specs.RawLog.{check_text, stop_line, invalid_stop, check_stop, past_stop, stop_text, event_texts}
 use Rattle.format.specs.RawLog.{committed_line, block_log, answers_line, answer_line, is_shown, block_logs, raw_log_of}
 use Rattle.format.specs.declared.LfsPair.{LfsPair}
-use Rattle.format.specs.declared.Fetched.{Fetched}
-use Rattle.format.specs.declared.Fetched.TheVariants as fetched
 use Rattle.text_input.proofs.Short.{decimal_short, number_short, refused_short}
 use Rattle.text_log.proofs.PairShown.{shown_long}
+use Rattle.std.specs.Prelude.{Err, Ok, Result}
+use Rattle.format.specs.declared.Fetched.{Fetched}
+use Rattle.format.specs.declared.Refusal.{Refusal}
 
 -- the longer of two
 either : (x : Bool) (xs ys : List ℕ) (n : ℕ) → length xs ≤ n → length ys ≤ n → length (cond x xs ys) ≤ n
@@ -375,12 +376,12 @@ block_short full n b h =
           (both E C 353_900_000 26 v (committed_short (log_end (log b))))))),
     )
 
-answers_short : (f : Fetched) → length (answer_line f) ≤ 30
+answers_short : (f : Result Fetched Refusal) → length (answer_line f) ≤ 30
 unfolding answers_line
-answers_short (fetched.Refused r) = omega (arith, refused_short r)
-answers_short (fetched.Found m s) =
-    both (ascii "block ") (decimal m.pair.n0 ++ ascii " answers\n") 6 24 (omega arith)
-    (both (decimal m.pair.n0) (ascii " answers\n") 10 14 (decimal_short 10 m.pair.n0) (omega arith))
+answers_short (Err r) = omega (arith, refused_short r)
+answers_short (Ok f) =
+    both (ascii "block ") (decimal f.dir.pair.n0 ++ ascii " answers\n") 6 24 (omega arith)
+    (both (decimal f.dir.pair.n0) (ascii " answers\n") 10 14 (decimal_short 10 f.dir.pair.n0) (omega arith))
 
 blocks_short : (full : Bool) (p : LfsPair) (input : List ℕ) → length (cond (is_shown (length input))
     (block_logs full p input) []) ≤ 707_820_000

@@ -165,7 +165,7 @@ pub fn lfs_dir_log(
 {
     let n = block_logs(out, full, numbers, input);
     match text_input::fetch_input(prog_size, numbers, input) {
-        Fetched::Refused(r) => text_input::refused(out, n, r),
+        Err(r) => text_input::refused(out, n, r),
         Fetched::Found(m, _) => {
             let pair = m.pair;
             answers_line(out, n, pair.n0)

@@ -3,9 +3,9 @@
 // them. A refusal is shown as the listing shows one, behind the lines that were given before it.
 #![tactic(auto)]
 
-use format::{Altered, Geometry, LfsPair, Refusal};
+use format::{Geometry, LfsPair, Refusal};
 use std::io;
-use text_args::{Decimal, Request};
+use text_args::Request;
 
 // "at most 4,096": all that a call takes.
 const ALLOWANCE: u32 = 4_096;
@@ -42,7 +42,7 @@ fn show(
     let answer = tree.answer;
     let length = tree.length as usize;
     if text_print::whole(&mut rt.stdout(), &mut rt.stderr(), &text, length)? {
-        if let Altered::Refused(r) = answer {
+        if let Err(r) = answer {
             show_refusal(rt, r)?;
         }
     }
@@ -73,7 +73,7 @@ fn usage(rt: &HostRuntime) -> io::Result<()> {
 }
 
 fn main(rt: HostRuntime) -> io::Result<()> {
-    let Decimal::Is(block_size) = text_args::word(&rt, 1) else {
+    let Some(block_size) = text_args::word(&rt, 1) else {
         return usage(&rt);
     };
     match text_args::asked(&rt, 2, true) {

@@ -3,7 +3,6 @@
 use mathlib.Core.Path.{◌≡◌, refl, sym, ap, ◌∙◌}
 use mathlib.Core.Logic.{inl, inr}
 use mathlib.Core.Bool.{Bool, true, false, ◌&&◌}
-use mathlib.Core.Option.{Option, none, some}
 use mathlib.Core.List.{List, [], ◌∷◌, ◌++◌}
 use Prim.Native.Nat.{ℕ, ◌≤◌, ◌<◌}
 use native.Mathlib.Omega.{arith}
@@ -23,8 +22,6 @@ use Rattle.format.specs.Tree.{node_of, into_of, line_text}
 use Rattle.format.specs.TreeMachine.{hidden}
 use Rattle.format.specs.declared.LfsPair.{LfsPair}
 use Rattle.format.specs.declared.Found.{Found}
-use Rattle.format.specs.declared.Hit.{Hit}
-use Rattle.format.specs.declared.Hit.TheVariants as hit
 use Rattle.format.proofs.Searched.{hit_in}
 use Rattle.theory.specs.Lookup.ByMask.{holds, holds_as, Answers, missing, there}
 use Rattle.theory.proofs.Compact.AcceptedVerdict.{slots_few}
@@ -38,31 +35,32 @@ use Rattle.tree_pair.specs.Pair.{Slotted, load_at, Sees, NameSeen, node_at, line
 use Rattle.tree_pair.specs.Pair.{entry_text}
 use Rattle.tree_pair.specs.declared.Entry.{Entry}
 use Rattle.tree_pair.specs.declared.Entry.TheVariants as entry
+use Rattle.std.specs.Prelude.{None, Option, Some}
 
 pub hidden_is : (t k : ℕ) → k ≡ tag_type3 t → leb 0x080 k && ltb k 0x100 ≡ hidden (tag_type3 t)
 unfolding hidden
 hidden_is t k e = rw e
 
 -- what the search under 0x780 holds was found
-found_held : (b : List ℕ) (h : Hit) (v : Load) → holds_as (bytes_of b) h ≡ some v → (e : Found) × (h ≡ hit.Found e)
+found_held : (b : List ℕ) (h : Option Found) (v : Load) → holds_as (bytes_of b) h ≡ Some v → (e : Found) × (h ≡ Some e)
 unfolding holds_as
-found_held b hit.Nothing v q = absurd (let z : ◌≡◌ {A = ℕ} 0 1 = cc in omega arith)
-found_held b (hit.Found e) v q = (e, refl)
+found_held b None v q = absurd (let z : ◌≡◌ {A = ℕ} 0 1 = cc in omega arith)
+found_held b (Some e) v q = (e, refl)
 
 -- an entry without a name that is seen, or without a struct
-no_name : (b : List ℕ) (h1 : Hit) (v w : Option Load) → node_of (info_of b 255 hit.Nothing h1) v w ≡ []
+no_name : (b : List ℕ) (h1 : Option Found) (v w : Option Load) → node_of (info_of b 255 None h1) v w ≡ []
 unfolding node_of
-no_name b h1 none w = refl
-no_name b h1 (some v) none = refl
-no_name b h1 (some v) (some w) = refl
+no_name b h1 None w = refl
+no_name b h1 (Some v) None = refl
+no_name b h1 (Some v) (Some w) = refl
 
-no_struct : (b : List ℕ) (h0 h1 : Hit) (v : Option Load) → node_of (info_of b 255 h0 h1) v none ≡ []
+no_struct : (b : List ℕ) (h0 h1 : Option Found) (v : Option Load) → node_of (info_of b 255 h0 h1) v None ≡ []
 unfolding node_of
-no_struct b h0 h1 none = refl
-no_struct b h0 h1 (some v) = refl
+no_struct b h0 h1 None = refl
+no_struct b h0 h1 (Some v) = refl
 
 module _ (b : List ℕ) (end etag id : ℕ) (s : Slotted b end etag id) where
-  abbrev N : Hit
+  abbrev N : Option Found
   N = named_hit b end etag id
 
   pub search_fits : end ≤ length b
@@ -72,7 +70,7 @@ module _ (b : List ℕ) (end etag id : ℕ) (s : Slotted b end etag id) where
   few = omega (arith, s.low, slots_few b s.regularly.regular)
 
   -- ---- the name; h is what was found under 0x700
-  module _ (key : ℕ) (ek : key ≡ mk_tag 0x000 id 256) (h : Hit) (eh : h ≡ wlook true 0x700f_fc00 key 0 (back b end etag))
+  module _ (key : ℕ) (ek : key ≡ mk_tag 0x000 id 256) (h : Option Found) (eh : h ≡ wlook true 0x700f_fc00 key 0 (back b end etag))
     where
       key_is : key ≡ name_key id 255
       key_is = tag_made 0x000 id 256 key (omega arith) (omega (arith, few)) (omega arith) ek
@@ -83,11 +81,11 @@ module _ (b : List ℕ) (end etag id : ℕ) (s : Slotted b end etag id) where
       held : holds b h ≡ slot_at b id 0
       held = ap (holds b) newest ∙ (newest_held b end etag s.regularly id s.low).0
 
-      pub name_none : h ≡ hit.Nothing → NameSeen b N (slot_at b id 0) hit.Nothing
+      pub name_none : h ≡ None → NameSeen b N (slot_at b id 0) None
       name_none q = inl (sym held ∙ sym (missing b h q))
 
-      module _ (e : Found) (q : h ≡ hit.Found e) where
-        sees : (o : Found) → N ≡ hit.Found o → Sees b N (slot_at b id 0) e
+      module _ (e : Found) (q : h ≡ Some e) where
+        sees : (o : Found) → N ≡ Some o → Sees b N (slot_at b id 0) e
         sees o found = record {
           inside = hit_in (length b) (newest_hit b end etag id) (hit_inside b end etag s.regularly _ _) (sym newest
               ∙ q);
@@ -104,26 +102,26 @@ module _ (b : List ℕ) (end etag id : ℕ) (s : Slotted b end etag id) where
             sees f.0 f.1
 
         -- the second search, h2
-        module _ (h2 : Hit) (e2 : h2 ≡ wlook true 0x780f_fc00 key 0 (back b end etag)) where
+        module _ (h2 : Option Found) (e2 : h2 ≡ wlook true 0x780f_fc00 key 0 (back b end etag)) where
           under : h2 ≡ N
           unfolding tag_of
           under = e2 ∙ ap (λ k. wlook true 0x780f_fc00 k 0 (back b end etag)) key_is
 
-          pub name_unseen : h2 ≡ hit.Nothing → NameSeen b N (slot_at b id 0) hit.Nothing
+          pub name_unseen : h2 ≡ None → NameSeen b N (slot_at b id 0) None
           name_unseen p = inr (sym under ∙ p)
 
-          pub name_under : (o : Found) → h2 ≡ hit.Found o → Sees b N (slot_at b id 0) e
+          pub name_under : (o : Found) → h2 ≡ Some o → Sees b N (slot_at b id 0) e
           name_under o p = sees o (sym under ∙ p)
 
   -- ---- the entry; y is what `name_seen` answers
-  pub entry_unseen : (y : Hit) → NameSeen b N (slot_at b id 0) y → y ≡ hit.Nothing → node_at b end etag id ≡ []
+  pub entry_unseen : (y : Option Found) → NameSeen b N (slot_at b id 0) y → y ≡ None → node_at b end etag id ≡ []
   unfolding node_of
-  entry_unseen hit.Nothing (inl n) q = rw n
-  entry_unseen hit.Nothing (inr n) q = rw n (no_name b (struct_hit b end etag id) (slot_at b id 0) (slot_at b id 1))
-  entry_unseen (hit.Found e) n q = absurd (let z : ◌≡◌ {A = ℕ} 0 1 = cc in omega arith)
+  entry_unseen None (inl n) q = rw n
+  entry_unseen None (inr n) q = rw n (no_name b (struct_hit b end etag id) (slot_at b id 0) (slot_at b id 1))
+  entry_unseen (Some e) n q = absurd (let z : ◌≡◌ {A = ℕ} 0 1 = cc in omega arith)
 
   -- h is what was found of the struct
-  module _ (key : ℕ) (ek : key ≡ mk_tag 0x200 id 8) (h : Hit) (eh : h ≡ wlook true 0x700f_fc00 key 0 (back b end etag))
+  module _ (key : ℕ) (ek : key ≡ mk_tag 0x200 id 8) (h : Option Found) (eh : h ≡ wlook true 0x700f_fc00 key 0 (back b end etag))
     where
       struct_is : h ≡ struct_hit b end etag id
       unfolding tag_of
@@ -134,31 +132,31 @@ module _ (b : List ℕ) (end etag id : ℕ) (s : Slotted b end etag id) where
       content : holds b h ≡ slot_at b id 1
       content = ap (holds b) struct_is ∙ (struct_held b end etag s.regularly id s.low).0
 
-      pub entry_bare : h ≡ hit.Nothing → node_at b end etag id ≡ []
+      pub entry_bare : h ≡ None → node_at b end etag id ≡ []
       entry_bare q = rw (sym content ∙ sym (missing b h q))
           (no_struct b (named_hit b end etag id) (struct_hit b end etag id) (slot_at b id 0))
 
-      module _ (u : Found) (q : h ≡ hit.Found u) where
+      module _ (u : Found) (q : h ≡ Some u) where
         pub content_inside : FoundIn (length b) u
         content_inside = hit_in (length b) (struct_hit b end etag id) (hit_inside b end etag s.regularly _ _)
             (sym struct_is ∙ q)
 
-        answers : Answers id (hit.Found u)
+        answers : Answers id (Some u)
         answers = rw (sym struct_is ∙ q) at (struct_held b end etag s.regularly id s.low).1
 
         -- e is the name, y what `name_seen` answered
-        module _ (y : Hit) (e : Found) (n : NameSeen b N (slot_at b id 0) y) (z : y ≡ hit.Found e) where
+        module _ (y : Option Found) (e : Found) (n : NameSeen b N (slot_at b id 0) y) (z : y ≡ Some e) where
           seen : Sees b N (slot_at b id 0) e
           seen = rw z at n
 
           -- d is the buffer with the struct's eight bytes
-          module _ (d : List ℕ) (ed : d ≡ slice_buffer b 0 (blank_buffer 8) (hit.Found u)) where
+          module _ (d : List ℕ) (ed : d ≡ slice_buffer b 0 (blank_buffer 8) (Some u)) where
             both : node_at b end etag id
                 ≡ record { name = load_at b e; size = info_size u.tag d; into = into_of (load_at b u) } ∷ []
             both =
                 rw (seen.newest, sym content ∙ sym (there b h q), seen.found, sym struct_is ∙ q)
-                (node_both (read_answer b 256 (hit.Found seen.other)) (read_answer b 8 (hit.Found u))
-                (read_buffer b 256 (hit.Found seen.other)) (read_buffer b 8 (hit.Found u)) seen.other u (load_at b e)
+                (node_both (read_answer b 256 (Some seen.other)) (read_answer b 8 (Some u))
+                (read_buffer b 256 (Some seen.other)) (read_buffer b 8 (Some u)) seen.other u (load_at b e)
                 (load_at b u)
                 (read_found b 256 seen.other
                 (hit_in (length b) N (hit_inside b end etag s.regularly name_mask (name_key id 255)) seen.found))
@@ -169,7 +167,7 @@ module _ (b : List ℕ) (end etag id : ℕ) (s : Slotted b end etag id) where
             -- k is the struct's type
             module _ (k : ℕ) (kind : k ≡ tag_type3 u.tag) where
               pub entry_file : (k ≡ 0x200 → ⊥) → (size : ℕ) → size ≡ info_size u.tag d
-                  → Shows b e size none (node_at b end etag id)
+                  → Shows b e size None (node_at b end etag id)
               entry_file other size es = record {
                 inside = seen.inside;
                 is = both ∙ rw (ne_eqb (tag_type3 u.tag) type_dir_struct (λ p. other (kind ∙ p)), ← es);
@@ -180,7 +178,7 @@ module _ (b : List ℕ) (end etag id : ℕ) (s : Slotted b end etag id) where
                   ∙ padded_word (bytes_of b u) j l
 
               pub entry_dir : k ≡ 0x200 → (x y : ℕ) → x ≡ le32 (drop 0 d) → y ≡ le32 (drop 4 d)
-                  → Shows b e 0 (some (record { n0 = x; n1 = y })) (node_at b end etag id)
+                  → Shows b e 0 (Some (record { n0 = x; n1 = y })) (node_at b end etag id)
               entry_dir is x y ex ey = record {
                 inside = seen.inside;
                 is = both ∙ rw (sym kind ∙ is, ex ∙ word_read 0 (omega arith), ey ∙ word_read 4 (omega arith));
@@ -188,12 +186,12 @@ module _ (b : List ℕ) (end etag id : ℕ) (s : Slotted b end etag id) where
 
 -- ---- the line, part by part
 pub line_done : (b : List ℕ) (depth : ℕ) (name : Found) (size : ℕ) (s t1 t2 r : Text) → t1 ≡ puts_of s (decimal depth)
-    → t2 ≡ puts_of t1 (name_fields (holds b (hit.Found name))) → r ≡ puts_of t2 (number_line (ascii " ") size)
+    → t2 ≡ puts_of t1 (name_fields (holds b (Some name))) → r ≡ puts_of t2 (number_line (ascii " ") size)
     → r ≡ puts_of s (line_text (line_of depth (load_at b name) size))
 unfolding line_text holds
 line_done b depth name size s t1 t2 r e1 e2 er =
-    join s t1 r (decimal depth) (name_fields (some (load_at b name)) ++ number_line (ascii " ") size) e1
-    (join t1 t2 r (name_fields (some (load_at b name))) (number_line (ascii " ") size) e2 er)
+    join s t1 r (decimal depth) (name_fields (Some (load_at b name)) ++ number_line (ascii " ") size) e1
+    (join t1 t2 r (name_fields (Some (load_at b name))) (number_line (ascii " ") size) e2 er)
 
 -- ---- the line of an entry x, by what it is
 module _ (b : List ℕ) (depth : ℕ) (x : Entry) where

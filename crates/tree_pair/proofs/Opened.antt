@@ -15,22 +15,22 @@ use Rattle.format.specs.declared.Rules.{Rules}
 use Rattle.format.specs.declared.Rules.TheVariants.{Littlefs}
 use Rattle.format.specs.declared.Refusal.{Refusal}
 use Rattle.format.specs.declared.Refusal.TheVariants.{Irregular}
-use Rattle.format.specs.declared.Fetched.TheVariants as fetched
 use Rattle.format.proofs.Growing.{widest}
 use Rattle.theory.proofs.Compact.AcceptedVerdict.{slots_counted}
 use Rattle.commit_regular.specs.Ends.{CommittedTo}
 use Rattle.tree_theory.specs.InVolume.{there, number_inside, on_block, nodes_there}
 use Rattle.tree_pair.specs.Pair.{Opens}
 use Rattle.tree_pair.specs.declared.Dir.{Dir}
-use Rattle.tree_pair.specs.declared.Opening.TheVariants as opening
+use Rattle.std.specs.Prelude.{Err, Ok}
+use Rattle.format.specs.Record.{fetched}
 
 module _ (g : Geometry) (vol : List ℕ) (rules : ℕ) (p : LfsPair) where
-  pub open_refused : (r : Refusal) → fetched.Refused r ≡ fetch_in g vol p → open_in (rules_of rules) g vol p ≡ refused r
+  pub open_refused : (r : Refusal) → Err r ≡ fetch_in g vol p → open_in (rules_of rules) g vol p ≡ refused r
   unfolding open_in
   open_refused r f = rw (← f)
 
   -- fetch found the record m
-  module _ (m : LfsMdir) (s : ℕ) (f : fetched.Found m s ≡ fetch_in g vol p) where
+  module _ (m : LfsMdir) (s : ℕ) (f : Ok (fetched m s) ≡ fetch_in g vol p) where
     pub answers_inside : m.pair.n0 < blocks_in g vol
     answers_inside = number_inside g vol p m s (sym f)
 
@@ -62,7 +62,7 @@ module _ (g : Geometry) (vol : List ℕ) (rules : ℕ) (p : LfsPair) where
           tail = m.tail;
         }
 
-        pub open_regular : x ≡ true → Opens g vol (open_in (rules_of rules) g vol p) (opening.At dir)
+        pub open_regular : x ≡ true → Opens g vol (open_in (rules_of rules) g vol p) (Ok dir)
         unfolding open_in
         open_regular h =
             let is : Regular (rules_of rules) (log (block_in g vol m.pair.n0)) ≡ true = ruled ∙ h in

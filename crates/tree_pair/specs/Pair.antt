@@ -1,6 +1,5 @@
 -- What the walk's code keeps of a pair that it has opened, and of a slot. Assumes nothing.
-use Rattle.std.specs.Prelude.{◌≡◌, ◌⊎◌, cond, List, [], ◌∷◌, ℕ, ◌<◌, length}
-use Rattle.std.proofs.Math.Option.{Option, none, some}
+use Rattle.std.specs.Prelude.{◌≡◌, ◌⊎◌, cond, List, [], ◌∷◌, ℕ, ◌<◌, length, None, Option, Some, Err, Ok, Result}
 use Rattle.format.specs.Tag.{tag_type3}
 use Rattle.format.specs.Log.{log}
 use Rattle.format.specs.Look.{bytes_of, FoundIn}
@@ -11,14 +10,11 @@ use Rattle.format.specs.Tree as tree
 use Rattle.format.specs.declared.Geometry.{Geometry}
 use Rattle.format.specs.declared.LfsPair.{LfsPair}
 use Rattle.format.specs.declared.Found.{Found}
-use Rattle.format.specs.declared.Hit.{Hit}
-use Rattle.format.specs.declared.Hit.TheVariants as hit
 use Rattle.tree_theory.specs.OnBlock.{info_at, slot_at, Regularly}
 use Rattle.tree_pair.specs.declared.Dir.{Dir}
-use Rattle.tree_pair.specs.declared.Opening.{Opening}
-use Rattle.tree_pair.specs.declared.Opening.TheVariants as opening
 use Rattle.tree_pair.specs.declared.Entry.{Entry}
 use Rattle.tree_pair.specs.declared.Entry.TheVariants as entry
+use Rattle.format.specs.declared.Refusal.{Refusal}
 
 -- ---- the entries of a block whose log ends at `end` with the tag `etag`
 -- of a slot, if it has one
@@ -40,15 +36,15 @@ pub record Stands (g : Geometry) (vol : List ℕ) (d : Dir) : Type 0 where
   pub count' : d.count ≡ length (dir_of (log (block_in g vol d.block)))
 
 abbrev pub dir_tail : Dir → Option LfsPair
-dir_tail d = cond d.split (some d.tail) none
+dir_tail d = cond d.split (Some d.tail) None
 
 abbrev pub dir_nodes : Geometry → List ℕ → Dir → List tree.Node
 dir_nodes g vol d = nodes_at (block_in g vol d.block) d.end d.etag
 
 -- how the code says what stands at a pair
-abbrev pub Opens : Geometry → List ℕ → Opened → Opening → Type 0
-Opens g vol o (opening.Refused r) = o ≡ refused r
-Opens g vol o (opening.At d) = (o ≡ holding (dir_nodes g vol d) (dir_tail d)) × Stands g vol d
+abbrev pub Opens : Geometry → List ℕ → Opened → Result Dir Refusal → Type 0
+Opens g vol o (Err r) = o ≡ refused r
+Opens g vol o (Ok d) = (o ≡ holding (dir_nodes g vol d) (dir_tail d)) × Stands g vol d
 
 -- ---- an entry
 -- what an entry of the log holds that was found in the block
@@ -56,19 +52,19 @@ abbrev pub load_at : List ℕ → Found → Load
 load_at b e = record { type = tag_type3 e.tag; bytes = bytes_of b e }
 
 -- a name that `lfs_dir_getinfo` sees: the newest of the slot; or that there is none, or none that it sees
-pub record Sees (b : List ℕ) (seen : Hit) (name : Option Load) (e : Found) : Type 0 where
+pub record Sees (b : List ℕ) (seen : Option Found) (name : Option Load) (e : Found) : Type 0 where
   pub inside : FoundIn (length b) e
-  pub newest : name ≡ some (load_at b e)
+  pub newest : name ≡ Some (load_at b e)
   pub other : Found
-  pub found : seen ≡ hit.Found other
+  pub found : seen ≡ Some other
 
-abbrev pub NameSeen : List ℕ → Hit → Option Load → Hit → Type 0
-NameSeen b seen name hit.Nothing = (name ≡ none) ⊎ (seen ≡ hit.Nothing)
-NameSeen b seen name (hit.Found e) = Sees b seen name e
+abbrev pub NameSeen : List ℕ → Option Found → Option Load → Option Found → Type 0
+NameSeen b seen name None = (name ≡ None) ⊎ (seen ≡ None)
+NameSeen b seen name (Some e) = Sees b seen name e
 
 -- the line of an entry; the pair that it leads into does not show
 abbrev pub line_of : ℕ → Load → ℕ → Line
-line_of depth name size = record { depth = depth; node = record { name = name; size = size; into = none } }
+line_of depth name size = record { depth = depth; node = record { name = name; size = size; into = None } }
 
 -- how the code says what the slot's entry is
 pub record Shows (b : List ℕ) (e : Found) (size : ℕ) (into : Option LfsPair) (nodes : List tree.Node) : Type 0 where
@@ -77,8 +73,8 @@ pub record Shows (b : List ℕ) (e : Found) (size : ℕ) (into : Option LfsPair)
 
 abbrev pub EntryIs : List ℕ → List tree.Node → Entry → Type 0
 EntryIs b nodes entry.Nothing = nodes ≡ []
-EntryIs b nodes (entry.File e size) = Shows b e size none nodes
-EntryIs b nodes (entry.Dir e p) = Shows b e 0 (some p) nodes
+EntryIs b nodes (entry.File e size) = Shows b e size None nodes
+EntryIs b nodes (entry.Dir e p) = Shows b e 0 (Some p) nodes
 
 -- its name stands in the block, and its line
 abbrev pub EntryIn : ℕ → Entry → Type 0

@@ -16,7 +16,7 @@ ghost use Rattle.tree_pair.specs.Pair.{Opens, Slotted, NameSeen, node_at, EntryI
 ghost use Rattle.tree_pair.specs.Pair.{entry_text};
 
 use format::types::*;
-use format::{Fetched, Found, Geometry, Hit, LfsMdir, LfsPair, Refusal};
+use format::{Fetched, Found, Geometry, LfsMdir, LfsPair, Refusal};
 
 // A pair that was opened: its block that answers, where the log ends, how many slots it has, and its tail.
 #[derive(Clone, Copy)]
@@ -27,12 +27,6 @@ pub struct Dir {
     pub count: u32,
     pub split: bool,
     pub tail: LfsPair,
-}
-
-#[derive(Clone, Copy)]
-pub enum Opening {
-    At(Dir),
-    Refused(Refusal),
 }
 
 // The entry of a slot: its name, and a file's size or the pair that a directory begins at. Nothing where
@@ -51,21 +45,21 @@ const NEWEST: u32 = 0x700f_fc00;
 const SEEN: u32 = 0x780f_fc00;
 
 // "the fetch's own, -202": what stands at a pair.
-pub fn open_in(g: Geometry, vol: &[u8], rules: u32, pair: LfsPair) -> Opening
+pub fn open_in(g: Geometry, vol: &[u8], rules: u32, pair: LfsPair) -> Result<Dir, Refusal>
     requires { volume_fits g vol.now ≡ true }
     ensures { Opens g vol.now (open_in (rules_of rules) g vol.now pair) result }
 {
     let m = match volume::fetch_in(g, vol, pair) {
-        Fetched::Refused(r) => return Opening::Refused(r),
+        Err(r) => return Err(r),
         Fetched::Found(m, _) => m,
     };
     let numbers = m.pair;
     let tail = m.tail;
     let b = volume::block(g, vol, numbers.n0);
     if !commit_regular::log_regular(b, m.off as usize, commit_regular::rules_of(rules)) {
-        return Opening::Refused(Refusal::Irregular);
+        return Err(Refusal::Irregular);
     }
-    Opening::At(Dir {
+    Ok(Dir {
         block: numbers.n0,
         end: m.off,
         etag: m.etag,
@@ -85,22 +79,22 @@ fn is_hidden(tag: u32) -> bool
 
 // The newest name of a slot, if `lfs_dir_getinfo` sees one. It sees a newest name that is not hidden; under a hidden
 // one there may be another, which only a second search tells.
-fn name_seen(b: &[u8], end: u32, etag: u32, id: u32) -> Hit
+fn name_seen(b: &[u8], end: u32, etag: u32, id: u32) -> Option<Found>
     requires { Slotted b.now end etag id }
     ensures { NameSeen b.now (named_hit b.now end etag id) (slot_at b.now id 0)
         result }
 {
     let key = tag::lfs_mktag(LFS_TYPE_NAME as u32, id, 256);
-    let Hit::Found(name) = lookup_search::find_back(b, end, etag, NEWEST, key, 0) else {
-        return Hit::Nothing;
+    let Some(name) = lookup_search::find_back(b, end, etag, NEWEST, key, 0) else {
+        return None;
     };
     if !is_hidden(name.tag) {
-        return Hit::Found(name);
+        return Some(name);
     }
-    let Hit::Found(_) = lookup_search::find_back(b, end, etag, SEEN, key, 0) else {
-        return Hit::Nothing;
+    let Some(_) = lookup_search::find_back(b, end, etag, SEEN, key, 0) else {
+        return None;
     };
-    Hit::Found(name)
+    Some(name)
 }
 
 // The entry of a slot, from its name and its struct: a directory by its struct, "two block numbers, little-endian",
@@ -109,11 +103,11 @@ pub fn entry_of(b: &[u8], end: u32, etag: u32, id: u32) -> Entry
     requires { Slotted b.now end etag id }
     ensures { EntryIs b.now (node_at b.now end etag id) result }
 {
-    let Hit::Found(name) = name_seen(b, end, etag, id) else {
+    let Some(name) = name_seen(b, end, etag, id) else {
         return Entry::Nothing;
     };
     let key = tag::lfs_mktag(LFS_TYPE_STRUCT as u32, id, 8);
-    let Hit::Found(content) = lookup_search::find_back(b, end, etag, NEWEST, key, 0) else {
+    let Some(content) = lookup_search::find_back(b, end, etag, NEWEST, key, 0) else {
         return Entry::Nothing;
     };
     let mut s = [0u8; 8];
@@ -137,7 +131,7 @@ fn line(out: &mut [u8], at: u32, b: &[u8], depth: u32, name: Found, size: u32) -
         (line_text (line_of depth (load_at b.now name) size)) }
 {
     let n = text::decimal(out, at, depth);
-    let n = text_listing::name_fields(out, n, b, Hit::Found(name));
+    let n = text_listing::name_fields(out, n, b, Some(name));
     text::number_line(out, n, b" ", size)
 }
 

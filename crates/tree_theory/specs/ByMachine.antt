@@ -1,7 +1,6 @@
 -- What the walk finds at a pair is what its machine shows, where no hidden name covers another. Assumes nothing.
-use Rattle.std.specs.Prelude.{◌≡◌, refl, Bool, true, false, cond, List, [], ◌∷◌, ◌++◌, ℕ, suc, ◌+◌, ◌<◌, length, get_or}
+use Rattle.std.specs.Prelude.{◌≡◌, refl, Bool, true, false, cond, List, [], ◌∷◌, ◌++◌, ℕ, suc, ◌+◌, ◌<◌, length, get_or, None, Ok, Option, Result, Some}
 use Rattle.std.proofs.Common.{sym, ap, ap₂, ◌∙◌, zero-add, arith}
-use Rattle.std.proofs.Math.Option.{Option, none, some}
 use Rattle.format.specs.Log.{log}
 use Rattle.format.specs.Lookup.{name_mask, name_key, struct_mask, struct_key}
 use Rattle.format.specs.Directory.{Load, Slot, empty, dir_of}
@@ -14,32 +13,33 @@ use Rattle.format.specs.declared.Geometry.{Geometry}
 use Rattle.format.specs.declared.LfsPair.{LfsPair}
 use Rattle.format.specs.declared.LfsMdir.{LfsMdir}
 use Rattle.format.specs.declared.Rules.{Rules}
-use Rattle.format.specs.declared.Informed.{Informed}
-use Rattle.format.specs.declared.Fetched.TheVariants.{Found}
 use Rattle.format.proofs.Growing.{widest}
 use Rattle.tree_theory.specs.Covered.{visible}
 use Rattle.tree_theory.specs.Nodes.{node_seen, node_seen_lem}
 use Rattle.tree_theory.specs.OnBlock.{named_hit, struct_hit, info_at, slot_at, Regularly, hit_inside, struct_held}
 use Rattle.tree_theory.specs.OnBlock.{named_visible}
 use Rattle.tree_theory.specs.InVolume.{answering, there, on_block, nodes_there}
+use Rattle.format.specs.declared.LfsInfo.{LfsInfo}
+use Rattle.format.specs.declared.Refusal.{Refusal}
+use Rattle.format.specs.Record.{fetched}
 
 seen_slot : (v w : Option Load) → node_seen (visible v) v w ≡ slot_node v w
 unfolding node_seen slot_node
-seen_slot none w = refl
-seen_slot (some v) none = go (hidden v.type)
+seen_slot None w = refl
+seen_slot (Some v) None = go (hidden v.type)
   where
-    go : (b : Bool) → node_seen (cond b none (some v)) (some v) none ≡ []
+    go : (b : Bool) → node_seen (cond b None (Some v)) (Some v) None ≡ []
     go true = refl
     go false = refl
-seen_slot (some v) (some w) = go (hidden v.type)
+seen_slot (Some v) (Some w) = go (hidden v.type)
   where
-    go : (b : Bool) → node_seen (cond b none (some v)) (some v) (some w)
-        ≡ cond b [] (node_seen (some v) (some v) (some w))
+    go : (b : Bool) → node_seen (cond b None (Some v)) (Some v) (Some w)
+        ≡ cond b [] (node_seen (Some v) (Some v) (Some w))
     go true = refl
     go false = refl
 
 -- ---- the entries of a block, slot by slot
-nodes_each : (info : ℕ → Informed) (D : List Slot) (id : ℕ)
+nodes_each : (info : ℕ → Result LfsInfo Refusal) (D : List Slot) (id : ℕ)
     → ((k : ℕ) → k < length D → node_of (info (id + k)) (get_or D k empty 0) (get_or D k empty 1)
     ≡ slot_node (get_or D k empty 0) (get_or D k empty 1)) → nodes_from info id D ≡ slot_nodes D
 unfolding nodes_from slot_nodes
@@ -66,7 +66,7 @@ module _ (b : List ℕ) (end etag : ℕ) (w : Regularly b end etag) (u : uncover
   block_shows = nodes_each (info_at b end etag) (dir_of (log b)) 0 (λ k low. rw (zero-add k) (slot_shows k low))
 
 -- ---- THE LAW
-module _ (g : Geometry) (vol : List ℕ) (p : LfsPair) (m : LfsMdir) (s : ℕ) (f : fetch_in g vol p ≡ Found m s)
+module _ (g : Geometry) (vol : List ℕ) (p : LfsPair) (m : LfsMdir) (s : ℕ) (f : fetch_in g vol p ≡ Ok (fetched m s))
     (r : Rules) (ruled : Regular r (log (answering g vol p m s f)) ≡ true) where
   abbrev b : List ℕ
   b = answering g vol p m s f
@@ -77,5 +77,5 @@ module _ (g : Geometry) (vol : List ℕ) (p : LfsPair) (m : LfsMdir) (s : ℕ) (
       let t = there g vol p m s f in
       let k = on_block g vol p m s f (widest r (log b) ruled) in
       rw (f, ruled, nodes_there g vol p m s f (widest r (log b) ruled), block_shows b m.off m.etag k u)
-      (ap₂ (λ (x : Bool) (q : LfsPair). holding (slot_nodes (dir_of (log b))) (cond x (some q) none)) t.split'
+      (ap₂ (λ (x : Bool) (q : LfsPair). holding (slot_nodes (dir_of (log b))) (cond x (Some q) None)) t.split'
       t.tail')

@@ -1,11 +1,10 @@
 -- The names that `lfs_dir_getinfo` sees, by the directory machine: of a slot whose newest name is hidden it sees an
 -- older one, if there is any. So a superblock's name may cover another; where none does, it sees the newest name or
 -- none. Assumes nothing.
-use Rattle.std.specs.Prelude.{◌≡◌, ◌≢◌, Bool, not, cond, ◌&&◌, List, [], ◌∷◌, map, ℕ, suc, ◌+◌, ◌-◌, ◌≤◌, ◌<◌, length, get_or, eqb, leb}
+use Rattle.std.specs.Prelude.{◌≡◌, ◌≢◌, Bool, not, cond, ◌&&◌, List, [], ◌∷◌, map, ℕ, suc, ◌+◌, ◌-◌, ◌≤◌, ◌<◌, length, get_or, eqb, leb, None, Option, Some}
 use Rattle.std.proofs.Math.Path.{refl}
 use Rattle.std.proofs.Common.{sym, ap, ◌∙◌, inl, arith, length-append, length-take, length-drop, eqb-true, leb-true, leb-false}
 use Rattle.std.proofs.Math.Bool.{true, false}
-use Rattle.std.proofs.Math.Option.{Option, none, some}
 use Rattle.std.proofs.lemmas.Bool.{eqb-false}
 use Rattle.format.specs.Directory.{Load, Slot, Act, mk, rm, put, skip, empty, apply, dir}
 use Rattle.format.specs.TreeMachine.{hidden, named, uncovered_in}
@@ -19,9 +18,9 @@ use Rattle.theory.specs.Lookup.Masks.{and_no}
 unfoldable pub veiled : Act → Act
 veiled (mk j) = mk j
 veiled (rm j) = rm j
-veiled (put j c none) = put j c none
-veiled (put j c (some v)) = cond (hidden v.type) (put j 257 (some (record { type = 0x3ff; bytes = v.bytes })))
-    (put j c (some v))
+veiled (put j c None) = put j c None
+veiled (put j c (Some v)) = cond (hidden v.type) (put j 257 (Some (record { type = 0x3ff; bytes = v.bytes })))
+    (put j c (Some v))
 veiled skip = skip
 
 -- it does to the number of slots what it did
@@ -31,15 +30,15 @@ length_veiled D E (mk j) h =
     simp (length-append, length-take, length-drop) (omega arith)
 length_veiled D E (rm j) h =
     simp (length-append, length-take, length-drop) (omega arith)
-length_veiled D E (put j c none) h = length_put D j c none ∙ omega (arith, length_put E j c none)
-length_veiled D E (put j c (some v)) h = go (hidden v.type)
+length_veiled D E (put j c None) h = length_put D j c None ∙ omega (arith, length_put E j c None)
+length_veiled D E (put j c (Some v)) h = go (hidden v.type)
   where
     go : (b : Bool)
-        → length (apply D (cond b (put j 257 (some (record { type = 0x3ff; bytes = v.bytes }))) (put j c (some v))))
-        ≡ length (apply E (put j c (some v)))
-    go true = length_put D j 257 (some (record { type = 0x3ff; bytes = v.bytes }))
-        ∙ omega (arith, length_put E j c (some v))
-    go false = length_put D j c (some v) ∙ omega (arith, length_put E j c (some v))
+        → length (apply D (cond b (put j 257 (Some (record { type = 0x3ff; bytes = v.bytes }))) (put j c (Some v))))
+        ≡ length (apply E (put j c (Some v)))
+    go true = length_put D j 257 (Some (record { type = 0x3ff; bytes = v.bytes }))
+        ∙ omega (arith, length_put E j c (Some v))
+    go false = length_put D j c (Some v) ∙ omega (arith, length_put E j c (Some v))
 length_veiled D E skip h = h
 
 pub dir_veiled : (l : List Act) → length (dir (map veiled l)) ≡ length (dir l)
@@ -53,11 +52,11 @@ module _ (g : Bool) where
   unfolding veiled
   behind_veiled h (mk j) = refl
   behind_veiled h (rm j) = refl
-  behind_veiled h (put j c none) = refl
-  behind_veiled h (put j c (some v)) = go (hidden v.type)
+  behind_veiled h (put j c None) = refl
+  behind_veiled h (put j c (Some v)) = go (hidden v.type)
     where
       go : (b : Bool)
-          → grows_behind h (cond b (put j 257 (some (record { type = 0x3ff; bytes = v.bytes }))) (put j c (some v))) ≡ h
+          → grows_behind h (cond b (put j 257 (Some (record { type = 0x3ff; bytes = v.bytes }))) (put j c (Some v))) ≡ h
       go true = refl
       go false = refl
   behind_veiled h skip = refl
@@ -71,11 +70,11 @@ module _ (g : Bool) where
   unfolding veiled
   allowed_one h (mk j) n k = k
   allowed_one h (rm j) n k = k
-  allowed_one h (put j c none) n k = k
-  allowed_one h (put j c (some v)) n k = go (hidden v.type)
+  allowed_one h (put j c None) n k = k
+  allowed_one h (put j c (Some v)) n k = go (hidden v.type)
     where
       go : (b : Bool)
-          → Allowed h (cond b (put j 257 (some (record { type = 0x3ff; bytes = v.bytes }))) (put j c (some v))) n
+          → Allowed h (cond b (put j 257 (Some (record { type = 0x3ff; bytes = v.bytes }))) (put j c (Some v))) n
       go true = k
       go false = k
   allowed_one h skip n k = k
@@ -98,8 +97,8 @@ few_veiled (a ∷ l) h = (rw (dir_veiled l) h.0, few_veiled l h.1)
 abbrev pub Kept : Act → Type 0
 Kept (mk j) = Unit {0}
 Kept (rm j) = Unit {0}
-Kept (put j c none) = c ≢ 0
-Kept (put j c (some v)) = Unit {0}
+Kept (put j c None) = c ≢ 0
+Kept (put j c (Some v)) = Unit {0}
 Kept skip = Unit {0}
 
 abbrev pub AllKept : List Act → Type 0
@@ -109,38 +108,38 @@ AllKept (a ∷ l) = Kept a × AllKept l
 -- ---- the name that is seen
 -- of a newest name
 abbrev pub visible : Option Load → Option Load
-visible none = none
-visible (some v) = cond (hidden v.type) none (some v)
+visible None = None
+visible (Some v) = cond (hidden v.type) None (Some v)
 
 -- a newest name that is not hidden is seen, whatever stands under it
-pub find_visible : (l : List Act) (i : ℕ) (v : Load) → find 0 i l ≡ some v → hidden v.type ≡ false
-    → find 0 i (map veiled l) ≡ some v
+pub find_visible : (l : List Act) (i : ℕ) (v : Load) → find 0 i l ≡ Some v → hidden v.type ≡ false
+    → find 0 i (map veiled l) ≡ Some v
 unfolding find veiled
 find_visible [] i v e h = e
 find_visible (mk j ∷ l) i v e h = go (leb j i) (eqb j i) e (λ k q. find_visible l k v q h)
   where
-    go : (b c : Bool) → cond b (cond {A = Option Load} c none (find 0 (i - 1) l)) (find 0 i l) ≡ some v
-        → ((k : ℕ) → find 0 k l ≡ some v → find 0 k (map veiled l) ≡ some v)
-        → cond b (cond {A = Option Load} c none (find 0 (i - 1) (map veiled l))) (find 0 i (map veiled l)) ≡ some v
+    go : (b c : Bool) → cond b (cond {A = Option Load} c None (find 0 (i - 1) l)) (find 0 i l) ≡ Some v
+        → ((k : ℕ) → find 0 k l ≡ Some v → find 0 k (map veiled l) ≡ Some v)
+        → cond b (cond {A = Option Load} c None (find 0 (i - 1) (map veiled l))) (find 0 i (map veiled l)) ≡ Some v
     go true true q ih = q
     go true false q ih = ih (i - 1) q
     go false c q ih = ih i q
 find_visible (rm j ∷ l) i v e h = go (leb j i) e (λ k q. find_visible l k v q h)
   where
-    go : (b : Bool) → cond b (find 0 (i + 1) l) (find 0 i l) ≡ some v
-        → ((k : ℕ) → find 0 k l ≡ some v → find 0 k (map veiled l) ≡ some v)
-        → cond b (find 0 (i + 1) (map veiled l)) (find 0 i (map veiled l)) ≡ some v
+    go : (b : Bool) → cond b (find 0 (i + 1) l) (find 0 i l) ≡ Some v
+        → ((k : ℕ) → find 0 k l ≡ Some v → find 0 k (map veiled l) ≡ Some v)
+        → cond b (find 0 (i + 1) (map veiled l)) (find 0 i (map veiled l)) ≡ Some v
     go true q ih = ih (i + 1) q
     go false q ih = ih i q
-find_visible (put j c none ∷ l) i v e h = go (eqb j i && eqb 0 c) e (λ q. find_visible l i v q h)
+find_visible (put j c None ∷ l) i v e h = go (eqb j i && eqb 0 c) e (λ q. find_visible l i v q h)
   where
-    go : (b : Bool) → cond b none (find 0 i l) ≡ some v → (find 0 i l ≡ some v → find 0 i (map veiled l) ≡ some v)
-        → cond b none (find 0 i (map veiled l)) ≡ some v
+    go : (b : Bool) → cond b None (find 0 i l) ≡ Some v → (find 0 i l ≡ Some v → find 0 i (map veiled l) ≡ Some v)
+        → cond b None (find 0 i (map veiled l)) ≡ Some v
     go true q ih = q
     go false q ih = ih q
-find_visible (put j c (some u) ∷ l) i v e h = go (hidden u.type) refl (λ q. find_visible l i v q h)
+find_visible (put j c (Some u) ∷ l) i v e h = go (hidden u.type) refl (λ q. find_visible l i v q h)
   where
-    under : (b : Bool) → hidden u.type ≡ true → cond b (some u) (find 0 i l) ≡ some v → find 0 i l ≡ some v
+    under : (b : Bool) → hidden u.type ≡ true → cond b (Some u) (find 0 i l) ≡ Some v → find 0 i l ≡ Some v
     under true eb q = absurd (
         let same : u ≡ v = cc in
         let z : true ≡ false = sym eb ∙ ap (λ (w : Load). hidden w.type) same ∙ h in
@@ -149,26 +148,26 @@ find_visible (put j c (some u) ∷ l) i v e h = go (hidden u.type) refl (λ q. f
         )
     under false eb q = q
 
-    there : (b : Bool) → cond b (some u) (find 0 i l) ≡ some v
-        → (find 0 i l ≡ some v → find 0 i (map veiled l) ≡ some v)
-        → cond b (some u) (find 0 i (map veiled l)) ≡ some v
+    there : (b : Bool) → cond b (Some u) (find 0 i l) ≡ Some v
+        → (find 0 i l ≡ Some v → find 0 i (map veiled l) ≡ Some v)
+        → cond b (Some u) (find 0 i (map veiled l)) ≡ Some v
     there true q ih = q
     there false q ih = ih q
 
-    go : (b : Bool) → hidden u.type ≡ b → (find 0 i l ≡ some v → find 0 i (map veiled l) ≡ some v)
-        → find 0 i (cond b (put j 257 (some (record { type = 0x3ff; bytes = u.bytes }))) (put j c (some u))
-        ∷ map veiled l) ≡ some v
+    go : (b : Bool) → hidden u.type ≡ b → (find 0 i l ≡ Some v → find 0 i (map veiled l) ≡ Some v)
+        → find 0 i (cond b (put j 257 (Some (record { type = 0x3ff; bytes = u.bytes }))) (put j c (Some u))
+        ∷ map veiled l) ≡ Some v
     go true eb ih = rw (and_no (eqb j i)) (ih (under (eqb j i && eqb 0 c) eb e))
     go false eb ih = there (eqb j i && eqb 0 c) e ih
 find_visible (skip ∷ l) i v e h = find_visible l i v e h
 
 -- Where no hidden name covers another, the newest name is seen or none is.
-covers : (o : Option Load) → named o ≡ false → visible o ≡ none
+covers : (o : Option Load) → named o ≡ false → visible o ≡ None
 unfolding named
-covers none h = refl
-covers (some w) h = go (hidden w.type) h
+covers None h = refl
+covers (Some w) h = go (hidden w.type) h
   where
-    go : (b : Bool) → not b ≡ false → cond b none (some w) ≡ none
+    go : (b : Bool) → not b ≡ false → cond b None (Some w) ≡ None
     go true e = refl
     go false e = absurd (let n : ◌≡◌ {A = ℕ} 0 1 = cc in omega arith)
 
@@ -191,8 +190,8 @@ find_uncovered g (mk j ∷ l) i r h u = go (leb j i) refl (eqb j i) refl (λ k q
 
     go : (b : Bool) → leb j i ≡ b → (c : Bool) → eqb j i ≡ c
         → ((k : ℕ) → k < length D → find 0 k (map veiled l) ≡ visible (find 0 k l))
-        → cond b (cond {A = Option Load} c none (find 0 (i - 1) (map veiled l))) (find 0 i (map veiled l))
-        ≡ visible (cond b (cond {A = Option Load} c none (find 0 (i - 1) l)) (find 0 i l))
+        → cond b (cond {A = Option Load} c None (find 0 (i - 1) (map veiled l))) (find 0 i (map veiled l))
+        ≡ visible (cond b (cond {A = Option Load} c None (find 0 (i - 1) l)) (find 0 i l))
     go true eb true ec ih = refl
     go true eb false ec ih =
         let le : j ≤ i = leb-true j i eb in
@@ -212,14 +211,14 @@ find_uncovered g (rm j ∷ l) i r h u = go (leb j i) refl (λ k q. find_uncovere
         ≡ visible (cond b (find 0 (i + 1) l) (find 0 i l))
     go true eb ih = ih (i + 1) (omega (arith, low))
     go false eb ih = ih i (omega (arith, low))
-find_uncovered g (put j c none ∷ l) i r h u =
-    go (eqb j i && eqb 0 c) (find_uncovered g l i r.1 (inside_put g l i j c none r.0 h) u)
+find_uncovered g (put j c None ∷ l) i r h u =
+    go (eqb j i && eqb 0 c) (find_uncovered g l i r.1 (inside_put g l i j c None r.0 h) u)
   where
     go : (b : Bool) → find 0 i (map veiled l) ≡ visible (find 0 i l)
-        → cond b none (find 0 i (map veiled l)) ≡ visible (cond b none (find 0 i l))
+        → cond b None (find 0 i (map veiled l)) ≡ visible (cond b None (find 0 i l))
     go true ih = refl
     go false ih = ih
-find_uncovered g (put j c (some v) ∷ l) i r h u =
+find_uncovered g (put j c (Some v) ∷ l) i r h u =
     go (hidden v.type) refl (eqb j i && eqb 0 c) refl
     (find_uncovered g l i r.1 inner parts.1)
   where
@@ -227,11 +226,11 @@ find_uncovered g (put j c (some v) ∷ l) i r h u =
     parts = both_true (not (hidden v.type && named (get_or (dir l) j empty 0))) (uncovered_in l) u
 
     inner : Inside g i l
-    inner = inside_put g l i j c (some v) r.0 h
+    inner = inside_put g l i j c (Some v) r.0 h
 
     -- the name under a hidden one is none that is seen
     under : hidden v.type ≡ true → eqb j i && eqb 0 c ≡ true → find 0 i (map veiled l) ≡ visible (find 0 i l)
-        → find 0 i (map veiled l) ≡ none
+        → find 0 i (map veiled l) ≡ None
     under e q ih =
         let n : named (get_or (dir l) j empty 0) ≡ false
         = either_way (hidden v.type) (named (get_or (dir l) j empty 0)) parts.0 e in
@@ -241,8 +240,8 @@ find_uncovered g (put j c (some v) ∷ l) i r h u =
 
     go : (b : Bool) → hidden v.type ≡ b → (x : Bool) → eqb j i && eqb 0 c ≡ x
         → find 0 i (map veiled l) ≡ visible (find 0 i l)
-        → find 0 i (cond b (put j 257 (some (record { type = 0x3ff; bytes = v.bytes }))) (put j c (some v))
-        ∷ map veiled l) ≡ visible (cond x (some v) (find 0 i l))
+        → find 0 i (cond b (put j 257 (Some (record { type = 0x3ff; bytes = v.bytes }))) (put j c (Some v))
+        ∷ map veiled l) ≡ visible (cond x (Some v) (find 0 i l))
     go true eb true ex ih = rw (and_no (eqb j i), eb) (under eb ex ih)
     go true eb false ex ih = rw (and_no (eqb j i)) ih
     go false eb true ex ih = rw (ex, eb)

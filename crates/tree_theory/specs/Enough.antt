@@ -1,6 +1,6 @@
 -- The number n of `dir_walk` decides nothing: with every one above the allowance the walk is the same, and it leaves no
 -- more than it was given. Assumes nothing.
-use Rattle.std.specs.Prelude.{◌≡◌, Bool, ltb}
+use Rattle.std.specs.Prelude.{◌≡◌, Bool, ltb, Err, Ok, Result}
 use Rattle.std.proofs.Math.Path.{refl, ap}
 use Rattle.std.proofs.Common.{◌∙◌, arith}
 use Rattle.std.proofs.Math.Bool.{true, false, cond}
@@ -10,9 +10,8 @@ use borrow.Author.Tests.{eqb-false}
 use Rattle.format.specs.Tree.{Opened, Walk, stopped, behind, and_then, walk_opened, deepest, dir_walk}
 use Rattle.format.specs.declared.LfsPair.{LfsPair}
 use Rattle.format.specs.declared.Refusal.TheVariants.{Spent, TooDeep}
-use Rattle.format.specs.declared.Altered.{Altered}
-use Rattle.format.specs.declared.Altered.TheVariants.{Done, Refused}
 use Rattle.tree_theory.specs.Walks.{Any, any_named, Related, opened_alike}
+use Rattle.format.specs.declared.Refusal.{Refusal}
 
 -- the same walk, which leaves at most K
 abbrev Within : ℕ → Walk → Walk → Type 0
@@ -25,10 +24,10 @@ then_within : (K : ℕ) (w : Walk) (f h : ℕ → Walk) → w.left ≤ K → ((a
     → Within K (and_then w f) (and_then w h)
 then_within K w f h low next = go w.answer (next w.left w.left (refl, low))
   where
-    go : (x : Altered) → Within K (f w.left) (h w.left)
+    go : (x : Result Unit Refusal) → Within K (f w.left) (h w.left)
         → Within K (behind x w (f w.left)) (behind x w (h w.left))
-    go Done k = (ap (behind Done w) k.0, k.1)
-    go (Refused r) k = (refl, low)
+    go (Ok x) k = (ap (behind (Ok tt) w) k.0, k.1)
+    go (Err r) k = (refl, low)
 
 within : (K : ℕ) → Related (Below K) (Within K)
 within K =

@@ -1,6 +1,6 @@
 -- A pair that is fetched in a volume: the block that its record names first is the one that answers, and the record
 -- passes the lookups' own test. Assumes nothing.
-use Rattle.std.specs.Prelude.{◌≡◌, ◌≢◌, Bool, true, false, not, cond, ◌&&◌, ◌||◌, List, [], ◌∷◌, ◌++◌, ℕ, suc, ◌+◌, ◌≤◌, ◌<◌, eqb}
+use Rattle.std.specs.Prelude.{◌≡◌, ◌≢◌, Bool, true, false, not, cond, ◌&&◌, ◌||◌, List, [], ◌∷◌, ◌++◌, ℕ, suc, ◌+◌, ◌≤◌, ◌<◌, eqb, Ok, Result}
 use Rattle.std.proofs.Math.Path.{refl, ap}
 use Rattle.std.proofs.Common.{sym, ap₂, ◌∙◌, arith}
 use Rattle.std.proofs.Math.ListN.{length}
@@ -23,25 +23,26 @@ use Rattle.format.specs.declared.LfsPair.{LfsPair}
 use Rattle.format.specs.declared.LfsMdir.{LfsMdir}
 use Rattle.format.specs.declared.Refusal.TheVariants.{Invalid, Corrupt}
 use Rattle.format.specs.declared.Rules.TheVariants.{Littlefs}
-use Rattle.format.specs.declared.Informed.{Informed}
-use Rattle.format.specs.declared.Fetched.TheVariants.{Found}
 use Rattle.theory.proofs.Compact.AcceptedVerdict.{slots_few}
 use Rattle.theory.specs.Fetch.FoundRecord.{past_test}
 use Rattle.theory.specs.Fetch.FoundBlock.{found_sized, found_reads}
 use Rattle.theory.specs.Fetch.Places.{block_length}
 use Rattle.theory.proofs.Stopped.Shown.{found_tested, block_is}
 use Rattle.tree_theory.specs.OnBlock.{info_at, Regularly, end_inside}
+use Rattle.format.specs.declared.LfsInfo.{LfsInfo}
+use Rattle.format.specs.declared.Refusal.{Refusal}
+use Rattle.format.specs.Record.{fetched}
 
 -- the same infos below a number give the same entries
-nodes_same : (info other : ℕ → Informed) (D : List Slot) (id : ℕ) → ((k : ℕ) → k < id + length D → info k ≡ other k)
+nodes_same : (info other : ℕ → Result LfsInfo Refusal) (D : List Slot) (id : ℕ) → ((k : ℕ) → k < id + length D → info k ≡ other k)
     → nodes_from info id D ≡ nodes_from other id D
 unfolding nodes_from
 nodes_same info other [] id h = refl
 nodes_same info other (s ∷ D) id h =
-    ap₂ (λ (x : Informed) (l : List Node). node_of x (s 0) (s 1) ++ l) (h id (omega arith))
+    ap₂ (λ (x : Result LfsInfo Refusal) (l : List Node). node_of x (s 0) (s 1) ++ l) (h id (omega arith))
     (nodes_same info other D (suc id) (λ k l. h k (omega arith)))
 
-module _ (g : Geometry) (vol : List ℕ) (p : LfsPair) (m : LfsMdir) (s : ℕ) (f : fetch_in g vol p ≡ Found m s) where
+module _ (g : Geometry) (vol : List ℕ) (p : LfsPair) (m : LfsMdir) (s : ℕ) (f : fetch_in g vol p ≡ Ok (fetched m s)) where
   abbrev b0 : List ℕ
   b0 = block_in g vol p.n0
 
@@ -54,13 +55,13 @@ module _ (g : Geometry) (vol : List ℕ) (p : LfsPair) (m : LfsMdir) (s : ℕ) (
 
   -- both numbers are in the volume, and fetch finds the pair
   tested : (leb (blocks_in g vol) p.n0 || leb (blocks_in g vol) p.n1 ≡ false)
-      × (fetch_of g b0 b1 p.n0 p.n1 0 0 ≡ Found m s)
+      × (fetch_of g b0 b1 p.n0 p.n1 0 0 ≡ Ok (fetched m s))
   unfolding fetch_in
   tested =
       let q = past_test (eqb p.n0 p.n1) Invalid _ m s f in
       past_test (leb (blocks_in g vol) p.n0 || leb (blocks_in g vol) p.n1) Corrupt _ m s q.1
 
-  pub fetched_there : fetch_of g b0 b1 p.n0 p.n1 0 0 ≡ Found m s
+  pub fetched_there : fetch_of g b0 b1 p.n0 p.n1 0 0 ≡ Ok (fetched m s)
   fetched_there = tested.1
 
   pub numbers_inside : (p.n0 < blocks_in g vol) × (p.n1 < blocks_in g vol)

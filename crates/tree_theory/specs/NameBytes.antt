@@ -1,8 +1,7 @@
 -- All names of a directory together have no more bytes than the block that it was read from: each live name stands in
 -- the log, in an entry of its own. Assumes nothing.
-use Rattle.std.specs.Prelude.{◌≡◌, refl, Bool, true, false, cond, List, [], ◌∷◌, ◌++◌, ℕ, zero, suc, ◌+◌, ◌-◌, ◌≤◌, ◌<◌, length, take, drop, get_or, set, replicate, eqb}
+use Rattle.std.specs.Prelude.{◌≡◌, refl, Bool, true, false, cond, List, [], ◌∷◌, ◌++◌, ℕ, zero, suc, ◌+◌, ◌-◌, ◌≤◌, ◌<◌, length, take, drop, get_or, set, replicate, eqb, None, Option, Some}
 use Rattle.std.proofs.Common.{ap, ◌∙◌, arith}
-use Rattle.std.proofs.Math.Option.{Option, none, some}
 use Rattle.format.specs.Tag.{tag_type3, tag_chunk, tag_id, tag_delete, tag_length}
 use Rattle.format.specs.Kind.{is_name, is_wide, type_create, type_delete}
 use Rattle.format.specs.Walk.{Event, body_length, ent, chk, inv}
@@ -19,8 +18,8 @@ use Rattle.theory.specs.Commit.Tested.{regular_log}
 use Rattle.theory.specs.Lookup.SlotSearch.{log_inside}
 
 abbrev pub load_size : Option Load → ℕ
-load_size none = 0
-load_size (some v) = length v.bytes
+load_size None = 0
+load_size (Some v) = length v.bytes
 
 -- the bytes of all names
 unfoldable pub names_in : List Slot → ℕ
@@ -106,7 +105,7 @@ names_all (a ∷ l) D = omega (arith, names_all l (apply D a), names_apply D a)
 load_size_lem : (t : ℕ) (d : List ℕ) → load_size (load_of t d) ≤ length d
 load_size_lem t d = go (tag_delete t)
   where
-    go : (b : Bool) → load_size (cond b none (some (record { type = tag_type3 t; bytes = d }))) ≤ length d
+    go : (b : Bool) → load_size (cond b None (Some (record { type = tag_type3 t; bytes = d }))) ≤ length d
     go true = omega arith
     go false = omega arith
 

@@ -1,8 +1,7 @@
 -- The lookups of a slot on a block that was fetched from, whose log is regular: its newest name and its struct, and the
 -- two lookups of `lfs_dir_getinfo`. Assumes nothing.
-use Rattle.std.specs.Prelude.{◌≡◌, refl, ◌≢◌, true, false, List, [], ℕ, ◌≤◌, ◌<◌, length, get_or}
+use Rattle.std.specs.Prelude.{◌≡◌, refl, ◌≢◌, true, false, List, [], ℕ, ◌≤◌, ◌<◌, length, get_or, Option, Result, Some}
 use Rattle.std.proofs.Common.{arith, lt-ltb}
-use Rattle.std.proofs.Math.Option.{some}
 use Rattle.format.specs.Tag.{tag_of}
 use Rattle.format.specs.Log.{log, log_end, log_end_tag}
 use Rattle.format.specs.Back.{back}
@@ -13,8 +12,6 @@ use Rattle.format.specs.Regular.{Regular}
 use Rattle.format.specs.Machine as machine
 use Rattle.format.specs.TreeMachine.{hidden, uncovered}
 use Rattle.format.specs.declared.Rules.TheVariants.{Littlefs}
-use Rattle.format.specs.declared.Hit.{Hit}
-use Rattle.format.specs.declared.Informed.{Informed}
 use Rattle.theory.specs.Commit.Tested.{regular_log}
 use Rattle.theory.specs.Lookup.ByMask.{holds, holds_as, Answers}
 use Rattle.theory.specs.Lookup.AtStart.{back_in, wlook_in}
@@ -22,19 +19,22 @@ use Rattle.theory.specs.Lookup.SlotSearch.{log_inside}
 use Rattle.theory.proofs.Stopped.Shown.{ask_found}
 use Rattle.tree_theory.specs.Covered.{visible}
 use Rattle.tree_theory.specs.SeenName.{seen_newest, seen_uncovered}
+use Rattle.format.specs.declared.Found.{Found}
+use Rattle.format.specs.declared.LfsInfo.{LfsInfo}
+use Rattle.format.specs.declared.Refusal.{Refusal}
 
 -- a slot's newest name, the name that an info is of, and its struct, from the end of a log and the tag there
-abbrev pub newest_hit : List ℕ → ℕ → ℕ → ℕ → Hit
+abbrev pub newest_hit : List ℕ → ℕ → ℕ → ℕ → Option Found
 newest_hit b end etag id = wlook true mask_type1 (name_key id 255) 0 (back b end etag)
 
-abbrev pub named_hit : List ℕ → ℕ → ℕ → ℕ → Hit
+abbrev pub named_hit : List ℕ → ℕ → ℕ → ℕ → Option Found
 named_hit b end etag id = wlook true name_mask (name_key id 255) 0 (back b end etag)
 
-abbrev pub struct_hit : List ℕ → ℕ → ℕ → ℕ → Hit
+abbrev pub struct_hit : List ℕ → ℕ → ℕ → ℕ → Option Found
 struct_hit b end etag id = wlook true struct_mask (struct_key id) 0 (back b end etag)
 
 -- the info, read with the longest name
-abbrev pub info_at : List ℕ → ℕ → ℕ → ℕ → Informed
+abbrev pub info_at : List ℕ → ℕ → ℕ → ℕ → Result LfsInfo Refusal
 info_at b end etag id = info_of b 255 (named_hit b end etag id) (struct_hit b end etag id)
 
 -- the slot
@@ -72,8 +72,8 @@ module _ (b : List ℕ) (end etag : ℕ) (w : Regularly b end etag) where
         (omega arith))
 
     -- a newest name that is not hidden is seen
-    pub named_newest : (v : Load) → slot_at b id 0 ≡ some v → hidden v.type ≡ false
-        → holds_as (bytes_of b) (named_hit b end etag id) ≡ some v
+    pub named_newest : (v : Load) → slot_at b id 0 ≡ Some v → hidden v.type ≡ false
+        → holds_as (bytes_of b) (named_hit b end etag id) ≡ Some v
     named_newest v e h = rw (w.ends, w.end_tag)
         (seen_newest b w.regular w.some' id 256 v low (omega arith) e h)
 

@@ -1,10 +1,9 @@
 -- The lookup of `lfs_dir_getinfo` for a name, on the bytes of a block with a regular log: it finds the name that the
 -- directory machine has where hidden names are veiled. Assumes nothing.
-use Rattle.std.specs.Prelude.{◌≡◌, refl, ◌≢◌, Bool, false, cond, ℕ, ◌+◌, ◌^◌, ◌≤◌, ◌<◌, get_or, eqb, leb, ltb}
+use Rattle.std.specs.Prelude.{◌≡◌, refl, ◌≢◌, Bool, false, cond, ℕ, ◌+◌, ◌^◌, ◌≤◌, ◌<◌, get_or, eqb, leb, ltb, None, Option, Some}
 use Rattle.std.proofs.Common.{sym, ap₂, ◌∙◌, inl, ne_eqb, leb-true}
 use Rattle.std.proofs.Math.Path.{ap}
 use Rattle.std.proofs.Math.Bool.{true}
-use Rattle.std.proofs.Math.Option.{Option, none, some}
 use mathlib.Core.List.{List, [], ◌∷◌, reverse, reverse_aux, map}
 use native.Mathlib.Omega.{arith}
 use Rattle.std.proofs.Math.ListN.{length}
@@ -22,7 +21,6 @@ use Rattle.format.specs.Regular.{Rule, between, rule_holds, count_after, grows_a
 use Rattle.format.specs.Regular.{count_at, regular_from, Regular, create, delete, name, inlined, eight, attribute, tail}
 use Rattle.format.specs.Regular.{move, forward, bad}
 use Rattle.format.specs.declared.Rules.TheVariants.{Littlefs}
-use Rattle.format.specs.declared.Hit.{Hit}
 use Rattle.format.specs.TreeMachine.{hidden, uncovered}
 use Rattle.format.proofs.Tags.{of_type3, of_size, of_valid}
 use Rattle.theory.specs.Walk.Step.{both_true}
@@ -36,12 +34,13 @@ use Rattle.theory.specs.Commit.Tested.{regular_log}
 use Rattle.tree_theory.specs.Veiled.{veil, veil_not, veil_act, hidden_between, query_seen, veil_shape}
 use Rattle.tree_theory.specs.Covered.{veiled, Kept, AllKept, allowed_veiled, inside_veiled, few_veiled}
 use Rattle.tree_theory.specs.Covered.{visible, find_visible, find_uncovered}
+use Rattle.format.specs.declared.Found.{Found}
 
 -- ---- the act of a veiled tag
 kept_load : (t : ℕ) (x : List ℕ) (j : ℕ) → Kept (put j 0 (load_of t x)) → tag_delete t ≡ false
 kept_load t x j k = go (tag_delete t) k
   where
-    go : (b : Bool) → Kept (put j 0 (cond b none (some (record { type = tag_type3 t; bytes = x })))) → b ≡ false
+    go : (b : Bool) → Kept (put j 0 (cond b None (Some (record { type = tag_type3 t; bytes = x })))) → b ≡ false
     go true h = absurd (h refl)
     go false h = refl
 
@@ -51,7 +50,7 @@ not_veiled : (t : ℕ) (x : List ℕ) (j c : ℕ) → hidden (tag_type3 t) ≡ f
 unfolding veiled
 not_veiled t x j c h = go (tag_delete t)
   where
-    go : (b : Bool) → (let v : Option Load = cond b none (some (record { type = tag_type3 t; bytes = x })) in
+    go : (b : Bool) → (let v : Option Load = cond b None (Some (record { type = tag_type3 t; bytes = x })) in
         put j c v ≡ veiled (put j c v))
     go true = refl
     go false = rw h
@@ -93,8 +92,8 @@ act_veiled t x k = go (hidden (tag_type3 t)) refl
 
 -- ---- in a regular log no name is a removal
 class_kept : (j c : ℕ) (v : Option Load) → c ≢ 0 → Kept (put j c v)
-class_kept j c none h = h
-class_kept j c (some v) h = tt
+class_kept j c None h = h
+class_kept j c (Some v) h = tt
 
 name_kept : (t : ℕ) (x : List ℕ) (j : ℕ) → tag_delete t ≡ false → Kept (put j 0 (load_of t x))
 name_kept t x j h = rw h tt
@@ -171,7 +170,7 @@ module _ (b : List ℕ) (regular : Regular Littlefs (log b) ≡ true) (some' : l
   kept = kept_rev (acts (log b)) [] (all_kept (log b) true 0 regular) tt
 
   -- what is found under 0x780, for a key of any size
-  abbrev pub seen_hit : ℕ → ℕ → Hit
+  abbrev pub seen_hit : ℕ → ℕ → Option Found
   seen_hit i s = wlook true name_mask (tag_of type_name i s) 0 (back b (log_end (log b)) (log_end_tag (log b)))
 
   pub seen_name : (i s : ℕ) → i < length (dir_of (log b)) → s < 2 ^ 10
@@ -192,8 +191,8 @@ module _ (b : List ℕ) (regular : Regular Littlefs (log b) ≡ true) (some' : l
 
   -- a newest name that is not hidden
   pub seen_newest : (i s : ℕ) (v : Load) → i < length (dir_of (log b)) → s < 2 ^ 10
-      → get_or (dir_of (log b)) i empty 0 ≡ some v → hidden v.type ≡ false
-      → holds_as (bytes_of b) (seen_hit i s) ≡ some v
+      → get_or (dir_of (log b)) i empty 0 ≡ Some v → hidden v.type ≡ false
+      → holds_as (bytes_of b) (seen_hit i s) ≡ Some v
   unfolding dir_of
   seen_newest i s v hi hs e h =
       seen_name i s hi hs

@@ -1,7 +1,7 @@
 -- "A shorter allowance gives the beginning of a longer one's list." A walk with k pairs more to spend is the same, or
 -- the shorter one ended because its allowance was spent, and then its lines are the beginning of the longer one's.
 -- Assumes nothing.
-use Rattle.std.specs.Prelude.{◌≡◌, ◌⊎◌, Bool, cond, List, [], ◌++◌, ltb}
+use Rattle.std.specs.Prelude.{◌≡◌, ◌⊎◌, Bool, cond, List, [], ◌++◌, ltb, Err, Ok, Result}
 use Rattle.std.proofs.Math.Path.{refl}
 use Rattle.std.proofs.Common.{sym, ap, ap₂, subst, ◌∙◌, inl, inr, append_assoc, append-nil}
 use Rattle.std.proofs.Math.Bool.{true, false}
@@ -12,9 +12,8 @@ use borrow.Author.Tests.{eqb-false, ne_eqb}
 use Rattle.format.specs.Tree.{Opened, Line, Walk, stopped, behind, and_then, walk_opened, deepest, dir_walk}
 use Rattle.format.specs.declared.LfsPair.{LfsPair}
 use Rattle.format.specs.declared.Refusal.TheVariants.{Spent, TooDeep}
-use Rattle.format.specs.declared.Altered.{Altered}
-use Rattle.format.specs.declared.Altered.TheVariants.{Done, Refused}
 use Rattle.tree_theory.specs.Walks.{Any, any_named, Related, opened_alike}
+use Rattle.format.specs.declared.Refusal.{Refusal}
 
 -- the first list is the beginning of the second
 abbrev pub Begins : List Line → List Line → Type 0
@@ -27,17 +26,17 @@ pub record Longer (k : ℕ) (w v : Walk) : Type 0 where
   pub left : v.left ≡ w.left + k
 
 abbrev pub Shorter : ℕ → Walk → Walk → Type 0
-Shorter k w v = ((w.answer ≡ Refused Spent) × Begins w.lines v.lines) ⊎ Longer k w v
+Shorter k w v = ((w.answer ≡ Err Spent) × Begins w.lines v.lines) ⊎ Longer k w v
 
 -- what is behind a walk does not alter how it begins
-begins_behind : (x : Altered) (w v : Walk) → Begins w.lines (behind x w v).lines
-begins_behind Done w v = (v.lines, refl)
-begins_behind (Refused r) w v = ([], sym (append-nil w.lines))
+begins_behind : (x : Result Unit Refusal) (w v : Walk) → Begins w.lines (behind x w v).lines
+begins_behind (Ok x) w v = (v.lines, refl)
+begins_behind (Err r) w v = ([], sym (append-nil w.lines))
 
 begins_on : (xs ys zs : List Line) → Begins xs ys → Begins ys zs → Begins xs zs
 begins_on xs ys zs b c = (b.0 ++ c.0, c.1 ∙ ap (λ l. l ++ c.0) b.1 ∙ append_assoc xs b.0 c.0)
 
-stays : (r : Altered) (w v : Walk) → r ≡ Refused Spent → behind r w v ≡ w
+stays : (r : Result Unit Refusal) (w v : Walk) → r ≡ Err Spent → behind r w v ≡ w
 stays r w v e = rw e
 
 -- K bounds what the shorter one has
@@ -49,8 +48,8 @@ module _ (k K : ℕ) where
   Both w v = Shorter k w v × (w.left ≤ K)
 
   same_then : (w v : Walk) (f h : ℕ → Walk) → Longer k w v → w.left ≤ K → Both (f w.left) (h v.left)
-      → (x : Altered) → Both (behind x w (f w.left)) (behind x v (h v.left))
-  same_then w v f h s low (inl z, l) Done = (
+      → (x : Result Unit Refusal) → Both (behind x w (f w.left)) (behind x v (h v.left))
+  same_then w v f h s low (inl z, l) (Ok x) = (
     inl (
       z.0,
       (
@@ -61,7 +60,7 @@ module _ (k K : ℕ) where
     ),
     l,
   )
-  same_then w v f h s low (inr z, l) Done = (
+  same_then w v f h s low (inr z, l) (Ok x) = (
     inr (record {
       lines = ap₂ (λ a b. a ++ b) s.lines z.lines;
       answer = z.answer;
@@ -69,7 +68,7 @@ module _ (k K : ℕ) where
     }),
     l,
   )
-  same_then w v f h s low t (Refused r) = (inr s, low)
+  same_then w v f h s low t (Err r) = (inr s, low)
 
   both_then : (w v : Walk) (f h : ℕ → Walk) → Both w v → ((a b : ℕ) → Apart a b → Both (f a) (h b))
       → Both (and_then w f) (and_then v h)
@@ -77,7 +76,7 @@ module _ (k K : ℕ) where
       rw (stays w.answer w (f w.left) z.0)
       (inl (z.0, begins_on w.lines v.lines _ z.1 (begins_behind v.answer v (h v.left))), low)
   both_then w v f h (inr s, low) next =
-      subst (λ (x : Altered). Both (and_then w f) (behind x v (h v.left))) s.answer
+      subst (λ (x : Result Unit Refusal). Both (and_then w f) (behind x v (h v.left))) s.answer
       (same_then w v f h s low (next w.left v.left (s.left, low)) w.answer)
 
   both : Related Apart Both

@@ -1,8 +1,7 @@
 -- Two walks, step by step: what holds of their parts holds of them. `L` is known of the two allowances before each
 -- part, and `R` of the parts. Assumes nothing.
-use Rattle.std.proofs.Math.Option.{Option, none, some}
 use mathlib.Core.List.{List, [], ◌∷◌}
-use Rattle.std.specs.Prelude.{ℕ, suc}
+use Rattle.std.specs.Prelude.{ℕ, suc, None, Option, Some}
 use Rattle.format.specs.Tree.{Node, Opened, refused, holding, Walk, ended, stopped, shown, and_then, inside, slot_walk}
 use Rattle.format.specs.Tree.{walk_opened}
 use Rattle.format.specs.declared.LfsPair.{LfsPair}
@@ -10,8 +9,8 @@ use Rattle.format.specs.declared.Refusal.{Refusal}
 
 -- what is said of pairs, of those that stand in a directory's entries, and of those that an opened pair names
 abbrev pub Into : (LfsPair → Type 0) → Option LfsPair → Type 0
-Into P none = Unit {0}
-Into P (some p) = P p
+Into P None = Unit {0}
+Into P (Some p) = P p
 
 abbrev pub AllInto : (LfsPair → Type 0) → List Node → Type 0
 AllInto P [] = Unit {0}
@@ -26,8 +25,8 @@ abbrev pub Any : LfsPair → Type 0
 Any p = Unit {0}
 
 any_into : (o : Option LfsPair) → Into Any o
-any_into none = tt
-any_into (some p) = tt
+any_into None = tt
+any_into (Some p) = tt
 
 any_all : (ns : List Node) → AllInto Any ns
 any_all [] = tt
@@ -52,8 +51,8 @@ module _ (L : ℕ → ℕ → Type 0) (R : Walk → Walk → Type 0) (k : Relate
 
   inside_alike : (walk other : LfsPair → ℕ → Walk) → Alike walk other → (o : Option LfsPair) → Into P o
       → (a b : ℕ) → L a b → R (inside walk o a) (inside other o b)
-  inside_alike walk other h none i a b l = k.ends a b l
-  inside_alike walk other h (some p) i a b l = h p i a b l
+  inside_alike walk other h None i a b l = k.ends a b l
+  inside_alike walk other h (Some p) i a b l = h p i a b l
 
   slots_alike : (walk other : LfsPair → ℕ → Walk) → Alike walk other → (depth : ℕ) (ns : List Node) → AllInto P ns
       → (a b : ℕ) → L a b → R (slot_walk walk depth ns a) (slot_walk other depth ns b)

@@ -2,7 +2,6 @@
 -- names of a pair stand in one block, and there are at most 4,096 pairs. Assumes nothing.
 use mathlib.Core.Path.{◌≡◌, refl, ap}
 use mathlib.Core.Bool.{Bool, true, false, cond}
-use mathlib.Core.Option.{Option, none, some}
 use mathlib.Core.List.{List, [], ◌∷◌, ◌++◌}
 use Prim.Native.Nat.{ℕ, zero, suc, ◌+◌, ◌-◌, ◌*◌, ◌^◌, ◌≤◌, ◌<◌}
 use native.Mathlib.Omega.{arith}
@@ -22,17 +21,16 @@ use Rattle.format.specs.declared.Geometry.{Geometry}
 use Rattle.format.specs.declared.LfsPair.{LfsPair}
 use Rattle.format.specs.declared.Rules.{Rules}
 use Rattle.format.specs.declared.Refusal.TheVariants.{Irregular, Spent, TooDeep}
-use Rattle.format.specs.declared.Fetched.{Fetched}
-use Rattle.format.specs.declared.Fetched.TheVariants as fetched
-use Rattle.format.specs.declared.Altered.{Altered}
-use Rattle.format.specs.declared.Altered.TheVariants.{Done, Refused}
-use Rattle.format.specs.declared.Informed.{Informed}
 use Rattle.format.proofs.Growing.{widest}
 use Rattle.theory.proofs.Compact.AcceptedVerdict.{slots_few}
 use Rattle.text_input.proofs.Short.{decimal_short, name_length, number_short}
 use Rattle.tree_theory.specs.NameBytes.{load_size, names_in, names_inside}
 use Rattle.tree_theory.specs.InVolume.{there}
 use Rattle.tree_walk.proofs.Outcomes.{lines_app}
+use Rattle.std.specs.Prelude.{Err, Ok, Result, None, Option, Some}
+use Rattle.format.specs.declared.Fetched.{Fetched}
+use Rattle.format.specs.declared.LfsInfo.{LfsInfo}
+use Rattle.format.specs.declared.Refusal.{Refusal}
 
 -- ---- a line, and the entries of a pair
 abbrev node_size : Node → ℕ
@@ -49,8 +47,8 @@ line_brief l =
     let size : List ℕ = number_line (ascii " ") l.node.size in
     omega (
       arith,
-      length-append (decimal l.depth) (name_fields (some v) ++ size),
-      length-append (name_fields (some v)) size,
+      length-append (decimal l.depth) (name_fields (Some v) ++ size),
+      length-append (name_fields (Some v)) size,
       length-append (hex_type v.type) (ascii " " ++ name_bytes v.bytes),
       decimal_short 10 l.depth,
       name_length v.bytes,
@@ -62,17 +60,17 @@ unfolding nodes_size
 nodes_app [] ys = omega arith
 nodes_app (x ∷ xs) ys = omega (arith, nodes_app xs ys)
 
-node_brief : (i : Informed) (name struct : Option Load) → nodes_size (node_of i name struct) ≤ 27 + 4 * load_size name
+node_brief : (i : Result LfsInfo Refusal) (name struct : Option Load) → nodes_size (node_of i name struct) ≤ 27 + 4 * load_size name
 unfolding node_of nodes_size
-node_brief i none struct = omega arith
-node_brief i (some v) none = omega arith
-node_brief i (some v) (some struct) = go i.answer
+node_brief i None struct = omega arith
+node_brief i (Some v) None = omega arith
+node_brief i (Some v) (Some struct) = go i.answer
   where
-    go : (a : Altered) → nodes_size (node_if a v i.info.size struct) ≤ 27 + 4 * length v.bytes
-    go Done = omega arith
-    go (Refused r) = omega arith
+    go : (a : Result Unit Refusal) → nodes_size (node_if a v i.info.size struct) ≤ 27 + 4 * length v.bytes
+    go (Ok x) = omega arith
+    go (Err r) = omega arith
 
-nodes_brief : (info : ℕ → Informed) (id : ℕ) (D : List Slot)
+nodes_brief : (info : ℕ → Result LfsInfo Refusal) (id : ℕ) (D : List Slot)
     → nodes_size (nodes_from info id D) ≤ 27 * length D + 4 * names_in D
 unfolding nodes_from nodes_size names_in
 nodes_brief info id [] = omega arith
@@ -95,12 +93,12 @@ open_brief : (r : Rules) (g : Geometry) (vol : List ℕ) (p : LfsPair) → Brief
 unfolding open_in
 open_brief r g vol p = go (fetch_in g vol p) refl
   where
-    go : (f : Fetched) → fetch_in g vol p ≡ f → Brief (opened_by r g vol p f)
-    go (fetched.Refused q) e = tt
-    go (fetched.Found m s) e = held (Regular r (log b)) refl
+    go : (f : Result Fetched Refusal) → fetch_in g vol p ≡ f → Brief (opened_by r g vol p f)
+    go (Err q) e = tt
+    go (Ok f) e = held (Regular r (log b)) refl
       where
         b : List ℕ
-        b = block_in g vol m.pair.n0
+        b = block_in g vol f.dir.pair.n0
 
         held : (x : Bool) → Regular r (log b) ≡ x
             → Brief (cond x (holding (nodes_from (info_in g vol p m) 0 (dir_of (log b))) (hard_tail m)) (refused Irregular))
@@ -124,15 +122,15 @@ then_paid : (w : Walk) (next : ℕ → Walk) (left x y z : ℕ) → x + y ≤ z 
     → Paid (next w.left) w.left y → Paid (and_then w next) left z
 then_paid w next left x y z both h k = go w.answer (next w.left) k
   where
-    go : (a : Altered) (v : Walk) → Paid v w.left y → Paid (behind a w v) left z
-    go Done v q = omega (
+    go : (a : Result Unit Refusal) (v : Walk) → Paid v w.left y → Paid (behind a w v) left z
+    go (Ok x) v q = omega (
       arith,
       h,
       q,
       ap length (lines_app w.lines v.lines),
       length-append (lines_text w.lines) (lines_text v.lines),
     )
-    go (Refused r) v q = omega (arith, h)
+    go (Err r) v q = omega (arith, h)
 
 abbrev Pays : (LfsPair → ℕ → Walk) → Type 0
 Pays walk = (p : LfsPair) (left : ℕ) → Paid (walk p left) left 0
@@ -140,8 +138,8 @@ Pays walk = (p : LfsPair) (left : ℕ) → Paid (walk p left) left 0
 inside_paid : (walk : LfsPair → ℕ → Walk) → Pays walk → (o : Option LfsPair) (left : ℕ)
     → Paid (inside walk o left) left 0
 unfolding lines_text
-inside_paid walk h none left = omega arith
-inside_paid walk h (some p) left = h p left
+inside_paid walk h None left = omega arith
+inside_paid walk h (Some p) left = h p left
 
 slots_paid : (walk : LfsPair → ℕ → Walk) → Pays walk → (depth : ℕ) (ns : List Node) (left : ℕ)
     → Paid (slot_walk walk depth ns left) left (nodes_size ns)

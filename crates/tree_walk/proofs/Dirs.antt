@@ -2,7 +2,6 @@
 use mathlib.Core.Path.{◌≡◌, sym, ap, ◌∙◌}
 use mathlib.Core.Logic.{◌≢◌}
 use mathlib.Core.Bool.{true, false, not}
-use mathlib.Core.Option.{Option, none, some}
 use mathlib.Core.List.{List}
 use Prim.Native.Nat.{ℕ, zero, suc, ◌+◌, ◌-◌, ◌≤◌, ◌<◌}
 use native.Mathlib.Omega.{arith}
@@ -13,23 +12,21 @@ use Rattle.format.specs.declared.Geometry.{Geometry}
 use Rattle.format.specs.declared.LfsPair.{LfsPair}
 use Rattle.format.specs.declared.Refusal.{Refusal}
 use Rattle.format.specs.declared.Refusal.TheVariants.{Spent, TooDeep}
-use Rattle.format.specs.declared.Altered.TheVariants.{Done, Refused}
 use Rattle.text.specs.Put.{Text, text}
 use Rattle.text.proofs.Joined.{puts_none}
 use Rattle.tree_theory.specs.Enough.{walk_enough}
 use Rattle.tree_pair.specs.Pair.{Stands, dir_nodes, dir_tail, Opens}
 use Rattle.tree_pair.specs.declared.Dir.{Dir}
-use Rattle.tree_pair.specs.declared.Opening.{Opening}
-use Rattle.tree_pair.specs.declared.Opening.TheVariants as opening
 use Rattle.tree_walk.specs.declared.Walked.{Walked}
 use Rattle.tree_walk.specs.Walks.{stopped_at, comes, outcome, Walks}
 use Rattle.tree_walk.proofs.Outcomes.{onward, stays, moves, comes_then, comes_ended}
+use Rattle.std.specs.Prelude.{Err, Ok, Result, None, Option, Some}
 
 -- a stop shows nothing
 comes_stopped : (s : Text) (r : Refusal) (left : ℕ)
-    → record { shown = s; left = left; answer = Refused r } ≡ comes s (stopped r left)
+    → record { shown = s; left = left; answer = Err r } ≡ comes s (stopped r left)
 unfolding lines_text
-comes_stopped s r left = ap (λ t. record { shown = t; left = left; answer = Refused r }) (puts_none s)
+comes_stopped s r left = ap (λ t. record { shown = t; left = left; answer = Err r }) (puts_none s)
 
 -- ---- the walk by its tests; n is above the allowance
 module _ (opens : LfsPair → Opened) (depth : ℕ) (p : LfsPair) (left : ℕ) where
@@ -115,18 +112,18 @@ module _ (opens : LfsPair → Opened) (depth : ℕ) (p0 : LfsPair) (left0 at0 : 
               (inside (dir_walk m opens depth) tail)
               ∙ ap (λ x. onward x (inside (dir_walk m opens depth) tail)) (sym (went.is m (omega arith)))
 
-          pub dir_stops : (r : Refusal) → w.answer ≡ Refused r → Comes w o
+          pub dir_stops : (r : Refusal) → w.answer ≡ Err r → Comes w o
           dir_stops r e = record {
             low = omega (arith, went.low);
             is = λ n h. sym (after n spare h (omega arith) ∙ stays w.answer r e (outcome w o) _);
           }
 
-          module _ (done : w.answer ≡ Done) where
+          module _ (done : w.answer ≡ (Ok tt)) where
             on : (m : ℕ) → onward (outcome w o) (inside (dir_walk m opens depth) tail)
                 ≡ comes (text w.at o) (inside (dir_walk m opens depth) tail w.left)
             on m = moves w.answer done (outcome w o) _
 
-            pub dir_ends : tail ≡ none → Comes w o
+            pub dir_ends : tail ≡ None → Comes w o
             dir_ends e = record {
               low = omega (arith, went.low);
               is = λ n h. sym (after n spare h (omega arith) ∙ on spare
@@ -138,7 +135,7 @@ module _ (opens : LfsPair → Opened) (depth : ℕ) (p0 : LfsPair) (left0 at0 : 
                   }) (sym done));
             }
 
-            pub dir_goes_on : (q : LfsPair) → tail ≡ some q → Reached q w.left w.at o
+            pub dir_goes_on : (q : LfsPair) → tail ≡ Some q → Reached q w.left w.at o
             dir_goes_on q e n m h k =
                 after n (spare + m) h (omega arith) ∙ on (spare + m)
                 ∙ ap (λ t. comes (text w.at o) (inside (dir_walk (spare + m) opens depth) t w.left)) e
@@ -147,16 +144,16 @@ module _ (opens : LfsPair → Opened) (depth : ℕ) (p0 : LfsPair) (left0 at0 : 
                 (omega arith)).0
 
 -- ---- what stands at a pair, by what the code opened, x
-module _ (g : Geometry) (vol : List ℕ) (o : Opened) (x : Opening) (opens : Opens g vol o x) where
-  pub at_refused : (r : Refusal) → x ≡ opening.Refused r → o ≡ refused r
+module _ (g : Geometry) (vol : List ℕ) (o : Opened) (x : Result Dir Refusal) (opens : Opens g vol o x) where
+  pub at_refused : (r : Refusal) → x ≡ Err r → o ≡ refused r
   at_refused r q = rw q at opens
 
-  pub at_dir : (d : Dir) → x ≡ opening.At d → (o ≡ holding (dir_nodes g vol d) (dir_tail d)) × Stands g vol d
+  pub at_dir : (d : Dir) → x ≡ Ok d → (o ≡ holding (dir_nodes g vol d) (dir_tail d)) × Stands g vol d
   at_dir d q = rw q at opens
 
 -- its tail is followed if it is a hard one
-pub no_tail_lem : (d : Dir) → not d.split ≡ true → dir_tail d ≡ none
+pub no_tail_lem : (d : Dir) → not d.split ≡ true → dir_tail d ≡ None
 no_tail_lem d h = rw (not-true d.split h)
 
-pub hard_tail_lem : (d : Dir) → not d.split ≡ false → dir_tail d ≡ some d.tail
+pub hard_tail_lem : (d : Dir) → not d.split ≡ false → dir_tail d ≡ Some d.tail
 hard_tail_lem d h = rw (not-false d.split h)

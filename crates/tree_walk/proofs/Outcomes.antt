@@ -5,24 +5,23 @@ use Prim.Native.Nat.{ℕ}
 use Rattle.format.specs.Tree.{Node, Line, line_text, lines_text, Walk, ended, shown, behind, and_then, inside, slot_walk}
 use Rattle.format.specs.declared.LfsPair.{LfsPair}
 use Rattle.format.specs.declared.Refusal.{Refusal}
-use Rattle.format.specs.declared.Altered.{Altered}
-use Rattle.format.specs.declared.Altered.TheVariants.{Done, Refused}
 use Rattle.text.specs.Put.{Text, puts_of}
 use Rattle.text.proofs.Joined.{puts_app, puts_none}
 use Rattle.tree_walk.specs.Walks.{Outcome, comes}
+use Rattle.std.specs.Prelude.{Err, Ok, Result}
 
 -- what comes behind an outcome: a refusal is the last
-abbrev pub goes : Altered → Outcome → Outcome → Outcome
-goes Done o v = v
-goes (Refused r) o v = o
+abbrev pub goes : Result Unit Refusal → Outcome → Outcome → Outcome
+goes (Ok x) o v = v
+goes (Err r) o v = o
 
 abbrev pub onward : Outcome → (ℕ → Walk) → Outcome
 onward o next = goes o.answer o (comes o.shown (next o.left))
 
-pub stays : (x : Altered) (r : Refusal) → x ≡ Refused r → (o v : Outcome) → goes x o v ≡ o
+pub stays : (x : Result Unit Refusal) (r : Refusal) → x ≡ Err r → (o v : Outcome) → goes x o v ≡ o
 stays x r e o v = rw e
 
-pub moves : (x : Altered) → x ≡ Done → (o v : Outcome) → goes x o v ≡ v
+pub moves : (x : Result Unit Refusal) → x ≡ (Ok tt) → (o v : Outcome) → goes x o v ≡ v
 moves x e o v = rw e
 
 pub lines_app : (xs ys : List Line) → lines_text (xs ++ ys) ≡ lines_text xs ++ lines_text ys
@@ -35,23 +34,23 @@ lines_app (x ∷ xs) ys = ap (λ l. line_text x ++ l) (lines_app xs ys)
 pub comes_then : (s : Text) (w : Walk) (next : ℕ → Walk) → comes s (and_then w next) ≡ onward (comes s w) next
 comes_then s w next = go w.answer (next w.left)
   where
-    go : (x : Altered) (v : Walk)
+    go : (x : Result Unit Refusal) (v : Walk)
         → comes s (behind x w v) ≡ goes x (comes s w) (comes (puts_of s (lines_text w.lines)) v)
-    go Done v = ap (λ t. record { shown = t; left = v.left; answer = v.answer })
+    go (Ok x) v = ap (λ t. record { shown = t; left = v.left; answer = v.answer })
         (ap (puts_of s) (lines_app w.lines v.lines)
         ∙ sym (puts_app (lines_text w.lines) (lines_text v.lines) s))
-    go (Refused r) v = refl
+    go (Err r) v = refl
 
 -- nothing, and one line
-pub comes_ended : (s : Text) (left : ℕ) → comes s (ended left) ≡ record { shown = s; left = left; answer = Done }
+pub comes_ended : (s : Text) (left : ℕ) → comes s (ended left) ≡ record { shown = s; left = left; answer = (Ok tt) }
 unfolding lines_text
-comes_ended s left = ap (λ t. record { shown = t; left = left; answer = Done }) (sym (puts_none s))
+comes_ended s left = ap (λ t. record { shown = t; left = left; answer = (Ok tt) }) (sym (puts_none s))
 
 comes_line : (s : Text) (depth : ℕ) (n : Node) (left : ℕ) → comes s (shown depth n left)
-    ≡ record { shown = puts_of s (line_text (record { depth = depth; node = n })); left = left; answer = Done }
+    ≡ record { shown = puts_of s (line_text (record { depth = depth; node = n })); left = left; answer = (Ok tt) }
 unfolding lines_text
 comes_line s depth n left =
-    ap (λ l. record { shown = puts_of s l; left = left; answer = Done })
+    ap (λ l. record { shown = puts_of s l; left = left; answer = (Ok tt) })
     (append-nil (line_text (record { depth = depth; node = n })))
 
 -- an entry: its line, what is in it, and the others

@@ -1,6 +1,5 @@
 -- The slot walk: what its loop keeps, one rule for each kind of entry, and what it comes to. Assumes nothing.
 use mathlib.Core.Path.{◌≡◌, refl, sym, ap, subst, ◌∙◌}
-use mathlib.Core.Option.{none, some}
 use mathlib.Core.List.{List, [], ◌∷◌, ◌++◌}
 use Prim.{tt}
 use Prim.Native.Nat.{ℕ, suc, ◌+◌, ◌≤◌, ◌<◌}
@@ -16,7 +15,6 @@ use Rattle.format.specs.declared.Geometry.{Geometry}
 use Rattle.format.specs.declared.LfsPair.{LfsPair}
 use Rattle.format.specs.declared.Refusal.{Refusal}
 use Rattle.format.specs.declared.Found.{Found}
-use Rattle.format.specs.declared.Altered.TheVariants.{Done, Refused}
 use Rattle.text.specs.Put.{Text, text, puts_of}
 use Rattle.text.proofs.Joined.{puts_none}
 use Rattle.tree_theory.specs.OnBlock.{info_at}
@@ -27,6 +25,7 @@ use Rattle.tree_pair.specs.declared.Entry.TheVariants as entry
 use Rattle.tree_walk.specs.declared.Walked.{Walked}
 use Rattle.tree_walk.specs.Walks.{Outcome, comes, outcome, pairs, Walks, DirWalks}
 use Rattle.tree_walk.proofs.Outcomes.{onward, stays, moves, comes_ended, comes_entry}
+use Rattle.std.specs.Prelude.{Err, Ok, None, Some}
 
 -- an entry's name stands in the block
 pub entry_in : (b : List ℕ) (ns : List Node) (e : Entry) → EntryIs b ns e → EntryIn (length b) e
@@ -74,7 +73,7 @@ module _ (g : Geometry) (vol : List ℕ) (rules depth : ℕ) (d : Dir) (left0 at
         (walked n (nodes_from (info_at x d.end d.etag) 0 (dir_of (log x))) left0)) (sym eb)
 
     pub slots_end : (id spare end : ℕ) (out : List ℕ) → d.count ≤ id → spare ≤ left0 → Reached id spare end out
-        → Comes (record { answer = Done; left = spare; at = end }) out
+        → Comes (record { answer = (Ok tt); left = spare; at = end }) out
     unfolding nodes_from slot_walk
     slots_end id spare end out h low reached = record {
       low = low;
@@ -111,7 +110,7 @@ module _ (g : Geometry) (vol : List ℕ) (rules depth : ℕ) (d : Dir) (left0 at
           go entry.Nothing t q l = next_is [] q n k
               ∙ ap (λ (s : Text). comes s (walked n (rest (id + 1)) spare)) (puts_none (text end out) ∙ sym l)
           go (entry.File name size) t q l =
-              let node : Node = record { name = load_at b name; size = size; into = none } in
+              let node : Node = record { name = load_at b name; size = size; into = None } in
               next_is (node ∷ []) q.is n k
               ∙ comes_entry (text end out) (dir_walk n (pairs g vol rules) (suc depth)) depth node (rest (id + 1)) spare
               ∙ ap (λ (o : Outcome). onward o (walked n (rest (id + 1))))
@@ -126,7 +125,7 @@ module _ (g : Geometry) (vol : List ℕ) (rules depth : ℕ) (d : Dir) (left0 at
             ≡ onward (outcome w o) (walked n (rest (id + 1)))
         unfolding line_text
         within n k =
-            let node : Node = record { name = load_at b name; size = 0; into = some p } in
+            let node : Node = record { name = load_at b name; size = 0; into = Some p } in
             let shown = subst (EntryIs b (node_at b d.end d.etag id)) q is in
             let l : text end1 out1 ≡ puts_of (text end out) (line_text (line_of depth (load_at b name) 0))
             = line ∙ ap (λ (x : Entry). puts_of (text end out) (entry_text b depth x)) q in
@@ -138,11 +137,11 @@ module _ (g : Geometry) (vol : List ℕ) (rules depth : ℕ) (d : Dir) (left0 at
             (walked n (rest (id + 1)))) (sym (add-one depth))
             ∙ ap (λ (x : Outcome). onward x (walked n (rest (id + 1)))) (sym (went.is n (omega arith)))
 
-        pub slot_stops : (r : Refusal) → w.answer ≡ Refused r → Comes w o
+        pub slot_stops : (r : Refusal) → w.answer ≡ Err r → Comes w o
         slot_stops r x = record {
           low = omega (arith, went.low);
           is = λ n h. sym (within n h ∙ stays w.answer r x (outcome w o) _);
         }
 
-        pub slot_goes_on : w.answer ≡ Done → Reached (id + 1) w.left w.at o
+        pub slot_goes_on : w.answer ≡ (Ok tt) → Reached (id + 1) w.left w.at o
         slot_goes_on x n h = within n h ∙ moves w.answer x (outcome w o) _

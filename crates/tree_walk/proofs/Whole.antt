@@ -16,11 +16,11 @@ use Rattle.format.specs.Tree.{tree_of}
 use Rattle.format.specs.declared.Geometry.{Geometry}
 use Rattle.format.specs.declared.LfsPair.{LfsPair}
 use Rattle.format.specs.declared.Refusal.TheVariants.{Invalid}
-use Rattle.format.specs.declared.Altered.TheVariants.{Refused}
 use Rattle.text.proofs.Written.{puts_written}
 use Rattle.tree_walk.specs.declared.Walked.{Walked}
 use Rattle.tree_walk.specs.Walks.{Outcome, DirWalks}
 use Rattle.tree_walk.proofs.Brief.{text_brief}
+use Rattle.std.specs.Prelude.{Err}
 
 -- ---- the test
 -- three in the code's order
@@ -43,7 +43,7 @@ module _ (g : Geometry) (vol : List ℕ) (n0 n1 rules allowance : ℕ) (fits : B
 
   -- ---- refused: no line, and nothing is written
   pub tree_refused : tested ≡ false → (out : List ℕ)
-      → (record { answer = Refused Invalid; length = 0 } ≡ tree_of g vol n0 n1 rules allowance)
+      → (record { answer = Err Invalid; length = 0 } ≡ tree_of g vol n0 n1 rules allowance)
       × (out ≡ written_to out (tree_text g vol n0 n1 rules allowance))
   unfolding tree_walk lines_text
   tree_refused h out =

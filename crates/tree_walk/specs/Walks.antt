@@ -1,26 +1,24 @@
 -- What the two functions of the walk leave: the text with the walk's lines, what is left of the allowance, and whether
 -- it went to its end. Assumes nothing.
-use Rattle.std.specs.Prelude.{◌≡◌, List, ℕ, suc, ◌≤◌, ◌<◌}
+use Rattle.std.specs.Prelude.{◌≡◌, List, ℕ, suc, ◌≤◌, ◌<◌, Err, Result}
 use Rattle.format.specs.Regular.{rules_of}
 use Rattle.format.specs.Tree.{Opened, Walk, lines_text, slot_walk, dir_walk, open_in}
 use Rattle.format.specs.declared.Geometry.{Geometry}
 use Rattle.format.specs.declared.LfsPair.{LfsPair}
 use Rattle.format.specs.declared.Refusal.{Refusal}
-use Rattle.format.specs.declared.Altered.{Altered}
-use Rattle.format.specs.declared.Altered.TheVariants.{Refused}
 use Rattle.text.specs.Put.{Text, text, puts_of}
 use Rattle.tree_pair.specs.Pair.{dir_nodes}
 use Rattle.tree_pair.specs.declared.Dir.{Dir}
 use Rattle.tree_walk.specs.declared.Walked.{Walked}
 
 abbrev pub stopped_at : Refusal → ℕ → ℕ → Walked
-stopped_at r left at = record { answer = Refused r; left = left; at = at }
+stopped_at r left at = record { answer = Err r; left = left; at = at }
 
 -- a walk's outcome, from the text before it
 pub record Outcome : Type 0 where
   pub shown : Text
   pub left : ℕ
-  pub answer : Altered
+  pub answer : Result Unit Refusal
 
 abbrev pub comes : Text → Walk → Outcome
 comes s w = record { shown = puts_of s (lines_text w.lines); left = w.left; answer = w.answer }

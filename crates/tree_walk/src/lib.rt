@@ -10,8 +10,8 @@ ghost use Rattle.format.specs.Listing.{written_to};
 ghost use Rattle.tree_pair.specs.Pair.{Stands};
 ghost use Rattle.tree_walk.specs.Walks.{stopped_at, DirWalks, SlotWalks};
 
-use format::{Altered, Geometry, LfsPair, Refusal, Written};
-use tree_pair::{Dir, Entry, Opening};
+use format::{Geometry, LfsPair, Refusal, Written};
+use tree_pair::{Dir, Entry};
 
 // "a depth of at most 32, the given pair's being 0"
 const DEEPEST: u32 = 32;
@@ -22,7 +22,7 @@ const MOST_PAIRS: u32 = 4_096;
 // What a walk comes to: whether it went to its end, what is left of the allowance, and the length of the text so far.
 #[derive(Clone, Copy)]
 pub struct Walked {
-    pub answer: Altered,
+    pub answer: Result<(), Refusal>,
     pub left: u32,
     pub at: u32,
 }
@@ -32,7 +32,7 @@ fn stopped(r: Refusal, left: u32, at: u32) -> Walked
     ensures { result ≡ stopped_at r left at }
 {
     Walked {
-        answer: Altered::Refused(r),
+        answer: Err(r),
         left,
         at,
     }
@@ -65,12 +65,12 @@ fn dir_walk(
             return stopped(Refusal::Spent, spare, end);
         }
         let dir = match tree_pair::open_in(g, vol, rules, next) {
-            Opening::Refused(r) => return stopped(r, spare - 1, end),
-            Opening::At(dir) => dir,
+            Err(r) => return stopped(r, spare - 1, end),
+            Ok(dir) => dir,
         };
         let walked = slot_walk(g, vol, rules, depth, dir, spare - 1, end, out);
         let answer = walked.answer;
-        let Altered::Done = answer else {
+        let Ok(()) = answer else {
             return walked;
         };
         if !dir.split {
@@ -107,7 +107,7 @@ fn slot_walk(
         if let Entry::Dir(_, pair) = entry {
             let walked = dir_walk(g, vol, rules, depth + 1, pair, spare, end, out);
             let answer = walked.answer;
-            let Altered::Done = answer else {
+            let Ok(()) = answer else {
                 return walked;
             };
             spare = walked.left;
@@ -116,7 +116,7 @@ fn slot_walk(
         id += 1;
     }
     Walked {
-        answer: Altered::Done,
+        answer: Ok(()),
         left: spare,
         at: end,
     }
@@ -140,7 +140,7 @@ pub fn lfs_dir_tree(
 {
     if !(volume::volume_fits(g, vol) & (rules <= 1) & (allowance <= MOST_PAIRS)) {
         return Written {
-            answer: Altered::Refused(Refusal::Invalid),
+            answer: Err(Refusal::Invalid),
             length: 0,
         };
     }

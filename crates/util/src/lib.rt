@@ -9,7 +9,7 @@ ghost use Rattle.format.specs.Arith.{align_down, align_up};
 ghost use Rattle.format.specs.Pair.{pair_swapped, pair_null, pair_cmp, pair_sync};
 
 use format::types::LFS_BLOCK_NULL;
-use format::{LfsPair, Refusal, Word};
+use format::{LfsPair, Refusal};
 
 // Per lfs_util.h lfs_max.
 pub fn lfs_max(a: u32, b: u32) -> u32
@@ -26,18 +26,18 @@ pub fn lfs_min(a: u32, b: u32) -> u32
 }
 
 // Per lfs_util.h lfs_aligndown, but alignment 0, at which the Rust panics, is refused.
-pub fn lfs_aligndown(a: u32, alignment: u32) -> Word
+pub fn lfs_aligndown(a: u32, alignment: u32) -> Result<u32, Refusal>
     ensures { result ≡ align_down a alignment }
 {
     if alignment == 0 {
-        return Word::Refused(Refusal::Invalid);
+        return Err(Refusal::Invalid);
     }
     let below = a - a % alignment;
-    Word::Is(below)
+    Ok(below)
 }
 
 // Per lfs_util.h lfs_alignup: the sum wraps.
-pub fn lfs_alignup(a: u32, alignment: u32) -> Word
+pub fn lfs_alignup(a: u32, alignment: u32) -> Result<u32, Refusal>
     ensures { result ≡ align_up a alignment }
 {
     let above = std::num::wrapping_add_u32(a, alignment);

@@ -13,9 +13,10 @@ use Rattle.format.specs.Volume.{volume_fits, blocks_in, block_in, fetch_in}
 use Rattle.format.specs.declared.Geometry.{Geometry}
 use Rattle.format.specs.declared.LfsPair.{LfsPair}
 use Rattle.format.specs.declared.Refusal.TheVariants.{Invalid, Corrupt}
-use Rattle.format.specs.declared.Fetched.{Fetched}
-use Rattle.format.specs.declared.Fetched.TheVariants.{Refused}
 use Rattle.sizes.proofs.Sized.{Fitting, both, fitting}
+use Rattle.std.specs.Prelude.{Err, Result}
+use Rattle.format.specs.declared.Fetched.{Fetched}
+use Rattle.format.specs.declared.Refusal.{Refusal}
 
 module _ (g : Geometry) (vol : List ℕ) where
   abbrev size : ℕ
@@ -55,23 +56,23 @@ module _ (g : Geometry) (vol : List ℕ) where
 
   -- ---- fetch, by its tests
   module _ (p : LfsPair) where
-    pub same_numbers : p.n0 ≡ p.n1 → Refused Invalid ≡ fetch_in g vol p
+    pub same_numbers : p.n0 ≡ p.n1 → Err Invalid ≡ fetch_in g vol p
     unfolding fetch_in
     same_numbers h = rw (eq-eqb p.n0 p.n1 h)
 
     module _ (apart : p.n0 ≡ p.n1 → ⊥) where
-      pub first_outside : blocks_in g vol ≤ p.n0 → Refused Corrupt ≡ fetch_in g vol p
+      pub first_outside : blocks_in g vol ≤ p.n0 → Err Corrupt ≡ fetch_in g vol p
       unfolding fetch_in
       first_outside h = rw (ne_eqb p.n0 p.n1 apart, le-leb (blocks_in g vol) p.n0 h)
 
       module _ (in0 : p.n0 < blocks_in g vol) where
-        pub second_outside : blocks_in g vol ≤ p.n1 → Refused Corrupt ≡ fetch_in g vol p
+        pub second_outside : blocks_in g vol ≤ p.n1 → Err Corrupt ≡ fetch_in g vol p
         unfolding fetch_in
         second_outside h =
             rw (ne_eqb p.n0 p.n1 apart, lt-leb (blocks_in g vol) p.n0 in0, le-leb (blocks_in g vol) p.n1 h)
 
         pub both_inside : p.n1 < blocks_in g vol → (b0 b1 : List ℕ) → b0 ≡ block_in g vol p.n0
-            → b1 ≡ block_in g vol p.n1 → (r : Fetched) → r ≡ fetch_of g b0 b1 p.n0 p.n1 0 0 → r ≡ fetch_in g vol p
+            → b1 ≡ block_in g vol p.n1 → (r : Result Fetched Refusal) → r ≡ fetch_of g b0 b1 p.n0 p.n1 0 0 → r ≡ fetch_in g vol p
         unfolding fetch_in
         both_inside in1 b0 b1 e0 e1 r er =
             rw (ne_eqb p.n0 p.n1 apart, lt-leb (blocks_in g vol) p.n0 in0, lt-leb (blocks_in g vol) p.n1 in1)

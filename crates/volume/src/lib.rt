@@ -31,21 +31,21 @@ pub fn block(g: Geometry, vol: &[u8], n: u32) -> &[u8]
 
 // Fetch in a volume: "-22 for a pair of equal numbers, -84 outside the volume", and what fetch answers for the two
 // blocks. No block count is handed on: both numbers were compared with the volume's own, which may pass 32 bits.
-pub fn fetch_in(g: Geometry, vol: &[u8], pair: LfsPair) -> Fetched
+pub fn fetch_in(g: Geometry, vol: &[u8], pair: LfsPair) -> Result<Fetched, Refusal>
     requires { volume_fits g vol.now ≡ true }
     ensures { result ≡ fetch_in g vol.now pair }
 {
     let n0 = pair.n0;
     let n1 = pair.n1;
     if n0 == n1 {
-        return Fetched::Refused(Refusal::Invalid);
+        return Err(Refusal::Invalid);
     }
     let blocks = vol.len() / (g.block_size as usize);
     if blocks <= n0 as usize {
-        return Fetched::Refused(Refusal::Corrupt);
+        return Err(Refusal::Corrupt);
     }
     if blocks <= n1 as usize {
-        return Fetched::Refused(Refusal::Corrupt);
+        return Err(Refusal::Corrupt);
     }
     fetch::lfs_dir_fetch(g, block(g, vol, n0), block(g, vol, n1), n0, n1, 0, 0)
 }

@@ -7,7 +7,7 @@ ghost use Rattle.std.specs.Prelude.{◌≡◌, ◌++◌};
 ghost use Rattle.format.specs.Word.{to_le32, to_be32};
 ghost use Rattle.format.specs.Bytes.{inside, le32_at, be32_at, put_answer, put_le32, put_be32};
 
-use format::{Altered, Refusal, Word};
+use format::Refusal;
 
 // The same at an offset that the caller knows to be inside. They have a `requires`, and are for the crates of this
 // repository.
@@ -60,49 +60,49 @@ fn has_word(s: &[u8], at: usize) -> bool
 }
 
 // The little-endian word at an offset.
-pub fn lfs_le32_at(s: &[u8], at: usize) -> Word
+pub fn lfs_le32_at(s: &[u8], at: usize) -> Result<u32, Refusal>
     ensures { result ≡ le32_at s.now at }
 {
     if has_word(s, at) {
-        Word::Is(within::le32(s, at))
+        Ok(within::le32(s, at))
     } else {
-        Word::Refused(Refusal::Corrupt)
+        Err(Refusal::Corrupt)
     }
 }
 
 // The big-endian word at an offset.
-pub fn lfs_be32_at(s: &[u8], at: usize) -> Word
+pub fn lfs_be32_at(s: &[u8], at: usize) -> Result<u32, Refusal>
     ensures { result ≡ be32_at s.now at }
 {
     if has_word(s, at) {
-        Word::Is(within::be32(s, at))
+        Ok(within::be32(s, at))
     } else {
-        Word::Refused(Refusal::Corrupt)
+        Err(Refusal::Corrupt)
     }
 }
 
 // A word stored little-endian at an offset; a refusal alters nothing.
-pub fn lfs_put_le32(s: &mut [u8], at: usize, v: u32) -> Altered
+pub fn lfs_put_le32(s: &mut [u8], at: usize, v: u32) -> Result<(), Refusal>
     ensures value { result ≡ put_answer s.old at }
     ensures s_after { s.new ≡ put_le32 s.old at v }
 {
     if has_word(s, at) {
         within::put_le32(s, at, v);
-        Altered::Done
+        Ok(())
     } else {
-        Altered::Refused(Refusal::Corrupt)
+        Err(Refusal::Corrupt)
     }
 }
 
 // A word stored big-endian at an offset; a refusal alters nothing.
-pub fn lfs_put_be32(s: &mut [u8], at: usize, v: u32) -> Altered
+pub fn lfs_put_be32(s: &mut [u8], at: usize, v: u32) -> Result<(), Refusal>
     ensures value { result ≡ put_answer s.old at }
     ensures s_after { s.new ≡ put_be32 s.old at v }
 {
     if has_word(s, at) {
         within::put_be32(s, at, v);
-        Altered::Done
+        Ok(())
     } else {
-        Altered::Refused(Refusal::Corrupt)
+        Err(Refusal::Corrupt)
     }
 }

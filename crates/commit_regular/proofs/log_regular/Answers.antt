@@ -86,7 +86,7 @@ loop-at-preserved c = ((turn_entry _ _ _ _ _ _ _
     c.if-is_check.false _
     c.lfs_tag_type3.ensures _
     c.rule_of-rule.ensures _
-    c.entered.ensures _ (sym c.in-To.is)).onward _
+    c.entered.ensures _ (sym c.in-Some.is)).onward _
     c.grows_after-grows.ensures).ahead
 
 pub returns : goal.returns

@@ -8,12 +8,12 @@ returns-in-Refused c = answer_refused _ _ _ c.in-Refused.is
 pub returns-in-Judge : goal.returns-in-Judge
 returns-in-Judge c = answer_judge _ _ _ c.in-Judge.is
 
-pub returns-in-Found : goal.returns-in-Found
-returns-in-Found c = answer_found c.args.st
+pub returns-in-Ok : goal.returns-in-Ok
+returns-in-Ok c = answer_found c.args.st
     _ _
     c.in-Lay.is _
     c.lfs_dir_refetch.ensures _ _
-    c.in-Found.is
+    c.in-Ok.is
 
 pub returns-in-Refused-lfs_dir_refetch : goal.returns-in-Refused-lfs_dir_refetch
 returns-in-Refused-lfs_dir_refetch c = answer_lost c.args.st

@@ -15,11 +15,11 @@ returns-then-not-fits c =
     c.refused.ensures
 
 pub start-requires : goal.start-requires
-start-requires c = ends_first _ _ _ _ _ _ _ _ _ (sym c.in-Found.is
+start-requires c = ends_first _ _ _ _ _ _ _ _ _ (sym c.in-Ok.is
     ∙ c.lfs_dir_fetch.ensures) c.if-m-n0.true
 
 pub start-requires-else-m-n0 : goal.start-requires-else-m-n0
-start-requires-else-m-n0 c = ends_second _ _ _ _ _ _ _ _ _ (sym c.in-Found.is
+start-requires-else-m-n0 c = ends_second _ _ _ _ _ _ _ _ _ (sym c.in-Ok.is
     ∙ c.lfs_dir_fetch.ensures) c.if-m-n0.false
 
 pub returns-in-Refused : goal.returns-in-Refused
@@ -38,7 +38,7 @@ returns-then-m-n0 c =
     a.entries a.dat.now _ _ c.pair_fits.ensures c.writes_fit.ensures
     (ap not c.if-not-fits.false) _ _
     (sym c.lfs_dir_fetch.ensures
-    ∙ c.in-Found.is) _ c.if-m-n0.true
+    ∙ c.in-Ok.is) _ c.if-m-n0.true
     c.start.ensures
 
 pub returns-else-m-n0 : goal.returns-else-m-n0
@@ -48,5 +48,5 @@ returns-else-m-n0 c =
     a.entries a.dat.now _ _ c.pair_fits.ensures c.writes_fit.ensures
     (ap not c.if-not-fits.false) _ _
     (sym c.lfs_dir_fetch.ensures
-    ∙ c.in-Found.is) _ c.if-m-n0.false
+    ∙ c.in-Ok.is) _ c.if-m-n0.false
     c.start-else-m-n0.ensures

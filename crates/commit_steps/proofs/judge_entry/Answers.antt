@@ -7,14 +7,14 @@ use Rattle.commit_steps.proofs.judge_entry.Goals as goal
 
 pub returns-then-not-in_buffer : goal.returns-then-not-in_buffer
 returns-then-not-in_buffer c = judged_outside _ _ _ _ _ _ _ (sym c.counted.ensures
-    ∙ c.in-To.is) _ c.in_buffer.ensures (ap not c.if-not-in_buffer.true)
+    ∙ c.in-Some.is) _ c.in_buffer.ensures (ap not c.if-not-in_buffer.true)
 
-pub returns-in-Bad : goal.returns-in-Bad
-returns-in-Bad c = judged_bad _ _ _ _ _ _ (sym c.counted.ensures ∙ c.in-Bad.is)
+pub returns-in-None : goal.returns-in-None
+returns-in-None c = judged_bad _ _ _ _ _ _ (sym c.counted.ensures ∙ c.in-None.is)
 
 pub returns-else-not-in_buffer : goal.returns-else-not-in_buffer
 returns-else-not-in_buffer c = judged_good _ _ _ _ _ _ _
     (sym c.counted.ensures
-    ∙ c.in-To.is) _
+    ∙ c.in-Some.is) _
     c.in_buffer.ensures _ _ (ap not c.if-not-in_buffer.false) c.lfs_mktag-tag.ensures
     c.sum_up.ensures

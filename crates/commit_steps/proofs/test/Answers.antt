@@ -23,7 +23,7 @@ pub returns-then-coincides : goal.returns-then-coincides
 returns-then-coincides c =
     tested_coincides _ _ _ _ _ _ _ c.rounded_end.ensures c.if-b-rounded_end.false _
     c.room.ensures
-    c.in-Clean.is _ c.check_tag.ensures _
+    c.in-Ok.is _ c.check_tag.ensures _
     c.coincides.ensures c.if-coincides.true
 
 pub returns-in-Refused : goal.returns-in-Refused
@@ -35,6 +35,6 @@ pub returns-else-coincides : goal.returns-else-coincides
 returns-else-coincides c =
     tested_lays _ _ _ _ _ _ _ c.rounded_end.ensures c.if-b-rounded_end.false _
     c.room.ensures
-    c.in-Clean.is _
+    c.in-Ok.is _
     c.check_tag.ensures _ c.coincides.ensures _
     c.if-coincides.false c.sum_be32.ensures

@@ -11,12 +11,12 @@ use Rattle.compact.proofs.run.Goals as goal
 pub renew-requires : goal.renew-requires
 renew-requires c =
     renews_first _ _ _ _ _ _ _ c.args.rules c.args.erased _ c.writes_fit.ensures (ap not c.if-not-writes_fit.false) _ _
-    (sym c.in-Found.is ∙ c.lfs_dir_fetch.ensures) c.if-pair-n0.true
+    (sym c.in-Ok.is ∙ c.lfs_dir_fetch.ensures) c.if-pair-n0.true
 
 pub renew-requires-else-pair-n0 : goal.renew-requires-else-pair-n0
 renew-requires-else-pair-n0 c =
     renews_second _ _ _ _ _ _ _ c.args.rules c.args.erased _ c.writes_fit.ensures (ap not c.if-not-writes_fit.false) _ _
-    (sym c.in-Found.is ∙ c.lfs_dir_fetch.ensures) c.if-pair-n0.false
+    (sym c.in-Ok.is ∙ c.lfs_dir_fetch.ensures) c.if-pair-n0.false
 
 pub returns-then-not-writes_fit : goal.returns-then-not-writes_fit
 returns-then-not-writes_fit c = let all = kept _ _ _ _ _ _ _ _ _ _ _ _ _ _ _ (λ i. omega (
@@ -26,8 +26,8 @@ returns-then-not-writes_fit c = let all = kept _ _ _ _ _ _ _ _ _ _ _ _ _ _ _ (λ
     (λ i. omega (arith, c.slice_known-2-1.given i))
     (called_invalid _ _ _ _ _ _ _ _ _ _ c.writes_fit.ensures _ _ (ap not c.if-not-writes_fit.true)) in record { value = all.0; compact_stores_leaves = all.1.0; table_after = all.1.1 }
 
-pub returns-in-Refused : goal.returns-in-Refused
-returns-in-Refused c = let all = kept _ _ _ _ _ _ _ _ _ _ _ _ _ _ _ (λ i. omega (
+pub returns-in-Err : goal.returns-in-Err
+returns-in-Err c = let all = kept _ _ _ _ _ _ _ _ _ _ _ _ _ _ _ (λ i. omega (
   arith,
   c.slice_known-1.given i,
 ))
@@ -36,7 +36,7 @@ returns-in-Refused c = let all = kept _ _ _ _ _ _ _ _ _ _ _ _ _ _ _ (λ i. omega
       c.slice_known-2-1.given i,
     ))
     (called_refused _ _ _ _ _ _ _ _ _ _ c.writes_fit.ensures (ap not c.if-not-writes_fit.false) _ _ _
-    (sym c.in-Refused.is ∙ c.lfs_dir_fetch.ensures)) in record { value = all.0; compact_stores_leaves = all.1.0; table_after = all.1.1 }
+    (sym c.in-Err.is ∙ c.lfs_dir_fetch.ensures)) in record { value = all.0; compact_stores_leaves = all.1.0; table_after = all.1.1 }
 
 pub returns-then-pair-n0 : goal.returns-then-pair-n0
 returns-then-pair-n0 c =
@@ -50,7 +50,7 @@ returns-then-pair-n0 c =
     ))
     (called_first _ _ _ _ _ _ _ _ _ _ c.writes_fit.ensures
     (ap not c.if-not-writes_fit.false) _ _
-    (sym c.in-Found.is ∙ c.lfs_dir_fetch.ensures) c.if-pair-n0.true _ _ _
+    (sym c.in-Ok.is ∙ c.lfs_dir_fetch.ensures) c.if-pair-n0.true _ _ _
     renewed.value renewed.after _ _ renewed.table_after) in record { value = all.0; compact_stores_leaves = all.1.0; table_after = all.1.1 }
 
 pub returns-else-pair-n0 : goal.returns-else-pair-n0
@@ -65,5 +65,5 @@ returns-else-pair-n0 c =
     ))
     (called_second _ _ _ _ _ _ _ _ _ _ c.writes_fit.ensures
     (ap not c.if-not-writes_fit.false) _ _
-    (sym c.in-Found.is ∙ c.lfs_dir_fetch.ensures) c.if-pair-n0.false _ _ _
+    (sym c.in-Ok.is ∙ c.lfs_dir_fetch.ensures) c.if-pair-n0.false _ _ _
     renewed.value renewed.after _ _ renewed.table_after) in record { value = all.0; compact_stores_leaves = all.1.0; table_after = all.1.1 }

@@ -4,7 +4,7 @@ use Rattle.std.proofs.Common.{arith}
 use Rattle.compact_block.proofs.Lent.{Lends, renew_irregular, renew_done, renew_regular, renew_builds}
 use Rattle.compact_block.proofs.Lent.{places_few, lends_places, lends_none}
 use Rattle.std.proofs.Common.{ap, not}
-use Rattle.compact_block.proofs.renew.Goals.{in-Places, in_default}
+use Rattle.compact_block.proofs.renew.Goals.{in-Ok, in_default}
 use Rattle.compact_block.proofs.renew.Goals as goal
 
 pub log_regular-requires : goal.log_regular-requires
@@ -26,7 +26,7 @@ build-built-requires c = renew_builds _ c.args.rules _ c.rules_of.ensures _ c.lo
 pub overflow_mul-used : goal.overflow_mul-used
 overflow_mul-used c =
     let few = places_few _ c.args.rules _ c.rules_of.ensures _ c.log_regular.ensures (ap not c.if-not-log_regular.false) _ _
-    c.build-built.ensures.value _ c.build-built.ensures.table_after c.build-built.auto.table _ c.in-Places.is in
+    c.build-built.ensures.value _ c.build-built.ensures.table_after c.build-built.auto.table _ c.in-Ok.is in
     omega (
       arith,
       few,
@@ -40,8 +40,8 @@ slice_bounds-places-end c =
     let t = c.build-built.ensures in
     let lent : Lends a.old.now _ m.used m.indexed
     = elim m.branch [
-      | in-Places w ↦ lends_places _ a.rules _ c.rules_of.ensures _ c.log_regular.ensures
-          (ap not c.if-not-log_regular.false) _ _ t.value _ t.table_after c.build-built.auto.table _ w.in-Places.is _
+      | in-Ok w ↦ lends_places _ a.rules _ c.rules_of.ensures _ c.log_regular.ensures
+          (ap not c.if-not-log_regular.false) _ _ t.value _ t.table_after c.build-built.auto.table _ w.in-Ok.is _
           w.used-is _
       | in_default w ↦ lends_none _ _ _ w.used-is _ w.indexed-is
     ] in
@@ -54,8 +54,8 @@ rewrite-requires c =
     let t = c.build-built.ensures in
     let lent : Lends a.old.now _ m.used m.indexed
     = elim m.branch [
-      | in-Places w ↦ lends_places _ a.rules _ c.rules_of.ensures _ c.log_regular.ensures
-          (ap not c.if-not-log_regular.false) _ _ t.value _ t.table_after c.build-built.auto.table _ w.in-Places.is _
+      | in-Ok w ↦ lends_places _ a.rules _ c.rules_of.ensures _ c.log_regular.ensures
+          (ap not c.if-not-log_regular.false) _ _ t.value _ t.table_after c.build-built.auto.table _ w.in-Ok.is _
           w.used-is _
       | in_default w ↦ lends_none _ _ _ w.used-is _ w.indexed-is
     ] in (

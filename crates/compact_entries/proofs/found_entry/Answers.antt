@@ -5,12 +5,12 @@ use Rattle.compact_entries.proofs.found_entry.Goals as goal
 
 pub overflow_sub-f : goal.overflow_sub-f
 overflow_sub-f c = (hit_in _ _ c.requires.1
-    c.in-Found.is).counted
+    c.in-Some.is).counted
 
-pub returns-in-Nothing : goal.returns-in-Nothing
-returns-in-Nothing c = hit_missing _ _ _ c.in-Nothing.is
+pub returns-in-None : goal.returns-in-None
+returns-in-None c = hit_missing _ _ _ c.in-None.is
 
-pub returns-in-Found : goal.returns-in-Found
-returns-in-Found c = hit_made _ _ _ _ c.in-Found.is
+pub returns-in-Some : goal.returns-in-Some
+returns-in-Some c = hit_made _ _ _ _ c.in-Some.is
     c.requires.1 _
     c.entry.ensures

@@ -15,14 +15,14 @@ returns-in_default c = walk_over _ _ _ _ _ _ _ c.loop-at.invariant.2
 pub returns-then-created : goal.returns-then-created
 returns-then-created c = walk_created _ _ _ _ _ _ _ c.loop-at.invariant.2 _
     (placed_at_lem _ _ _ _ c.place.ensures
-    c.in-At.is) _ c.created.ensures c.if-created.true
+    c.in-Some.is) _ c.created.ensures c.if-created.true
 
 pub note-requires : goal.note-requires
 note-requires c = (
   omega (
     arith,
     back_word _ _ _ (placed_at_lem _ _ _ _ c.place.ensures
-        c.in-At.is),
+        c.in-Some.is),
   ),
   omega arith,
 )
@@ -32,7 +32,7 @@ tag_before-tag-requires c = omega (
   arith,
   back_word _ _ _
       (placed_at_lem _ _ _ _ c.place.ensures
-      c.in-At.is),
+      c.in-Some.is),
 )
 
 pub loop-at-smaller : goal.loop-at-smaller
@@ -40,7 +40,7 @@ loop-at-smaller c = omega (
   arith,
   back_word _ _ _
       (placed_at_lem _ _ _ _ c.place.ensures
-      c.in-At.is),
+      c.in-Some.is),
 )
 
 pub loop-at-preserved : goal.loop-at-preserved
@@ -49,13 +49,13 @@ loop-at-preserved c = (
     arith,
     back_word _ _ _
         (placed_at_lem _ _ _ _ c.place.ensures
-        c.in-At.is),
+        c.in-Some.is),
   ),
   omega (
     arith,
     back_word _ _ _
         (placed_at_lem _ _ _ _ c.place.ensures
-        c.in-At.is),
+        c.in-Some.is),
     c.id_before-slot.ensures,
     id_before_most c.loop-at.tag
         c.loop-at.slot,
@@ -63,7 +63,7 @@ loop-at-preserved c = (
   walk_on _ _ _ _
       _ _ _ c.loop-at.invariant.2 _
       (placed_at_lem _ _ _ _ c.place.ensures
-      c.in-At.is) _
+      c.in-Some.is) _
       c.created.ensures c.if-created.false
       (omega arith) (omega arith) _ c.note.ensures _
       c.id_before-slot.ensures _

@@ -74,7 +74,7 @@ follow-any-requires c = entry_followable _ _ _ (none_named _ _) _ _ _ _ _ _ _
     c.loop-at.invariant _ _ _ _
     (turn_entry _ _ _ _ _ _ _ c.loop-at.invariant.ahead c.loop-at-test.true _ c.be32.ensures _
     c.lfs_tag_dsize.ensures _ c.is_check.ensures c.if-is_check.false _ c.lfs_tag_type3.ensures _
-    c.rule_of-rule.ensures _ c.entered.ensures _ (sym c.in-To.is))
+    c.rule_of-rule.ensures _ c.entered.ensures _ (sym c.in-Some.is))
 
 pub loop-at-smaller : goal.loop-at-smaller
 loop-at-smaller c =
@@ -87,7 +87,7 @@ loop-at-preserved c = entry_goes _ _ _ (none_named _ _) _ _ _ _ _ _ _
     c.loop-at.invariant _ _ _ _
     (turn_entry _ _ _ _ _ _ _ c.loop-at.invariant.ahead c.loop-at-test.true _ c.be32.ensures _
     c.lfs_tag_dsize.ensures _ c.is_check.ensures c.if-is_check.false _ c.lfs_tag_type3.ensures _
-    c.rule_of-rule.ensures _ c.entered.ensures _ (sym c.in-To.is)) _ _ _ c.follow-any.ensures
+    c.rule_of-rule.ensures _ c.entered.ensures _ (sym c.in-Some.is)) _ _ _ c.follow-any.ensures
     c.grows_after-grows.ensures
 
 pub returns : goal.returns

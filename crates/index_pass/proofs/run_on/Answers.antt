@@ -36,7 +36,7 @@ pub loop-at-smaller : goal.loop-at-smaller
 loop-at-smaller c = let t = tag_inside _ _ _ _ _ _ _ _ _ _ _ (c.loop-at.invariant.1 c.requires.onwards) c.loop-at-test.true _ c.be32.ensures _ c.lfs_tag_dsize.ensures in omega (arith, t.1)
 
 pub loop-at-preserved : goal.loop-at-preserved
-loop-at-preserved c = (search rules, λ k. entry_goes _ _ _ _ _ _ _ _ _ _ _ (c.loop-at.invariant.1 k) c.loop-at-test.true _ c.be32.ensures _ c.lfs_tag_dsize.ensures _ c.is_check.ensures c.if-is_check.false _ _ c.follow.ensures _ (sym c.in-To.is))
+loop-at-preserved c = (search rules, λ k. entry_goes _ _ _ _ _ _ _ _ _ _ _ (c.loop-at.invariant.1 k) c.loop-at-test.true _ c.be32.ensures _ c.lfs_tag_dsize.ensures _ c.is_check.ensures c.if-is_check.false _ _ c.follow.ensures _ (sym c.in-Some.is))
 
 pub returns : goal.returns
 returns c = λ k. ends_there _ _ _ _ _ _ _ _ _ _ _ (c.loop-at.invariant.1 k) c.loop-at-test.false

@@ -18,14 +18,14 @@ same : {n n' : ℤ} {i i' : ℕ} {m m' : LfsMdir} {s s' : ℕ} → n ≡ n' → 
     → out n i m s ≡ out n' i' m' s'
 same a b c d = λ k. out (a k) (b k) (c k) (d k)
 
-pub returns-in-Done : goal.returns-in-Done
-returns-in-Done c = sym (ap (committed_out c.args.seed) c.in-Done.is)
+pub returns-in-Ok : goal.returns-in-Ok
+returns-in-Ok c = sym (ap (committed_out c.args.seed) c.in-Ok.is)
 
-pub returns-in-Refused : goal.returns-in-Refused
+pub returns-in-Err : goal.returns-in-Err
 unfolding out
-returns-in-Refused c =
+returns-in-Err c =
     let n = c.number in
     same (to_z-of_z {w = w32} (sfits_of n.type_inv) ∙ n.ensures) c.refused_index.ensures
     c.refused_mdir.ensures
     c.refused_seed.ensures
-    ∙ sym (ap (committed_out c.args.seed) c.in-Refused.is)
+    ∙ sym (ap (committed_out c.args.seed) c.in-Err.is)

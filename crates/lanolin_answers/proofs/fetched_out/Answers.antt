@@ -17,12 +17,12 @@ out n m s = record { result = n; dir = m; seed = s }
 same : {n n' : ℤ} {m m' : LfsMdir} {s s' : ℕ} → n ≡ n' → m ≡ m' → s ≡ s' → out n m s ≡ out n' m' s'
 same a b c = λ i. out (a i) (b i) (c i)
 
-pub returns-in-Found : goal.returns-in-Found
-returns-in-Found c = sym (ap (fetched_out c.args.seed) c.in-Found.is)
+pub returns-in-Ok : goal.returns-in-Ok
+returns-in-Ok c = sym (ap (fetched_out c.args.seed) c.in-Ok.is)
 
-pub returns-in-Refused : goal.returns-in-Refused
+pub returns-in-Err : goal.returns-in-Err
 unfolding out
-returns-in-Refused c =
+returns-in-Err c =
     let n = c.number in
     same (to_z-of_z {w = w32} (sfits_of n.type_inv) ∙ n.ensures) c.refused_mdir.ensures c.refused_seed.ensures
-    ∙ sym (ap (fetched_out c.args.seed) c.in-Refused.is)
+    ∙ sym (ap (fetched_out c.args.seed) c.in-Err.is)

@@ -12,10 +12,10 @@ use Rattle.lanolin_answers.proofs.got_out.Goals as goal
 refused : ℤ → GotOut
 refused n = record { result = n; found = none_found }
 
-pub returns-in-Found : goal.returns-in-Found
-returns-in-Found c = sym (ap got_out c.in-Found.is)
+pub returns-in-Ok : goal.returns-in-Ok
+returns-in-Ok c = sym (ap got_out c.in-Ok.is)
 
-pub returns-in-Refused : goal.returns-in-Refused
+pub returns-in-Err : goal.returns-in-Err
 unfolding refused
-returns-in-Refused c = ap refused (to_z-of_z {w = w32} (sfits_of c.number.type_inv) ∙ c.number.ensures)
-    ∙ sym (ap got_out c.in-Refused.is)
+returns-in-Err c = ap refused (to_z-of_z {w = w32} (sfits_of c.number.type_inv) ∙ c.number.ensures)
+    ∙ sym (ap got_out c.in-Err.is)

@@ -15,12 +15,12 @@ out n = record { result = n; places = 0 }
 held : ℕ → IndexedOut
 held n = record { result = pos 0; places = n }
 
-pub returns-in-Places : goal.returns-in-Places
+pub returns-in-Ok : goal.returns-in-Ok
 unfolding held
-returns-in-Places c = ap held c.in_word.ensures ∙ sym (ap indexed_out c.in-Places.is)
+returns-in-Ok c = ap held c.in_word.ensures ∙ sym (ap indexed_out c.in-Ok.is)
 
-pub returns-in-Refused : goal.returns-in-Refused
+pub returns-in-Err : goal.returns-in-Err
 unfolding out
-returns-in-Refused c =
+returns-in-Err c =
     let n = c.number in
-    ap out (to_z-of_z {w = w32} (sfits_of n.type_inv) ∙ n.ensures) ∙ sym (ap indexed_out c.in-Refused.is)
+    ap out (to_z-of_z {w = w32} (sfits_of n.type_inv) ∙ n.ensures) ∙ sym (ap indexed_out c.in-Err.is)

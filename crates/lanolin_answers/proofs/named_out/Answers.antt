@@ -15,11 +15,11 @@ out n = record { result = n; found = false; id = 0 }
 pub returns-in-At : goal.returns-in-At
 returns-in-At c = sym (ap named_out c.in-At.is)
 
-pub returns-in-Nothing : goal.returns-in-Nothing
-returns-in-Nothing c = sym (ap named_out c.in-Nothing.is)
+pub returns-in-None : goal.returns-in-None
+returns-in-None c = sym (ap named_out c.in-None.is)
 
-pub returns-in-Refused : goal.returns-in-Refused
+pub returns-in-Err : goal.returns-in-Err
 unfolding out
-returns-in-Refused c =
+returns-in-Err c =
     let n = c.number in
-    ap out (to_z-of_z {w = w32} (sfits_of n.type_inv) ∙ n.ensures) ∙ sym (ap named_out c.in-Refused.is)
+    ap out (to_z-of_z {w = w32} (sfits_of n.type_inv) ∙ n.ensures) ∙ sym (ap named_out c.in-Err.is)

@@ -2,6 +2,7 @@
 use mathlib.Core.Path.{sym, ap}
 use Rattle.format.specs.Answer.{refusal_number}
 use Rattle.lanolin_answers.proofs.number.Goals as goal
+use Rattle.format.specs.Record.{fetched}
 
 pub returns-in-Invalid : goal.returns-in-Invalid
 returns-in-Invalid c = sym (ap refusal_number c.in-Invalid.is)
@@ -12,8 +13,7 @@ returns-in-Corrupt c = sym (ap refusal_number c.in-Corrupt.is)
 pub returns-in-NoEntry : goal.returns-in-NoEntry
 returns-in-NoEntry c = sym (ap refusal_number c.in-NoEntry.is)
 
-pub returns-in-TooMany : goal.returns-in-TooMany
-returns-in-TooMany c = sym (ap refusal_number c.in-TooMany.is)
+pub returns-in-TooMany : goal.returns-in-TooMany (fetched returns-in-TooMany c) = sym (ap refusal_number c.in-TooMany.is)
 
 pub returns-in-BadEntry : goal.returns-in-BadEntry
 returns-in-BadEntry c = sym (ap refusal_number c.in-BadEntry.is)

@@ -16,12 +16,12 @@ out n i = record { result = n; index = i; stores = 0 }
 same : {n n' : ℤ} {i i' : ℕ} → n ≡ n' → i ≡ i' → out n i ≡ out n' i'
 same a b = λ k. out (a k) (b k)
 
-pub returns-in-Made : goal.returns-in-Made
-returns-in-Made c = sym (ap stored_out c.in-Made.is)
+pub returns-in-Ok : goal.returns-in-Ok
+returns-in-Ok c = sym (ap stored_out c.in-Ok.is)
 
-pub returns-in-Refused : goal.returns-in-Refused
+pub returns-in-Err : goal.returns-in-Err
 unfolding out
-returns-in-Refused c =
+returns-in-Err c =
     let n = c.number in
     same (to_z-of_z {w = w32} (sfits_of n.type_inv) ∙ n.ensures) c.refused_index.ensures
-    ∙ sym (ap stored_out c.in-Refused.is)
+    ∙ sym (ap stored_out c.in-Err.is)

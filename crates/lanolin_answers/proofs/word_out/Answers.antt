@@ -11,10 +11,10 @@ use Rattle.lanolin_answers.proofs.word_out.Goals as goal
 refused : ℤ → Value
 refused n = record { result = n; value = 0 }
 
-pub returns-in-Is : goal.returns-in-Is
-returns-in-Is c = sym (ap word_out c.in-Is.is)
+pub returns-in-Ok : goal.returns-in-Ok
+returns-in-Ok c = sym (ap word_out c.in-Ok.is)
 
-pub returns-in-Refused : goal.returns-in-Refused
+pub returns-in-Err : goal.returns-in-Err
 unfolding refused
-returns-in-Refused c = ap refused (to_z-of_z {w = w32} (sfits_of c.number.type_inv) ∙ c.number.ensures)
-    ∙ sym (ap word_out c.in-Refused.is)
+returns-in-Err c = ap refused (to_z-of_z {w = w32} (sfits_of c.number.type_inv) ∙ c.number.ensures)
+    ∙ sym (ap word_out c.in-Err.is)

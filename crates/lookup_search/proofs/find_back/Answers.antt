@@ -21,7 +21,7 @@ returns-then-spliced-tag c = (
   turn_created _ _ _ _ _ _ _ _
       c.loop-at.invariant.1 _
       (placed_at_lem _ _ _ _ c.place.ensures
-      c.in-At.is) _ c.key_at-key.ensures _
+      c.in-Some.is) _ c.key_at-key.ensures _
       c.splices-spliced.ensures _ c.create_at.ensures c.if-spliced-tag.true,
   tt,
 )
@@ -30,7 +30,7 @@ pub returns-then-lfs_tag_isdelete : goal.returns-then-lfs_tag_isdelete
 returns-then-lfs_tag_isdelete c = (
   turn_removed _ _ _ _ _ _ _ _ c.loop-at.invariant.1 _
       (placed_at_lem _ _ _ _ c.place.ensures
-      c.in-At.is) _ c.key_at-key.ensures _
+      c.in-Some.is) _ c.key_at-key.ensures _
       c.splices-spliced.ensures _ c.create_at.ensures
       c.if-spliced-tag.false _
       c.diff_after-next.ensures _ c.key_at.ensures
@@ -44,13 +44,13 @@ found_at-requires c =
       arith,
       back_word _ _ _
           (placed_at_lem _ _ _ _ c.place.ensures
-          c.in-At.is),
+          c.in-Some.is),
     )
 
 pub returns-then-tag-gmask : goal.returns-then-tag-gmask
 returns-then-tag-gmask c =
     let ends = placed_at_lem _ _ _ _ c.place.ensures
-    c.in-At.is in
+    c.in-Some.is in
     let inv = c.loop-at.invariant in
     let kept = sym c.lfs_tag_isdelete.ensures ∙ c.if-lfs_tag_isdelete.false in (
       turn_found _ _ _ _ _ _ _ _ inv.1 _ ends _ c.key_at-key.ensures _
@@ -67,7 +67,7 @@ tag_before-tag-requires c = omega (
   back_word _ _ _
       (placed_at_lem _ _ _ _
       c.place.ensures
-      c.in-At.is),
+      c.in-Some.is),
 )
 
 pub loop-at-smaller : goal.loop-at-smaller
@@ -76,7 +76,7 @@ loop-at-smaller c = omega (
   back_word _ _ _
       (placed_at_lem _ _ _ _
       c.place.ensures
-      c.in-At.is),
+      c.in-Some.is),
 )
 
 pub loop-at-preserved : goal.loop-at-preserved
@@ -84,11 +84,11 @@ loop-at-preserved c = (
   omega (
     arith,
     back_word _ _ _ (placed_at_lem _ _ _ _
-        c.place.ensures c.in-At.is),
+        c.place.ensures c.in-Some.is),
   ),
   turn_on _ _ _ _ _ _ _ _ c.loop-at.invariant.1 _
       (placed_at_lem _ _ _ _ c.place.ensures
-      c.in-At.is) _ c.key_at-key.ensures _ c.splices-spliced.ensures _
+      c.in-Some.is) _ c.key_at-key.ensures _ c.splices-spliced.ensures _
       c.create_at.ensures
       c.if-spliced-tag.false _ c.diff_after-next.ensures _
       c.key_at.ensures c.if-tag-gmask.false _ c.tag_before-tag.ensures,

@@ -18,7 +18,7 @@ returns-in_default c = sym (number_on _ _ _ c.loop-i.invariant.0 _
 
 pub loop-i-preserved : goal.loop-i-preserved
 loop-i-preserved c =
-    let more = sym c.in-Is.is ∙ c.digit_behind.ensures in (
+    let more = sym c.in-Some.is ∙ c.digit_behind.ensures in (
       number_on _ _ _ c.loop-i.invariant.0 _
           c.loop-i-test.true more,
       more_fits _ _ _ more,

@@ -2,8 +2,8 @@
 use Rattle.text_audit.proofs.Told.{deadline_missing, deadline_there}
 use Rattle.text_audit.proofs.is_deadline.Goals as goal
 
-pub returns-in-Nothing : goal.returns-in-Nothing
-returns-in-Nothing c = deadline_missing _ c.in-Nothing.is
+pub returns-in-None : goal.returns-in-None
+returns-in-None c = deadline_missing _ c.in-None.is
 
-pub returns-in-Found : goal.returns-in-Found
-returns-in-Found c = deadline_there _ c.in-Found.is
+pub returns-in-Some : goal.returns-in-Some
+returns-in-Some c = deadline_there _ c.in-Some.is

@@ -6,4 +6,4 @@ pub returns-in_default : goal.returns-in_default
 returns-in_default c = instruction_nameless _ c.in_default.is
 
 pub returns : goal.returns
-returns c = instruction_named _ c.in-Found.is _ c.lfs_tag_type3-kind.ensures
+returns c = instruction_named _ c.in-Some.is _ c.lfs_tag_type3-kind.ensures

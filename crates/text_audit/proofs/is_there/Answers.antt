@@ -2,8 +2,8 @@
 use Rattle.text_audit.proofs.Told.{not_there, is_there_lem}
 use Rattle.text_audit.proofs.is_there.Goals as goal
 
-pub returns-in-Nothing : goal.returns-in-Nothing
-returns-in-Nothing c = not_there _ c.in-Nothing.is
+pub returns-in-None : goal.returns-in-None
+returns-in-None c = not_there _ c.in-None.is
 
-pub returns-in-Found : goal.returns-in-Found
-returns-in-Found c = is_there_lem _ c.in-Found.is
+pub returns-in-Some : goal.returns-in-Some
+returns-in-Some c = is_there_lem _ c.in-Some.is

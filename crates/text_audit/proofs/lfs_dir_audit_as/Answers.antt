@@ -11,13 +11,13 @@ use Rattle.text_audit.proofs.lfs_dir_audit_as.Goals as goal
 
 pub block_audit-requires : goal.block_audit-requires
 block_audit-requires c =
-    first_listable _ _ _ _ _ (sym c.in-Found.is
+    first_listable _ _ _ _ _ (sym c.in-Ok.is
     ∙ c.fetch_input.ensures)
     c.if-pair-numbers.true
 
 pub block_audit-requires-else-pair-numbers : goal.block_audit-requires-else-pair-numbers
 block_audit-requires-else-pair-numbers c =
-    second_listable _ _ _ _ _ (sym c.in-Found.is
+    second_listable _ _ _ _ _ (sym c.in-Ok.is
     ∙ c.fetch_input.ensures)
     c.if-pair-numbers.false
 
@@ -26,20 +26,20 @@ returns-then-rules-gt1 c =
     let a = c.args in let all = puts_written _ _ _ _ (audit_short a.prog_size a.numbers a.rules a.input.now)
     (rule_refused _ _ _ _ c.if-rules-gt1.true c.refused.ensures) in record { value = all.0; out_after = all.1 }
 
-pub returns-in-Refused : goal.returns-in-Refused
-returns-in-Refused c =
+pub returns-in-Err : goal.returns-in-Err
+returns-in-Err c =
     let a = c.args in let all = puts_written _ _ _ _ (audit_short a.prog_size a.numbers a.rules a.input.now)
     (rule_fits _ _ _ _ c.if-rules-gt1.false (shown_refused _ _
     _ (block_audit (rules_of a.rules)) _ _ _
-    (sym c.in-Refused.is
+    (sym c.in-Err.is
     ∙ c.fetch_input.ensures)
-    c.refused-in-Refused.ensures)) in record { value = all.0; out_after = all.1 }
+    c.refused-in-Err.ensures)) in record { value = all.0; out_after = all.1 }
 
 pub returns-then-pair-numbers : goal.returns-then-pair-numbers
 returns-then-pair-numbers c =
     let a = c.args in let all = puts_written _ _ _ _ (audit_short a.prog_size a.numbers a.rules a.input.now)
     (rule_fits _ _ _ _ c.if-rules-gt1.false (shown_first _ _ _ _ _
-    (sym c.in-Found.is
+    (sym c.in-Ok.is
     ∙ c.fetch_input.ensures) c.if-pair-numbers.true (block_audit (rules_of a.rules)) _ _
     c.block_audit.ensures)) in record { value = all.0; out_after = all.1 }
 
@@ -47,6 +47,6 @@ pub returns-else-pair-numbers : goal.returns-else-pair-numbers
 returns-else-pair-numbers c =
     let a = c.args in let all = puts_written _ _ _ _ (audit_short a.prog_size a.numbers a.rules a.input.now)
     (rule_fits _ _ _ _ c.if-rules-gt1.false (shown_second _ _ _ _ _
-    (sym c.in-Found.is
+    (sym c.in-Ok.is
     ∙ c.fetch_input.ensures) c.if-pair-numbers.false (block_audit (rules_of a.rules)) _ _
     c.block_audit-else-pair-numbers.ensures)) in record { value = all.0; out_after = all.1 }

@@ -8,10 +8,10 @@ returns-in_default c = dash_shown _ c.in_default.is _ _ _
     c.puts.ensures
 
 pub overflow_sub-to : goal.overflow_sub-to
-overflow_sub-to c = (hit_in _ _ c.requires c.in-Found.is).counted
+overflow_sub-to c = (hit_in _ _ c.requires c.in-Some.is).counted
 
 pub slice_bounds-name_bytes-end : goal.slice_bounds-name_bytes-end
-slice_bounds-name_bytes-end c = (hit_in _ _ c.requires c.in-Found.is).inside
+slice_bounds-name_bytes-end c = (hit_in _ _ c.requires c.in-Some.is).inside
 
 pub returns : goal.returns
-returns c = name_shown_lem _ c.in-Found.is _ _ _ c.name_bytes.ensures
+returns c = name_shown_lem _ c.in-Some.is _ _ _ c.name_bytes.ensures

@@ -18,10 +18,10 @@ pub returns-in-At : goal.returns-in-At
 returns-in-At c = shown_slot _ _ c.requires _ _ c.args.rules _ c.rules_of.ensures _
     (sym c.in-At.is ∙ c.find_in.ensures) _ c.gather-seats.ensures _ _ c.slot_text.ensures
 
-pub returns-in-Nothing : goal.returns-in-Nothing
-returns-in-Nothing c = shown_none _ _ c.requires _ _ c.args.rules _ c.rules_of.ensures
-    (sym c.in-Nothing.is ∙ c.find_in.ensures) _ _ c.puts.ensures
+pub returns-in-None : goal.returns-in-None
+returns-in-None c = shown_none _ _ c.requires _ _ c.args.rules _ c.rules_of.ensures
+    (sym c.in-None.is ∙ c.find_in.ensures) _ _ c.puts.ensures
 
-pub returns-in-Refused : goal.returns-in-Refused
-returns-in-Refused c = shown_refused _ _ c.requires _ _ c.args.rules _ c.rules_of.ensures _
-    (sym c.in-Refused.is ∙ c.find_in.ensures) _ _ c.refused.ensures
+pub returns-in-Err : goal.returns-in-Err
+returns-in-Err c = shown_refused _ _ c.requires _ _ c.args.rules _ c.rules_of.ensures _
+    (sym c.in-Err.is ∙ c.find_in.ensures) _ _ c.refused.ensures

@@ -11,10 +11,10 @@ use Rattle.text_find.proofs.Fits.{find_short}
 use Rattle.text_find.proofs.lfs_dir_find_as.Goals as goal
 
 pub found_text-requires : goal.found_text-requires
-found_text-requires c = first_listable _ _ _ _ _ (sym c.in-Found.is ∙ c.fetch_input.ensures) c.if-pair-numbers.true
+found_text-requires c = first_listable _ _ _ _ _ (sym c.in-Ok.is ∙ c.fetch_input.ensures) c.if-pair-numbers.true
 
 pub found_text-requires-else-pair-numbers : goal.found_text-requires-else-pair-numbers
-found_text-requires-else-pair-numbers c = second_listable _ _ _ _ _ (sym c.in-Found.is ∙ c.fetch_input.ensures)
+found_text-requires-else-pair-numbers c = second_listable _ _ _ _ _ (sym c.in-Ok.is ∙ c.fetch_input.ensures)
     c.if-pair-numbers.false
 
 pub returns-then-rules-gt1 : goal.returns-then-rules-gt1
@@ -31,14 +31,14 @@ returns-then-name-eq0 c =
     (found_as a.prog_size a.numbers a.rules a.name.now a.kind a.input.now) _ _ c.if-name-eq0.true
     c.refused-then-name-eq0.ensures)) in record { value = all.0; out_after = all.1 }
 
-pub returns-in-Refused : goal.returns-in-Refused
-returns-in-Refused c =
+pub returns-in-Err : goal.returns-in-Err
+returns-in-Err c =
     let a = c.args in let all =
     puts_written _ _ _ _ (find_short a.prog_size a.numbers a.rules a.name.now a.kind a.input.now)
     (rule_fits _ _ _ _ c.if-rules-gt1.false
     (name_fits a.name.now (found_as a.prog_size a.numbers a.rules a.name.now a.kind a.input.now) _ _ c.if-name-eq0.false
     (shown_refused _ _ _ (found_text (rules_of a.rules) a.name.now a.kind) _ _ _
-    (sym c.in-Refused.is ∙ c.fetch_input.ensures) c.refused-in-Refused.ensures))) in
+    (sym c.in-Err.is ∙ c.fetch_input.ensures) c.refused-in-Err.ensures))) in
     record { value = all.0; out_after = all.1 }
 
 pub returns-then-pair-numbers : goal.returns-then-pair-numbers
@@ -47,7 +47,7 @@ returns-then-pair-numbers c =
     puts_written _ _ _ _ (find_short a.prog_size a.numbers a.rules a.name.now a.kind a.input.now)
     (rule_fits _ _ _ _ c.if-rules-gt1.false
     (name_fits a.name.now (found_as a.prog_size a.numbers a.rules a.name.now a.kind a.input.now) _ _ c.if-name-eq0.false
-    (shown_first _ _ _ _ _ (sym c.in-Found.is ∙ c.fetch_input.ensures) c.if-pair-numbers.true
+    (shown_first _ _ _ _ _ (sym c.in-Ok.is ∙ c.fetch_input.ensures) c.if-pair-numbers.true
     (found_text (rules_of a.rules) a.name.now a.kind) _ _ c.found_text.ensures))) in
     record { value = all.0; out_after = all.1 }
 
@@ -57,6 +57,6 @@ returns-else-pair-numbers c =
     puts_written _ _ _ _ (find_short a.prog_size a.numbers a.rules a.name.now a.kind a.input.now)
     (rule_fits _ _ _ _ c.if-rules-gt1.false
     (name_fits a.name.now (found_as a.prog_size a.numbers a.rules a.name.now a.kind a.input.now) _ _ c.if-name-eq0.false
-    (shown_second _ _ _ _ _ (sym c.in-Found.is ∙ c.fetch_input.ensures) c.if-pair-numbers.false
+    (shown_second _ _ _ _ _ (sym c.in-Ok.is ∙ c.fetch_input.ensures) c.if-pair-numbers.false
     (found_text (rules_of a.rules) a.name.now a.kind) _ _ c.found_text-else-pair-numbers.ensures))) in
     record { value = all.0; out_after = all.1 }

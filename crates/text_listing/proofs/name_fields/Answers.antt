@@ -7,11 +7,11 @@ pub returns-in_default : goal.returns-in_default
 returns-in_default c = name_missing _ _ _ c.in_default.is _ c.puts.ensures
 
 pub overflow_sub-to : goal.overflow_sub-to
-overflow_sub-to c = (hit_in _ _ c.requires c.in-Found.is).counted
+overflow_sub-to c = (hit_in _ _ c.requires c.in-Some.is).counted
 
 pub slice_bounds-name_bytes-end : goal.slice_bounds-name_bytes-end
-slice_bounds-name_bytes-end c = (hit_in _ _ c.requires c.in-Found.is).inside
+slice_bounds-name_bytes-end c = (hit_in _ _ c.requires c.in-Some.is).inside
 
 pub returns : goal.returns
-returns c = name_shown_lem _ _ _ c.in-Found.is _ c.lfs_tag_type3.ensures _ _ _ _ c.puts-n.ensures c.hex_type-n.ensures
+returns c = name_shown_lem _ _ _ c.in-Some.is _ c.lfs_tag_type3.ensures _ _ _ _ c.puts-n.ensures c.hex_type-n.ensures
     c.puts-n-2.ensures c.name_bytes.ensures

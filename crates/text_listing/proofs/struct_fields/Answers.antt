@@ -7,8 +7,8 @@ pub returns-in_default : goal.returns-in_default
 returns-in_default c = struct_missing _ _ _ c.in_default.is _ c.puts.ensures
 
 pub overflow_sub-e : goal.overflow_sub-e
-overflow_sub-e c = (hit_in _ _ c.requires c.in-Found.is).counted
+overflow_sub-e c = (hit_in _ _ c.requires c.in-Some.is).counted
 
 pub returns : goal.returns
-returns c = struct_shown _ _ _ c.in-Found.is _ c.lfs_tag_type3.ensures c.requires _ _ _ c.puts-n.ensures
+returns c = struct_shown _ _ _ c.in-Some.is _ c.lfs_tag_type3.ensures c.requires _ _ _ c.puts-n.ensures
     c.hex_type-n.ensures c.number_line.ensures

@@ -1,10 +1,9 @@
 -- An accepted verdict of a compaction is the acceptance that demand 3 rests on (Acceptance.antt), and so demand 3 for
 -- its stores; and what the finished block's record keeps: tail, split mark and move state. Assumes nothing.
-use Rattle.std.specs.Prelude.{◌≡◌, refl, Bool, not, cond, ltb}
+use Rattle.std.specs.Prelude.{◌≡◌, refl, Bool, not, cond, ltb, Err, Ok, Result, None}
 use Rattle.std.proofs.Math.Path.{sym, ap}
 use Rattle.std.proofs.Common.{subst, ◌∙◌}
 use Rattle.std.proofs.Math.Bool.{true, false}
-use Rattle.std.proofs.Math.Option as option
 use mathlib.Core.List.{List, [], ◌++◌, append_assoc, map, reverse}
 use Prim.Native.Nat.{ℕ, ◌+◌, ◌-◌, ◌^◌, ◌≤◌, ◌<◌, min}
 use native.Mathlib.Omega.{arith}
@@ -36,8 +35,6 @@ use Rattle.format.specs.declared.Geometry.{Geometry}
 use Rattle.format.specs.declared.LfsMdir.{LfsMdir}
 use Rattle.format.specs.declared.Refusal.{Refusal}
 use Rattle.format.specs.declared.Refusal.TheVariants.{Invalid, Irregular, NoSpace, Coincidence}
-use Rattle.format.specs.declared.Fetched.{Fetched}
-use Rattle.format.specs.declared.Fetched.TheVariants as fetched
 use Rattle.format.proofs.Words.{length_to_le32}
 use Rattle.format.proofs.Growing.{widest}
 use Rattle.theory.specs.Walk.Step.{both_true}
@@ -66,6 +63,8 @@ use Rattle.theory.specs.Blocks.OtherItems.{check_length_lem}
 use Rattle.theory.specs.Commit.MachineAfter.{commit_ran}
 use Rattle.theory.specs.Commit.ForwardCheck.{silent_loose, carried_silent, with_ran}
 use Rattle.theory.specs.Fetch.FoundBlock.{Sized, found_sized, view_rev}
+use Rattle.format.specs.declared.Fetched.{Fetched}
+use Rattle.format.specs.Record.{fetched}
 
 -- ---- the tests, passed
 pub past : (b : Bool) (r : Refusal) (v : CompactVerdict) (w : Bool) (rev : ℕ) (is : List Item) (size : ℕ)
@@ -76,7 +75,7 @@ past false r v w rev is size h = (refl, h)
 
 -- what compaction writes behind the slots of a log
 abbrev pub behind_of : List Event → List Item
-behind_of es = behind_items (split_of false es) (tail_of no_tail es) (move_of option.none es)
+behind_of es = behind_items (split_of false es) (tail_of no_tail es) (move_of None es)
 
 -- format's entries are the theory's
 pub compaction_items_lem : (es : List Event) → compaction_items es ≡ compact_items (dir_of es) (behind_of es)
@@ -115,7 +114,7 @@ module _ (x : List ℕ) (regular : Regular Littlefs (log x) ≡ true) where
     laid_loose =
         let F : LfsFcrc = carried_for e prog (length x) (compact_check_at (compaction_items (log x))) in
         loose_app (behind_of (log x)) (forward_items F)
-        (behind_loose (split_of false (log x)) (tail_of no_tail (log x)) (move_of option.none (log x))
+        (behind_loose (split_of false (log x)) (tail_of no_tail (log x)) (move_of None (log x))
         (regular_move x (log x) refl regular))
         (silent_loose (forward_items F) (carried_silent F))
 
@@ -197,11 +196,11 @@ module _ (r : Rules) (e : ℕ) (byte : erased_fits e ≡ true) (prog : ℕ) (som
       }
 
 -- ---- the verdict
-pub found_then : (r : Rules) (e prog : ℕ) (b0 b1 : List ℕ) (n0 : ℕ) (f : Fetched) (w : Bool) (rev : ℕ) (is : List Item)
+pub found_then : (r : Rules) (e prog : ℕ) (b0 b1 : List ℕ) (n0 : ℕ) (f : Result Fetched Refusal) (w : Bool) (rev : ℕ) (is : List Item)
     (size : ℕ) → compact_fetched r e prog b0 b1 n0 f ≡ compact_accepted w rev is size
-    → (m : LfsMdir) × (s : ℕ) × (f ≡ fetched.Found m s)
-found_then r e prog b0 b1 n0 (fetched.Refused q) w rev is size h = absurd (let z : ◌≡◌ {A = ℕ} 0 1 = cc in omega arith)
-found_then r e prog b0 b1 n0 (fetched.Found m s) w rev is size h = (m, s, refl)
+    → (m : LfsMdir) × (s : ℕ) × (f ≡ Ok (fetched m s))
+found_then r e prog b0 b1 n0 (Err q) w rev is size h = absurd (let z : ◌≡◌ {A = ℕ} 0 1 = cc in omega arith)
+found_then r e prog b0 b1 n0 (Ok f) w rev is size h = (f.dir, f.seed, refl)
 
 -- an accepted compaction: the block x at place w answers and o, the other, is written
 pub record CompactsTo (r : Rules) (e : ℕ) (g : Geometry) (b0 b1 : List ℕ) (w : Bool) (rev : ℕ) (is : List Item)
@@ -325,14 +324,14 @@ module _ (g : Geometry) (b0 b1 : List ℕ) (n0 n1 count seed rules e : ℕ) (w :
   -- the finished record's tail, split mark and move state are the old ones
   pub compaction_keeps : (tail_of no_tail finished_log ≡ tail_of no_tail (log x))
       × (split_of false finished_log ≡ split_of false (log x))
-      × (move_of option.none finished_log ≡ move_of option.none (log x))
+      × (move_of None finished_log ≡ move_of None (log x))
   compaction_keeps =
       let a = accepted_compaction in
       let es : List Event = log x in
       let regular : Regular Littlefs (log x) ≡ true = a.compacts.regular in
       let ok : OkSlots (dir_of es) = slots_ok x regular in
       let few : length (dir_of es) ≤ most_slots = slots_few x regular in
-      let mv : MoveOk (move_of option.none es) = regular_move x es refl regular in
+      let mv : MoveOk (move_of None es) = regular_move x es refl regular in
       let s : ℕ = crc all_ones (to_le32 rev) in
       let ct : ℕ = check_tag e size in
       let I : List Item = compact_items (dir_of es) (behind_of es) in
@@ -342,10 +341,10 @@ module _ (g : Geometry) (b0 b1 : List ℕ) (n0 n1 count seed rules e : ℕ) (w :
       ∙ with_ran e g.prog_size (length x) 4 (compaction_items es) (machine_of [])
       ∙ ap (λ (l : List Item). ran (machine_of []) (written l [])) (compaction_items_lem es)
       ∙ sym (commit_ran [] s all_ones I ct) in
-      let t = tail_kept (dir_of es) (split_of false es) (tail_of no_tail es) (move_of option.none es) s all_ones ct ok few
+      let t = tail_kept (dir_of es) (split_of false es) (tail_of no_tail es) (move_of None es) s all_ones ct ok few
       mv in (
         ap (λ (M : Machine). M.tail) bare ∙ t.0,
         ap (λ (M : Machine). M.split) bare ∙ t.1,
         ap (λ (M : Machine). M.move) bare
-            ∙ move_kept (dir_of es) (split_of false es) (tail_of no_tail es) (move_of option.none es) s all_ones ct ok few mv,
+            ∙ move_kept (dir_of es) (split_of false es) (tail_of no_tail es) (move_of None es) s all_ones ct ok few mv,
       )

@@ -1,10 +1,9 @@
 -- What compaction writes behind the slots: the tail "unless it is soft and both 0xffffffff", and the move state "if
 -- found". They pass their rules, touch no slot, and read back as the tail, the split mark and the move state that they
 -- were made of. Assumes nothing.
-use Rattle.std.specs.Prelude.{◌≡◌, refl, Bool, true, cond, length, eqb}
+use Rattle.std.specs.Prelude.{◌≡◌, refl, Bool, true, cond, length, eqb, None, Option, Some}
 use Rattle.std.proofs.Common.{sym, ap, ap₂, ◌∙◌, arith, eqb-true, ne_eqb}
 use Rattle.std.proofs.Math.Bool.{false}
-use Rattle.std.proofs.Math.Option.{Option, none, some}
 use mathlib.Core.List.{List, [], ◌∷◌, ◌++◌, map, reverse}
 use Prim.Native.Nat.{ℕ, ◌*◌, ◌/◌, ◌%◌, ◌^◌, ◌≤◌, ◌<◌}
 use Rattle.format.specs.Word.{all_ones}
@@ -49,8 +48,8 @@ loose_tail split p = go (is_no_tail split p) split
 
 loose_move : (v : Option Load) → MoveOk v → AllLoose (move_items v)
 unfolding rule_of rule_holds count_after
-loose_move none h = tt
-loose_move (some v) h =
+loose_move None h = tt
+loose_move (Some v) h =
     let is : v.type ≡ type_move = h.0 in
     let n : length v.bytes ≡ 12 = h.1 in
     (loose_item v.type v.bytes (omega arith) (omega arith) (omega arith) (λ c. rw (is, n) (refl, refl)), tt)
@@ -74,8 +73,8 @@ tail_no_move split p = go (is_no_tail split p) split
 
 carried_is : (v : Option Load) → carried v ≡ move_items v
 unfolding carried
-carried_is none = refl
-carried_is (some v) = refl
+carried_is None = refl
+carried_is (Some v) = refl
 
 module _ (D : List Slot) (split : Bool) (p : LfsPair) (v : Option Load) (sum prev ct : ℕ) (ok : OkSlots D)
     (few : length D ≤ most_slots) (mv : MoveOk v) where
@@ -83,9 +82,9 @@ module _ (D : List Slot) (split : Bool) (p : LfsPair) (v : Option Load) (sum pre
   abbrev renewed : List Event
   renewed = commit_events sum prev (compact_items D (behind_items split p v)) ct
 
-  pub move_kept : move_of none renewed ≡ v
+  pub move_kept : move_of None renewed ≡ v
   move_kept =
-      ap (λ (l : List Item). move_of none (commit_events sum prev (compact_items D (tail_items split p ++ l)) ct))
+      ap (λ (l : List Item). move_of None (commit_events sum prev (compact_items D (tail_items split p ++ l)) ct))
       (sym (carried_is v))
       ∙ compact_moves D (tail_items split p) v sum prev ct ok few (tail_no_move split p) mv
 
@@ -108,12 +107,12 @@ to_item_tail : (a : Act) → OkAct a → is_tail (to_item a).tag ≡ false
 unfolding to_item
 to_item_tail (mk j) h = rw (of_type1 type_create j 0 (omega arith) h (omega arith))
 to_item_tail (rm j) h = absurd h
-to_item_tail (put j c (some v)) h =
+to_item_tail (put j c (Some v)) h =
     let low : v.type < 2 ^ 10 = type_low c v.type h.1.0 in
     let short : length v.bytes < removal_size = h.1.1 in
     rw (of_type1 v.type j (length v.bytes) (omega arith) h.0 (omega arith))
     (ne_eqb (v.type / 2 ^ 8 * 2 ^ 8) type_tail (λ q. omega arith))
-to_item_tail (put j c none) h = absurd h
+to_item_tail (put j c None) h = absurd h
 to_item_tail skip h = absurd h
 
 slots_no_tail : (l : List Act) → AllOk l → NoTails (map to_item l)
@@ -121,8 +120,8 @@ slots_no_tail [] ok = tt
 slots_no_tail (a ∷ l) ok = (to_item_tail a ok.0, slots_no_tail l ok.1)
 
 move_no_tail : (v : Option Load) → MoveOk v → NoTails (move_items v)
-move_no_tail none h = tt
-move_no_tail (some v) h =
+move_no_tail None h = tt
+move_no_tail (Some v) h =
     let is : v.type ≡ type_move = h.0 in
     (rw (of_type1 v.type no_slot (length v.bytes) (omega arith) (omega arith) (omega (arith, h.1)), is), tt)
 

@@ -1,8 +1,7 @@
 -- Compaction's entries as `format` lists them, forwards, are the theory's: a directory's acts, newest first, turned
 -- round. Assumes nothing.
-use Rattle.std.specs.Prelude.{◌≡◌, refl, ℕ, zero, suc, ◌+◌}
+use Rattle.std.specs.Prelude.{◌≡◌, refl, ℕ, zero, suc, ◌+◌, None, Option, Some}
 use Rattle.std.proofs.Common.{sym, ap, ◌∙◌, add-zero, zero-add, arith}
-use Rattle.std.proofs.Math.Option.{Option, none, some}
 use mathlib.Core.List.{List, [], ◌∷◌, ◌++◌, append_assoc, append-nil, map, reverse, reverse-cons}
 use Rattle.format.specs.Commit.{Item}
 use Rattle.format.specs.Directory.{Load, Slot, Act, mk, put, classes}
@@ -34,8 +33,8 @@ turned_more a l = ap (map to_item) (reverse-cons a l) ∙ map_app (reverse l) (a
 
 turned_emit : (id n : ℕ) (v : Option Load) (l : List Act) → turned (emit id n v l) ≡ turned l ++ class_items id v
 unfolding to_item
-turned_emit id n none l = sym (append-nil (turned l))
-turned_emit id n (some v) l = turned_more (put id n (some v)) l
+turned_emit id n None l = sym (append-nil (turned l))
+turned_emit id n (Some v) l = turned_more (put id n (Some v)) l
 
 turned_slot : (n id : ℕ) (s : Slot) (l : List Act) → turned (puts n id s l) ≡ turned l ++ slot_items n 0 id s
 unfolding puts slot_items

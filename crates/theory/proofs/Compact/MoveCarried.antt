@@ -1,8 +1,7 @@
 -- Compaction carries the move state over: the entry that it writes behind the slots is the old one, and no other is.
 -- Assumes nothing.
-use Rattle.std.specs.Prelude.{◌≡◌, refl, Bool, true, false, cond, List, [], ◌∷◌, ◌++◌, reverse, map, ℕ, ◌+◌, ◌^◌, ◌≤◌, ◌<◌, length, eqb}
+use Rattle.std.specs.Prelude.{◌≡◌, refl, Bool, true, false, cond, List, [], ◌∷◌, ◌++◌, reverse, map, ℕ, ◌+◌, ◌^◌, ◌≤◌, ◌<◌, length, eqb, None, Option, Some}
 use Rattle.std.proofs.Common.{ap, ◌∙◌, inr, arith, eqb-true, ne_eqb, eq-eqb}
-use Rattle.std.proofs.Math.Option.{Option, none, some}
 use Rattle.format.specs.Tag.{tag_type3, tag_id, tag_size, removal_size, tag_length, tag_of}
 use Rattle.format.specs.Kind.{type_create, type_move, no_slot, is_wide}
 use Rattle.format.specs.Walk.{Event, body_length, ent, chk, inv}
@@ -26,8 +25,8 @@ use Rattle.theory.proofs.Compact.RegularAgain.{written_app}
 
 -- ---- the move state of a regular log is one, with twelve bytes
 abbrev pub MoveOk : Option Load → Type 0
-MoveOk none = Unit {0}
-MoveOk (some v) = (v.type ≡ type_move) × (length v.bytes ≡ 12)
+MoveOk None = Unit {0}
+MoveOk (Some v) = (v.type ≡ type_move) × (length v.bytes ≡ 12)
 
 move_rule : (c t : ℕ) → tag_type3 t ≡ type_move → rule_holds (rule_of true (tag_type3 t)) c (tag_id t) (tag_size t) ≡ true
     → tag_size t ≡ 12
@@ -60,21 +59,21 @@ moves_ok (chk t x ∷ es) g c v st h ok =
     moves_ok es g c v st.1 r.1 ok
 moves_ok (inv ∷ es) g c v st h ok = absurd st
 
-pub regular_move : (b : List ℕ) (es : List Event) → log b ≡ es → Regular Littlefs es ≡ true → MoveOk (move_of none es)
+pub regular_move : (b : List ℕ) (es : List Event) → log b ≡ es → Regular Littlefs es ≡ true → MoveOk (move_of None es)
 unfolding Regular
-regular_move b es is h = moves_ok es true 0 none (rw is at (log_stands b)) h tt
+regular_move b es is h = moves_ok es true 0 None (rw is at (log_stands b)) h tt
 
 -- ---- compaction's entries for the slots hold none
 to_item_move : (a : Act) → OkAct a → is_move (to_item a).tag ≡ false
 unfolding to_item
 to_item_move (mk j) h = rw (of_type3 type_create j 0 (omega arith) h (omega arith))
 to_item_move (rm j) h = absurd h
-to_item_move (put j c (some v)) h =
+to_item_move (put j c (Some v)) h =
     let low : v.type < 2 ^ 10 = type_low c v.type h.1.0 in
     let short : length v.bytes < removal_size = h.1.1 in
     rw (of_type3 v.type j (length v.bytes) (omega arith) h.0 (omega arith))
     (ne_eqb v.type type_move (λ q. omega arith))
-to_item_move (put j c none) h = absurd h
+to_item_move (put j c None) h = absurd h
 to_item_move skip h = absurd h
 
 -- entries that are no move state leave it alone
@@ -94,13 +93,13 @@ move_stays (i ∷ is) es v h = ap (λ (b : Bool). move_of (cond b (load_of i.tag
 
 -- ---- the entry that carries the move state
 unfoldable pub carried : Option Load → List Item
-carried none = []
-carried (some v) = record { tag = tag_of v.type no_slot (length v.bytes); body = v.bytes } ∷ []
+carried None = []
+carried (Some v) = record { tag = tag_of v.type no_slot (length v.bytes); body = v.bytes } ∷ []
 
-carried_move : (v : Option Load) (t x : ℕ) → MoveOk v → move_of none (written (carried v) (chk t x ∷ [])) ≡ v
+carried_move : (v : Option Load) (t x : ℕ) → MoveOk v → move_of None (written (carried v) (chk t x ∷ [])) ≡ v
 unfolding carried move_of written
-carried_move none t x ok = refl
-carried_move (some v) t x ok =
+carried_move None t x ok = refl
+carried_move (Some v) t x ok =
     let is : v.type ≡ type_move = ok.0 in
     let n : length v.bytes ≡ 12 = ok.1 in
     rw (
@@ -114,7 +113,7 @@ carried_move (some v) t x ok =
 -- so the compacted log's move state is the old one
 pub compact_moves : (D : List Slot) (ts : List Item) (v : Option Load) (sum p ct : ℕ) → OkSlots D → length D ≤ most_slots
     → NoMove ts → MoveOk v
-    → move_of none (commit_events sum p (compact_items D (ts ++ carried v)) ct) ≡ v
+    → move_of None (commit_events sum p (compact_items D (ts ++ carried v)) ct) ≡ v
 unfolding commit_events compact_items
 compact_moves D ts v sum p ct ok few still mv =
     let R : List Act = rebuild 0 D [] in
@@ -123,6 +122,6 @@ compact_moves D ts v sum p ct ok few still mv =
       written_app (map to_item (reverse R)) (ts ++ carried v) (chk ct x ∷ []),
       written_app ts (carried v) (chk ct x ∷ []),
     )
-    (move_stays (map to_item (reverse R)) (written ts (written (carried v) (chk ct x ∷ []))) none
+    (move_stays (map to_item (reverse R)) (written ts (written (carried v) (chk ct x ∷ []))) None
     (slots_no_move (reverse R) (ok_rev R [] (rebuild_ok D 0 [] ok (omega arith) tt) tt))
-    ∙ move_stays ts (written (carried v) (chk ct x ∷ [])) none still ∙ carried_move v ct x mv)
+    ∙ move_stays ts (written (carried v) (chk ct x ∷ [])) None still ∙ carried_move v ct x mv)

@@ -1,8 +1,7 @@
 -- The compacted log is regular by document 01's rule, whichever the old one was regular by, so that the next call is
 -- not refused for it. Assumes nothing.
-use Rattle.std.specs.Prelude.{◌≡◌, refl, Bool, true, false, ℕ, zero, suc, ◌+◌, ◌^◌, ◌≤◌, ◌<◌, length}
+use Rattle.std.specs.Prelude.{◌≡◌, refl, Bool, true, false, ℕ, zero, suc, ◌+◌, ◌^◌, ◌≤◌, ◌<◌, length, None, Option, Some}
 use Rattle.std.proofs.Common.{sym, ap, ◌∙◌, inl, arith, length-append, lt-ltb, le-leb}
-use Rattle.std.proofs.Math.Option.{Option, none, some}
 use mathlib.Core.List.{List, [], ◌∷◌, ◌++◌, reverse, reverse_aux, map, reverse-reverse}
 use Rattle.format.specs.Tag.{tag_type3, tag_id, tag_size, removal_size}
 use Rattle.format.specs.Kind.{type_splice, type_create}
@@ -61,7 +60,7 @@ act_passes (mk j) n h al few =
       le-leb n 1_022 (omega arith),
     ) (refl, refl)
 act_passes (rm j) n h al few = absurd h
-act_passes (put j c (some v)) n h al few =
+act_passes (put j c (Some v)) n h al few =
     let low : v.type < 2 ^ 10 = type_low c v.type h.1.0 in
     let short : length v.bytes < removal_size = h.1.1 in
     rw (
@@ -72,7 +71,7 @@ act_passes (put j c (some v)) n h al few =
     (let p = slot_rule (rule_of true v.type) v.type (length v.bytes) n j (rule_says v.type true)
     low (inside_there al) h.1.2 in
     (p.0, p.1 ∙ omega (arith, inside_there al)))
-act_passes (put j c none) n h al few = absurd h
+act_passes (put j c None) n h al few = absurd h
 act_passes skip n h al few = absurd h
 
 acts_pass : (l : List Act) (n : ℕ) (more : List Event) → AllOk l → AllowedFrom false n l → FewFrom n l
@@ -117,8 +116,8 @@ puts_allowed (suc n) i s l h few r k = go (s n) (puts_allowed n i s l h few r k)
   where
     go : (v : Option Load) → AllAllowed false (puts n i s (mk i ∷ l)) × FewBack (puts n i s (mk i ∷ l))
         → AllAllowed false (emit i n v (puts n i s (mk i ∷ l))) × FewBack (emit i n v (puts n i s (mk i ∷ l)))
-    go none q = q
-    go (some v) q = ((inl (omega (arith, length_puts n i s l h)), q.0), (omega (arith, length_puts n i s l h), q.1))
+    go None q = q
+    go (Some v) q = ((inl (omega (arith, length_puts n i s l h)), q.0), (omega (arith, length_puts n i s l h), q.1))
 
 rebuild_allowed : (D : List Slot) (i : ℕ) (l : List Act) → length (dir l) ≡ i → i + length D ≤ most_slots → AllAllowed
     false l

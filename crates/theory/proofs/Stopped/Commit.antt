@@ -1,5 +1,5 @@
 -- DEMAND 3, COMMIT: an accepted call, stopped after any number of its stores. Assumes nothing.
-use Rattle.std.specs.Prelude.{◌≡◌, refl, ◌⊎◌, Bool, not, cond, length, take}
+use Rattle.std.specs.Prelude.{◌≡◌, refl, ◌⊎◌, Bool, not, cond, length, take, Ok}
 use Rattle.std.proofs.Common.{sym, ap, subst, ◌∙◌, inl, inr, arith, le_refl}
 use Rattle.std.proofs.Math.Bool.{true, false}
 use mathlib.Core.List.{List, [], ◌∷◌, ◌++◌, append_assoc}
@@ -25,7 +25,6 @@ use Rattle.format.specs.declared.Geometry.{Geometry}
 use Rattle.format.specs.declared.LfsMdir.{LfsMdir}
 use Rattle.format.specs.declared.Entry.{Entry}
 use Rattle.format.specs.declared.Refusal.TheVariants.{Invalid}
-use Rattle.format.specs.declared.Fetched.TheVariants as fetched
 use Rattle.format.proofs.Growing.{widest}
 use Rattle.theory.specs.Log.TwoBlocks.{view_at, view_log}
 use Rattle.theory.specs.Log.Stores.{commit_events, events_end}
@@ -46,6 +45,7 @@ use Rattle.theory.proofs.Stopped.ErasedBehind.{forward_held, append_erased, carr
 use Rattle.theory.proofs.Stopped.ErasedBehind.{carried_unit}
 use Rattle.theory.specs.Commit.MachineAfter.{commit_ran}
 use Rattle.theory.specs.Commit.ForwardCheck.{with_ran}
+use Rattle.format.specs.Record.{fetched}
 
 -- ---- a commit
 module _ (g : Geometry) (b0 b1 : List ℕ) (n0 n1 count seed rules e : ℕ) (entries : List Entry) (dat : List ℕ) (w : Bool)
@@ -57,7 +57,7 @@ module _ (g : Geometry) (b0 b1 : List ℕ) (n0 n1 count seed rules e : ℕ) (ent
   abbrev o : List ℕ
   o = block_at (not w) b0 b1
 
-  pub commit_found : (m : LfsMdir) × (s : ℕ) × (fetch_of g b0 b1 n0 n1 count seed ≡ fetched.Found m s)
+  pub commit_found : (m : LfsMdir) × (s : ℕ) × (fetch_of g b0 b1 n0 n1 count seed ≡ Ok (fetched m s))
   unfolding verdict_of
   commit_found =
       let f = found_then (fetch_of g b0 b1 n0 n1 count seed) _ w is size
@@ -173,8 +173,8 @@ module _ (g : Geometry) (b0 b1 : List ℕ) (n0 n1 count seed rules e : ℕ) (ent
   regular_finished = finished_regular e x (log x) is size takes (rules_of rules) appends.ruled
 
   pub commit_found_again : fetch_of g f.b0 f.b1 n0 n1 count seed
-      ≡ fetched.Found (mdir_of g.prog_size (cond w n1 n0) (cond w n0 n1) (block_at w f.b0 f.b1) appends.rev
-      finished_log) (seed_of seed finished_log)
+      ≡ Ok (fetched (mdir_of g.prog_size (cond w n1 n0) (cond w n0 n1) (block_at w f.b0 f.b1) appends.rev
+      finished_log) (seed_of seed finished_log))
   commit_found_again =
       let L = image_lengths unlimited in
       refound g n0 n1 count seed b0 b1 f.b0 f.b1 L.0 L.1 commit_found.0 commit_found.1
@@ -201,7 +201,7 @@ module _ (g : Geometry) (b0 b1 : List ℕ) (n0 n1 count seed rules e : ℕ) (ent
       subst (λ (M : Machine). Shows g n0 n1 (rules_of rules) f.b0 f.b1 M) q s
 
   -- the call's own fetch of it
-  pub commit_refetched : (m : LfsMdir) × (s : ℕ) × (fetch_of g f.b0 f.b1 n0 n1 count seed ≡ fetched.Found m s)
+  pub commit_refetched : (m : LfsMdir) × (s : ℕ) × (fetch_of g f.b0 f.b1 n0 n1 count seed ≡ Ok (fetched m s))
   commit_refetched =
       let low = (found_tested g b0 b1 n0 n1 count seed commit_found.0 commit_found.1 commit_found.2).low in
       (commit_finished.dir, commit_finished.read seed, commit_finished.fetched count seed low)

@@ -1,5 +1,5 @@
 -- DEMAND 3, COMPACTION: an accepted call, stopped after any number of its stores. Assumes nothing.
-use Rattle.std.specs.Prelude.{◌≡◌, ◌⊎◌, Bool, true, false, not, cond, take}
+use Rattle.std.specs.Prelude.{◌≡◌, ◌⊎◌, Bool, true, false, not, cond, take, Ok}
 use Rattle.std.proofs.Math.Path.{refl, sym, ap}
 use Rattle.std.proofs.Common.{subst, ◌∙◌, inl, inr, arith}
 use mathlib.Core.List.{List, [], ◌∷◌, ◌++◌}
@@ -26,7 +26,6 @@ use Rattle.format.specs.declared.Geometry.{Geometry}
 use Rattle.format.specs.declared.Rules.TheVariants.{Document}
 use Rattle.format.specs.declared.LfsMdir.{LfsMdir}
 use Rattle.format.specs.declared.Refusal.TheVariants.{Invalid}
-use Rattle.format.specs.declared.Fetched.TheVariants as fetched
 use Rattle.format.proofs.Growing.{widest}
 use Rattle.theory.specs.Walk.Erased.{length_fill, length_erased}
 use Rattle.theory.specs.Log.TwoBlocks.{view_at, view_log}
@@ -46,6 +45,7 @@ use Rattle.theory.proofs.Stopped.ReadsAsBefore.{reads_as, refound, refound_place
 use Rattle.theory.proofs.Stopped.ErasedBehind.{forward_held, carried_items, carried_aligned, carried_unit}
 use Rattle.theory.proofs.Stopped.ErasedBehind as behind
 use Rattle.theory.specs.Fetch.Places.{same_place, both_blocks, lengths, few_slots, block_length}
+use Rattle.format.specs.Record.{fetched}
 
 word_fits : (b : List ℕ) → Bytes b → le32 b < 2 ^ 32
 unfolding le32
@@ -82,7 +82,7 @@ module _ (g : Geometry) (b0 b1 : List ℕ) (n0 n1 count seed rules e : ℕ) (w :
   abbrev finished_log : List Event
   finished_log = commit_events (crc all_ones (to_le32 rev)) all_ones is (check_tag e size)
 
-  compact_found : (m : LfsMdir) × (s : ℕ) × (fetch_of g b0 b1 n0 n1 count seed ≡ fetched.Found m s)
+  compact_found : (m : LfsMdir) × (s : ℕ) × (fetch_of g b0 b1 n0 n1 count seed ≡ Ok (fetched m s))
   unfolding compact_verdict
   compact_found = found_then (rules_of rules) e g.prog_size b0 b1 n0
       (fetch_of g b0 b1 n0 n1 count seed) w rev is size
@@ -182,8 +182,8 @@ module _ (g : Geometry) (b0 b1 : List ℕ) (n0 n1 count seed rules e : ℕ) (w :
       rw (d, k.0, k.1, k.2)
 
   pub compact_found_again : fetch_of g f.b0 f.b1 n0 n1 count seed
-      ≡ fetched.Found (mdir_of g.prog_size (cond (not w) n1 n0) (cond (not w) n0 n1)
-      (block_at (not w) f.b0 f.b1) rev finished_log) (seed_of seed finished_log)
+      ≡ Ok (fetched (mdir_of g.prog_size (cond (not w) n1 n0) (cond (not w) n0 n1)
+      (block_at (not w) f.b0 f.b1) rev finished_log) (seed_of seed finished_log))
   compact_found_again =
       let L = image_lengths unlimited in
       refound g n0 n1 count seed b0 b1 f.b0 f.b1 L.0 L.1 compact_found.0 compact_found.1
@@ -206,7 +206,7 @@ module _ (g : Geometry) (b0 b1 : List ℕ) (n0 n1 count seed rules e : ℕ) (w :
       subst (λ (M : Machine). Shows g n0 n1 Document f.b0 f.b1 M) (ap machine_of finished_log_lem ∙ same_machine) s
 
   -- the call's own fetch of it
-  pub compact_refetched : (m : LfsMdir) × (s : ℕ) × (fetch_of g f.b0 f.b1 n0 n1 count seed ≡ fetched.Found m s)
+  pub compact_refetched : (m : LfsMdir) × (s : ℕ) × (fetch_of g f.b0 f.b1 n0 n1 count seed ≡ Ok (fetched m s))
   compact_refetched =
       let low = (found_tested g b0 b1 n0 n1 count seed compact_found.0 compact_found.1 compact_found.2).low in
       (compact_finished.dir, compact_finished.read seed, compact_finished.fetched count seed low)

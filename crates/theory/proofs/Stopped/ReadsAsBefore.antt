@@ -1,6 +1,6 @@
 -- Images whose view is the old one, and whose answering block is the old one up to the end of its log, read as the old
 -- images did. Assumes nothing.
-use Rattle.std.specs.Prelude.{◌≡◌, Bool, cond, ◌&&◌, List, ℕ, ◌≤◌, length, take, ltb}
+use Rattle.std.specs.Prelude.{◌≡◌, Bool, cond, ◌&&◌, List, ℕ, ◌≤◌, length, take, ltb, Err, Ok}
 use Rattle.std.proofs.Math.Path.{refl, ap}
 use Rattle.std.proofs.Common.{sym, ◌∙◌, le_refl}
 use Rattle.std.proofs.Math.Bool.{true, false, not}
@@ -18,13 +18,13 @@ use Rattle.format.specs.declared.Geometry.{Geometry}
 use Rattle.format.specs.declared.LfsMdir.{LfsMdir}
 use Rattle.format.specs.declared.LfsGstate.{LfsGstate}
 use Rattle.format.specs.declared.Refusal.TheVariants.{TooMany}
-use Rattle.format.specs.declared.Fetched.TheVariants as fetched
 use Rattle.theory.specs.Walk.Step.{both_true}
 use Rattle.theory.specs.Log.TwoBlocks.{view_at}
 use Rattle.format.specs.Look.{HitIn}
 use Rattle.theory.specs.Lookup.AtStart.{searched_in, back_same, slice_same}
 use Rattle.theory.proofs.Stopped.Shown.{found_tested, fetch_viewed}
 use Rattle.format.specs.Stopped.{unmarked, Finds, ReadsAs}
+use Rattle.format.specs.Record.{fetched}
 
 -- ---- n is the answering block's number, k the other's; x stood in it, and y stands in it now
 module _ (prog n k v : ℕ) (es : List Event) (x y : List ℕ) (same : take (log_end es) y ≡ take (log_end es) x)
@@ -59,7 +59,7 @@ module _ (g : Geometry) (n0 n1 : ℕ) (i0 i1 : List ℕ) (fits : pair_fits g (le
   abbrev record_at : Bool → LfsMdir
   record_at w = mdir_of g.prog_size (number_at w n0 n1) (number_at w n1 n0) (block_at w i0 i1) v es
 
-  few_finds : (w : Bool) (t : ℕ) → few_enough (record_at w) t ≡ fetched.Found (record_at w) t
+  few_finds : (w : Bool) (t : ℕ) → few_enough (record_at w) t ≡ Ok (fetched (record_at w) t)
   unfolding mdir_of
   few_finds w t = rw few
 
@@ -73,15 +73,15 @@ module _ (g : Geometry) (n0 n1 : ℕ) (i0 i1 : List ℕ) (fits : pair_fits g (le
       ∙ few_finds true (seed_of seed es)
 
 -- ---- a pair that was found, and images of the same lengths
-few_counted : (k m : LfsMdir) (t s : ℕ) → few_enough k t ≡ fetched.Found m s → ltb 1_023 k.count ≡ false
+few_counted : (k m : LfsMdir) (t s : ℕ) → few_enough k t ≡ Ok (fetched m s) → ltb 1_023 k.count ≡ false
 few_counted k m t s h = go (ltb 1_023 k.count) h
   where
-    go : (b : Bool) → cond b (fetched.Refused (TooMany k t)) (fetched.Found k t) ≡ fetched.Found m s → b ≡ false
+    go : (b : Bool) → cond b (Err (TooMany (fetched k t))) (Ok (fetched k t)) ≡ Ok (fetched m s) → b ≡ false
     go true h = cc
     go false h = refl
 
 module _ (g : Geometry) (n0 n1 count seed : ℕ) (b0 b1 i0 i1 : List ℕ) (long0 : length i0 ≡ length b0)
-    (long1 : length i1 ≡ length b1) (m : LfsMdir) (s : ℕ) (f : fetch_of g b0 b1 n0 n1 count seed ≡ fetched.Found m s)
+    (long1 : length i1 ≡ length b1) (m : LfsMdir) (s : ℕ) (f : fetch_of g b0 b1 n0 n1 count seed ≡ Ok (fetched m s))
     (v : ℕ) (es : List Event) where
   abbrev prog : ℕ
   prog = g.prog_size
@@ -134,7 +134,7 @@ module _ (g : Geometry) (n0 n1 count seed : ℕ) (b0 b1 i0 i1 : List ℕ) (long0
   unfolding mdir_of
   counts w = refl
 
-  found : viewed prog n0 n1 b0 b1 seed (view b0 b1) ≡ fetched.Found m s
+  found : viewed prog n0 n1 b0 b1 seed (view b0 b1) ≡ Ok (fetched m s)
   found =
       sym (fetch_viewed g b0 b1 n0 n1 count seed old_fits (found_tested g b0 b1 n0 n1 count seed m s f).low) ∙ f
 
@@ -164,7 +164,7 @@ module _ (g : Geometry) (n0 n1 count seed : ℕ) (b0 b1 i0 i1 : List ℕ) (long0
 
   -- ---- a finished pair is found
   pub refound : count_of 0 es ≤ 1_023 → (w : Bool) → view_at w (block_at w i0 i1) (block_at (not w) i0 i1) ≡ at w v es
-      → fetch_of g i0 i1 n0 n1 count seed ≡ fetched.Found (new w) (seed_of seed es)
+      → fetch_of g i0 i1 n0 n1 count seed ≡ Ok (fetched (new w) (seed_of seed es))
   refound few w h =
       finds_view g n0 n1 i0 i1 new_fits v es (le-ltb 1_023 (count_of 0 es) few) w h count seed
       (found_tested g b0 b1 n0 n1 count seed m s f).low

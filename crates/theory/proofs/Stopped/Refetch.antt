@@ -2,7 +2,7 @@
 -- the record before it is a fetch. Assumes nothing.
 use Rattle.std.proofs.Math.Path.{◌≡◌, refl}
 use Rattle.std.proofs.Common.{sym, ◌∙◌, inl, inr, arith}
-use Rattle.std.specs.Prelude.{Bool, true, false, not, cond, List, ℕ, min, take, eqb}
+use Rattle.std.specs.Prelude.{Bool, true, false, not, cond, List, ℕ, min, take, eqb, Ok}
 use Rattle.format.specs.Word.{all_ones}
 use Rattle.format.specs.Log.{log, log_end, log_end_tag}
 use Rattle.format.specs.Commit.{Item}
@@ -15,12 +15,12 @@ use Rattle.format.specs.Writer.{commit_images}
 use Rattle.format.specs.declared.Geometry.{Geometry}
 use Rattle.format.specs.declared.LfsMdir.{LfsMdir}
 use Rattle.format.specs.declared.Entry.{Entry}
-use Rattle.format.specs.declared.Fetched.TheVariants.{Found}
 use Rattle.theory.specs.Log.Continued.{log_whole, contained_end}
 use Rattle.theory.specs.Fetch.FoundRecord.{found_answers}
 use Rattle.theory.specs.Fetch.Places.{same_place}
 use Rattle.theory.specs.Fetch.Refetched.{refetched}
 use Rattle.theory.proofs.Stopped.Commit.{appends, ok, commit_found, commit_written, stored_front}
+use Rattle.format.specs.Record.{fetched}
 
 -- the block that a record was read from, by its place
 at_place : (b0 b1 : List ℕ) (n0 : ℕ) (m : LfsMdir) (w : Bool) → is_second n0 m ≡ w
@@ -36,7 +36,7 @@ module _ (g : Geometry) (b0 b1 : List ℕ) (n0 n1 count seed rules e : ℕ) (ent
   abbrev i : Images
   i = commit_images g b0 b1 n0 n1 count seed rules e entries dat n
 
-  module _ (found : fetch_of g b0 b1 n0 n1 count seed ≡ Found m s) (w : Bool) (is : List Item) (size : ℕ)
+  module _ (found : fetch_of g b0 b1 n0 n1 count seed ≡ Ok (fetched m s)) (w : Bool) (is : List Item) (size : ℕ)
       (h : verdict_of g b0 b1 n0 n1 count seed rules e entries dat ≡ accepted w is size) where
     x : List ℕ
     x = block_at w b0 b1

@@ -1,8 +1,8 @@
 -- A pair with a log that is regular, by either rule, shows the machine of that log: fetch's record counts its slots,
 -- and the directory lookups, by `lfs_dir_getslice`'s own definition on the bytes, answer what the machine has. Assumes
 -- nothing.
-use Rattle.std.specs.Prelude.{◌≡◌, ◌≢◌, Bool, true, false, not, cond, ◌&&◌, ◌||◌, List, [], ℕ, ◌+◌, ◌^◌, ◌≤◌, ◌<◌, length, ltb, eqb}
-use Rattle.std.proofs.Math.Path.{refl}
+use Rattle.std.specs.Prelude.{◌≡◌, ◌≢◌, Bool, true, false, not, cond, ◌&&◌, ◌||◌, List, [], ℕ, ◌+◌, ◌^◌, ◌≤◌, ◌<◌, length, ltb, eqb, Err, Ok}
+use Rattle.std.proofs.Math.Path.{refl, ap}
 use Rattle.std.proofs.Common.{sym, ◌∙◌, arith}
 use borrow.Author.Tests.{le-leb, ltb-true, eq-eqb, not-false}
 use Rattle.format.specs.Log.{log, log_end, log_end_tag}
@@ -26,7 +26,6 @@ use Rattle.format.specs.declared.Geometry.{Geometry}
 use Rattle.format.specs.declared.LfsMdir.{LfsMdir}
 use Rattle.format.specs.declared.LfsGstate.{LfsGstate}
 use Rattle.format.specs.declared.Refusal.TheVariants.{TooMany}
-use Rattle.format.specs.declared.Fetched.TheVariants.{Found, Refused}
 use Rattle.theory.specs.Walk.Step.{both_true}
 use Rattle.theory.specs.Lookup.Masks.{query_name, query_struct, query_attr}
 use Rattle.theory.specs.Lookup.ByMask.{holds, Answers}
@@ -44,6 +43,8 @@ use Rattle.theory.specs.Fetch.Places.{block_length}
 use Rattle.theory.specs.Lookup.AtStart.{back_in, wlook_in, slice_held}
 use Rattle.theory.specs.Lookup.MoveAnswer.{move_answer_lem}
 use Rattle.format.specs.Stopped.{Finds, Shows}
+use Rattle.format.specs.Record.{fetched}
+use Rattle.format.specs.Answer.{answer_mdir}
 
 -- ---- the search, on the bytes of a block with a regular log
 module _ (x : List ℕ) (some : log x ≢ []) (regular : Regular Littlefs (log x) ≡ true) where
@@ -83,7 +84,7 @@ same_numbers n0 n1 = (
     or_true false = refl
 
 viewed_pair : (prog n0 n1 : ℕ) (b0 b1 : List ℕ) (seed : ℕ) (v : View) (m : LfsMdir) (s : ℕ)
-    → viewed prog n0 n1 b0 b1 seed v ≡ Found m s
+    → viewed prog n0 n1 b0 b1 seed v ≡ Ok (fetched m s)
     → pair_sync m.pair (record { n0 = n0; n1 = n1 }) ≡ true
 unfolding mdir_of
 viewed_pair prog n0 n1 b0 b1 seed none m s h = cc
@@ -101,7 +102,7 @@ pub record Tested (g : Geometry) (b0 b1 : List ℕ) (n0 n1 count : ℕ) (m : Lfs
   pub pair : pair_sync m.pair (record { n0 = n0; n1 = n1 }) ≡ true
 
 pub found_tested : (g : Geometry) (b0 b1 : List ℕ) (n0 n1 count seed : ℕ) (m : LfsMdir) (s : ℕ)
-    → fetch_of g b0 b1 n0 n1 count seed ≡ Found m s → Tested g b0 b1 n0 n1 count m
+    → fetch_of g b0 b1 n0 n1 count seed ≡ Ok (fetched m s) → Tested g b0 b1 n0 n1 count m
 unfolding fetch_of
 found_tested g b0 b1 n0 n1 count seed m s h =
     let p = past_test (not (pair_fits g (length b0) (length b1) n0 n1)) _ _ m s h in
@@ -113,17 +114,17 @@ found_tested g b0 b1 n0 n1 count seed m s h =
     }
 
 -- ---- what fetch finds once it finds from every seed, and for every block count that the numbers pass
-few_again : (k m : LfsMdir) (t s u : ℕ) → few_enough k t ≡ Found m s → few_enough k u ≡ Found m u
+few_again : (k m : LfsMdir) (t s u : ℕ) → few_enough k t ≡ Ok (fetched m s) → few_enough k u ≡ Ok (fetched m u)
 few_again k m t s u h = go (ltb 1_023 k.count) h
   where
-    go : (b : Bool) → cond b (Refused (TooMany k t)) (Found k t) ≡ Found m s
-        → cond b (Refused (TooMany k u)) (Found k u) ≡ Found m u
+    go : (b : Bool) → cond b (Err (TooMany (fetched k t))) (Ok (fetched k t)) ≡ Ok (fetched m s)
+        → cond b (Err (TooMany (fetched k u))) (Ok (fetched k u)) ≡ Ok (fetched m u)
     go true h = cc
-    go false h = cc
+    go false h = ap (λ (x : LfsMdir). Ok (fetched x u)) (ap answer_mdir h)
 
 viewed_again : (prog n0 n1 : ℕ) (b0 b1 : List ℕ) (seed : ℕ) (v : View) (m : LfsMdir) (s : ℕ)
-    → viewed prog n0 n1 b0 b1 seed v ≡ Found m s
-    → (read : ℕ → ℕ) × ((u : ℕ) → viewed prog n0 n1 b0 b1 u v ≡ Found m (read u))
+    → viewed prog n0 n1 b0 b1 seed v ≡ Ok (fetched m s)
+    → (read : ℕ → ℕ) × ((u : ℕ) → viewed prog n0 n1 b0 b1 u v ≡ Ok (fetched m (read u)))
 viewed_again prog n0 n1 b0 b1 seed none m s h = (λ u. u, λ u. cc)
 viewed_again prog n0 n1 b0 b1 seed (at false rev es) m s h =
     (λ u. seed_of u es, λ u. few_again (mdir_of prog n0 n1 b0 rev es) m (seed_of seed es) s (seed_of u es) h)
@@ -139,7 +140,7 @@ unfolding fetch_of
 fetch_viewed g b0 b1 n0 n1 count seed fits low = rw (fits, low)
 
 pub found_anywhere : (g : Geometry) (b0 b1 : List ℕ) (n0 n1 count seed : ℕ) (m : LfsMdir) (s : ℕ)
-    → fetch_of g b0 b1 n0 n1 count seed ≡ Found m s → (read : ℕ → ℕ) × Finds g n0 n1 b0 b1 m read
+    → fetch_of g b0 b1 n0 n1 count seed ≡ Ok (fetched m s) → (read : ℕ → ℕ) × Finds g n0 n1 b0 b1 m read
 found_anywhere g b0 b1 n0 n1 count seed m s h =
     let t = found_tested g b0 b1 n0 n1 count seed m s h in
     let v = viewed_again g.prog_size n0 n1 b0 b1 seed (view b0 b1) m s
@@ -163,7 +164,7 @@ off false p q = refl
 
 -- ---- THE DIRECTORY LOOKUPS ARE THE MACHINE'S
 module _ (g : Geometry) (b0 b1 : List ℕ) (n0 n1 count seed : ℕ) (m : LfsMdir) (s : ℕ)
-    (f : fetch_of g b0 b1 n0 n1 count seed ≡ Found m s) where
+    (f : fetch_of g b0 b1 n0 n1 count seed ≡ Ok (fetched m s)) where
   module _ (r : Rules) (w : Bool) (place : is_second n0 m ≡ w) (ruled : Regular r (log (block_at w b0 b1)) ≡ true) where
     abbrev x : List ℕ
     x = block_at w b0 b1

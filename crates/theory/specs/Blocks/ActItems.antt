@@ -1,7 +1,6 @@
 -- Acts as the entries that write them: what compaction's entries are made of. Assumes nothing.
-use Rattle.std.specs.Prelude.{◌≡◌, refl, ◌⊎◌, true, false, ℕ, zero, suc, ◌+◌, ◌-◌, ◌^◌, ◌≤◌, ◌<◌, length}
+use Rattle.std.specs.Prelude.{◌≡◌, refl, ◌⊎◌, true, false, ℕ, zero, suc, ◌+◌, ◌-◌, ◌^◌, ◌≤◌, ◌<◌, length, None, Some}
 use Rattle.std.proofs.Common.{ap, ap₂, ◌∙◌, inl, arith, ne_eqb}
-use Rattle.std.proofs.Math.Option.{none, some}
 use mathlib.Core.List.{List, [], ◌∷◌, reverse_aux, map}
 use Rattle.format.specs.Tag.{tag_type3, tag_chunk, tag_id, removal_size, tag_of}
 use Rattle.format.specs.Kind.{type_dir_struct, type_user_attr, type_create, type_delete, type_check, type_move, no_slot, is_wide}
@@ -40,8 +39,8 @@ good_low T j d a b l = good_item T j d (omega arith) b l (inl a)
 unfoldable pub to_item : Act → Item
 to_item (mk j) = record { tag = tag_of type_create j 0; body = [] }
 to_item (rm j) = record { tag = tag_of type_delete j 0; body = [] }
-to_item (put j c (some v)) = record { tag = tag_of v.type j (length v.bytes); body = v.bytes }
-to_item (put j c none) = record { tag = tag_of (type_user_attr + c - 2) j removal_size; body = [] }
+to_item (put j c (Some v)) = record { tag = tag_of v.type j (length v.bytes); body = v.bytes }
+to_item (put j c None) = record { tag = tag_of (type_user_attr + c - 2) j removal_size; body = [] }
 to_item skip = record { tag = tag_of type_move no_slot 0; body = [] }
 
 -- the types of a class: 0 name, 1 struct, 2 + u user attribute u
@@ -60,12 +59,12 @@ LoadOk c v = TypeOf c v.type × (length v.bytes < removal_size)
 abbrev pub OkAct : Act → Type 0
 OkAct (mk j) = j < 2 ^ 10
 OkAct (rm j) = ⊥
-OkAct (put j c (some v)) = (j < 2 ^ 10) × LoadOk c v
-OkAct (put j c none) = ⊥
+OkAct (put j c (Some v)) = (j < 2 ^ 10) × LoadOk c v
+OkAct (put j c None) = ⊥
 OkAct skip = ⊥
 
 pub some_load : (T j s : ℕ) (d : List ℕ) → T < 2 ^ 11 → j < 2 ^ 10 → s < removal_size
-    → load_of (tag_of T j s) d ≡ some (record { type = T; bytes = d })
+    → load_of (tag_of T j s) d ≡ Some (record { type = T; bytes = d })
 some_load T j s d a b c =
     rw (of_size T j s (omega arith), ne_eqb s removal_size (λ q. omega arith), of_type3 T j s a b (omega arith))
 
@@ -75,7 +74,7 @@ type_low (suc zero) T k = omega (arith, k.1)
 type_low (suc (suc u)) T k = omega (arith, k.0, k.1)
 
 act_put : (c T j : ℕ) (d : List ℕ) → TypeOf c T → j < 2 ^ 10 → length d < removal_size
-    → act (tag_of T j (length d)) d ≡ put j c (some (record { type = T; bytes = d }))
+    → act (tag_of T j (length d)) d ≡ put j c (Some (record { type = T; bytes = d }))
 act_put c T j d k b l = by c k ∙ rw (of_id T j (length d) b (omega arith), some_load T j (length d) d low b l)
   where
     low : T < 2 ^ 11
@@ -100,17 +99,17 @@ act_to_item (mk j) h =
     act_create (tag_of type_create j 0) [] (of_type3 type_create j 0 (omega arith) h (omega arith))
     ∙ ap mk (of_id type_create j 0 h (omega arith))
 act_to_item (rm j) h = absurd h
-act_to_item (put j c (some v)) h = act_put c v.type j v.bytes h.1.0 h.0 h.1.1
-act_to_item (put j c none) h = absurd h
+act_to_item (put j c (Some v)) h = act_put c v.type j v.bytes h.1.0 h.0 h.1.1
+act_to_item (put j c None) h = absurd h
 act_to_item skip h = absurd h
 
 pub good_to_item : (a : Act) → OkAct a → GoodItem (to_item a)
 unfolding to_item
 good_to_item (mk j) h = good_low type_create j [] (omega arith) h (omega arith)
 good_to_item (rm j) h = absurd h
-good_to_item (put j c (some v)) h = good_low v.type j v.bytes (omega (arith, type_low c v.type h.1.0))
+good_to_item (put j c (Some v)) h = good_low v.type j v.bytes (omega (arith, type_low c v.type h.1.0))
     h.0 h.1.1
-good_to_item (put j c none) h = absurd h
+good_to_item (put j c None) h = absurd h
 good_to_item skip h = absurd h
 
 -- ---- lists of acts

@@ -1,7 +1,6 @@
 -- Slots whose loads fit their classes: a regular log's directory has them, and compaction's entries for them are well
 -- made. Assumes nothing.
-use Rattle.std.specs.Prelude.{◌≡◌, refl, Bool, true, false, cond, ℕ, zero, suc, ◌+◌, ◌-◌, ◌^◌, ◌≤◌, ◌<◌, length, take, drop, get_or, set, replicate, eqb}
-use Rattle.std.proofs.Math.Option.{Option, none, some}
+use Rattle.std.specs.Prelude.{◌≡◌, refl, Bool, true, false, cond, ℕ, zero, suc, ◌+◌, ◌-◌, ◌^◌, ◌≤◌, ◌<◌, length, take, drop, get_or, set, replicate, eqb, None, Option, Some}
 use mathlib.Core.List.{List, [], ◌∷◌, ◌++◌, reverse, reverse_aux}
 use Rattle.std.proofs.Common.{arith, eqb-true}
 use Rattle.format.specs.Walk.{Event}
@@ -11,7 +10,7 @@ use Rattle.theory.specs.Directory.Rebuild.{AllHeld, puts, emit, rebuild}
 use Rattle.theory.specs.Blocks.ActItems.{LoadOk, TypeOf, AllOk}
 
 abbrev pub OkSlot : Slot → Type 0
-OkSlot s = (c : ℕ) (v : Load) → s c ≡ some v → LoadOk c v
+OkSlot s = (c : ℕ) (v : Load) → s c ≡ Some v → LoadOk c v
 
 abbrev pub OkSlots : List Slot → Type 0
 OkSlots [] = Unit {0}
@@ -22,12 +21,12 @@ type_bound zero T k = omega arith
 type_bound (suc zero) T k = omega arith
 type_bound (suc (suc u)) T k = omega (arith, k.1)
 
-held : (s : Slot) → OkSlot s → (c : ℕ) → classes ≤ c → s c ≡ none
+held : (s : Slot) → OkSlot s → (c : ℕ) → classes ≤ c → s c ≡ None
 held s ok c h = go (s c) refl
   where
-    go : (v : Option Load) → s c ≡ v → v ≡ none
-    go none e = refl
-    go (some v) e = absurd (let k = type_bound c v.type (ok c v e).0 in omega arith)
+    go : (v : Option Load) → s c ≡ v → v ≡ None
+    go None e = refl
+    go (Some v) e = absurd (let k = type_bound c v.type (ok c v e).0 in omega arith)
 
 pub all_held : (D : List Slot) → OkSlots D → AllHeld D
 all_held [] h = tt
@@ -39,8 +38,8 @@ puts_ok zero i s l ok h k = k
 puts_ok (suc n) i s l ok h k = go (s n) refl (puts_ok n i s l ok h k)
   where
     go : (v : Option Load) → s n ≡ v → AllOk (puts n i s l) → AllOk (emit i n v (puts n i s l))
-    go none e r = r
-    go (some v) e r = ((h, ok n v e), r)
+    go None e r = r
+    go (Some v) e r = ((h, ok n v e), r)
 
 pub rebuild_ok : (D : List Slot) (i : ℕ) (l : List Act) → OkSlots D → i + length D ≤ 2 ^ 10 → AllOk l
     → AllOk (rebuild i D l)
@@ -53,8 +52,8 @@ rebuild_ok (s ∷ D) i l ok h k = rebuild_ok D (suc i) (puts classes i s (mk i �
 abbrev pub PutOk : Act → Type 0
 PutOk (mk j) = Unit {0}
 PutOk (rm j) = Unit {0}
-PutOk (put j c (some v)) = LoadOk c v
-PutOk (put j c none) = Unit {0}
+PutOk (put j c (Some v)) = LoadOk c v
+PutOk (put j c None) = Unit {0}
 PutOk skip = Unit {0}
 
 abbrev pub PutsOk : List Act → Type 0
@@ -102,10 +101,10 @@ ok_upd : (s : Slot) (c j : ℕ) (v : Option Load) → OkSlot s → PutOk (put j 
 unfolding upd
 ok_upd s c j v ok p k w h = go (eqb k c) refl v p h
   where
-    go : (b : Bool) → eqb k c ≡ b → (v : Option Load) → PutOk (put j c v) → cond b v (s k) ≡ some w → LoadOk k w
+    go : (b : Bool) → eqb k c ≡ b → (v : Option Load) → PutOk (put j c v) → cond b v (s k) ≡ Some w → LoadOk k w
     go false e v p h = ok k w h
-    go true e none p h = absurd (let z : ◌≡◌ {A = ℕ} 0 1 = cc in omega arith)
-    go true e (some v) p h =
+    go true e None p h = absurd (let z : ◌≡◌ {A = ℕ} 0 1 = cc in omega arith)
+    go true e (Some v) p h =
         let q : v ≡ w = cc in
         rw (eqb-true k c e, ← q) p
 

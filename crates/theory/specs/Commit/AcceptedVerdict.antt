@@ -1,7 +1,7 @@
 -- What the tests of an accepted commit give: the acceptance that demand 3 rests on (Acceptance.antt), of the block that
 -- answers, its log, what is laid (the entries' items and the forward check, or none) and the check's size. Of the whole
 -- verdict it is proved in proofs/Commit/AcceptedVerdict.antt. Assumes nothing.
-use Rattle.std.specs.Prelude.{◌≡◌, ◌≢◌, Bool, true, false, not, cond, ◌&&◌, ℕ, ◌+◌, ◌-◌, ◌*◌, ◌/◌, ◌%◌, ◌≤◌, ◌<◌, length, drop, ltb}
+use Rattle.std.specs.Prelude.{◌≡◌, ◌≢◌, Bool, true, false, not, cond, ◌&&◌, ℕ, ◌+◌, ◌-◌, ◌*◌, ◌/◌, ◌%◌, ◌≤◌, ◌<◌, length, drop, ltb, Err, Ok, Result}
 use Rattle.std.proofs.Math.Path.{refl, sym}
 use Rattle.std.proofs.Common.{◌∙◌, le-div_iff_mul-le}
 use mathlib.Core.List.{List, []}
@@ -32,10 +32,6 @@ use Rattle.format.specs.declared.LfsMdir.{LfsMdir}
 use Rattle.format.specs.declared.Entry.{Entry}
 use Rattle.format.specs.declared.Refusal.{Refusal}
 use Rattle.format.specs.declared.Refusal.TheVariants.{NoSpace, Coincidence}
-use Rattle.format.specs.declared.Room.{Room}
-use Rattle.format.specs.declared.Room.TheVariants as room
-use Rattle.format.specs.declared.Fetched.{Fetched}
-use Rattle.format.specs.declared.Fetched.TheVariants as fetched
 use Rattle.format.proofs.Rooms.{clean_holds}
 use Rattle.theory.specs.Walk.Step.{both_true}
 use Rattle.theory.specs.Log.TwoBlocks.{view_at}
@@ -47,6 +43,8 @@ use Rattle.theory.specs.Blocks.OtherItems.{check_length_lem}
 use Rattle.theory.specs.Rules.FetchCount.{regular_slots}
 use Rattle.theory.specs.Commit.Acceptance.{Accepts}
 use Rattle.theory.specs.Rules.JudgedEntries.{judged_good}
+use Rattle.format.specs.declared.Fetched.{Fetched}
+use Rattle.format.specs.Record.{fetched}
 
 -- ---- the check's size
 module _ (prog p : ℕ) (some : 4 ≤ prog) where
@@ -94,21 +92,21 @@ pub past : (b : Bool) (r : Refusal) (v : Verdict) (w : Bool) (is : List Item) (s
 past true r v w is size h = (cc, cc)
 past false r v w is size h = (refl, h)
 
-pub past_room : (r : Room) (v : Verdict) (w : Bool) (is : List Item) (size : ℕ) → room_then r v ≡ accepted w is size
-    → (r ≡ room.Clean) × (v ≡ accepted w is size)
-past_room (room.Refused r) v w is size h = (cc, cc)
-past_room room.Clean v w is size h = (refl, h)
+pub past_room : (r : Result Unit Refusal) (v : Verdict) (w : Bool) (is : List Item) (size : ℕ) → room_then r v ≡ accepted w is size
+    → (r ≡ (Ok tt)) × (v ≡ accepted w is size)
+past_room (Err r) v w is size h = (cc, cc)
+past_room (Ok x) v w is size h = (refl, h)
 
-pub record FoundThen (f : Fetched) (on : LfsMdir → Verdict) (v : Verdict) : Type 0 where
+pub record FoundThen (f : Result Fetched Refusal) (on : LfsMdir → Verdict) (v : Verdict) : Type 0 where
   pub m : LfsMdir
   pub s : ℕ
-  pub found : f ≡ fetched.Found m s
+  pub found : f ≡ Ok (fetched m s)
   pub then : on m ≡ v
 
-pub found_then : (f : Fetched) (on : LfsMdir → Verdict) (w : Bool) (is : List Item) (size : ℕ)
+pub found_then : (f : Result Fetched Refusal) (on : LfsMdir → Verdict) (w : Bool) (is : List Item) (size : ℕ)
     → fetched_then f on ≡ accepted w is size → FoundThen f on (accepted w is size)
-found_then (fetched.Refused r) on w is size h = absurd (let z : ◌≡◌ {A = ℕ} 0 1 = cc in omega arith)
-found_then (fetched.Found m s) on w is size h = record { m = m; s = s; found = refl; then = h }
+found_then (Err r) on w is size h = absurd (let z : ◌≡◌ {A = ℕ} 0 1 = cc in omega arith)
+found_then (Ok f) on w is size h = record { m = f.dir; s = f.seed; found = refl; then = h }
 
 pub record GoodThen (j : Judged) (v v' : Verdict) : Type 0 where
   pub c : ℕ

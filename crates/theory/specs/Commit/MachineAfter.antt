@@ -1,7 +1,6 @@
 -- The machine of a log that a commit makes longer. Assumes nothing.
-use Rattle.std.specs.Prelude.{◌≡◌, refl, Bool, cond, List, [], ◌∷◌, ◌++◌, ℕ, ◌%◌, eqb}
+use Rattle.std.specs.Prelude.{◌≡◌, refl, Bool, cond, List, [], ◌∷◌, ◌++◌, ℕ, ◌%◌, eqb, None, Option}
 use Rattle.std.proofs.Common.{ap, ◌∙◌}
-use Rattle.std.proofs.Math.Option.{Option, none}
 use Rattle.format.specs.Tag.{tag_chunk}
 use Rattle.format.specs.Kind.{is_tail}
 use Rattle.format.specs.Walk.{Event, chk}
@@ -54,6 +53,6 @@ commit_ran es sum p is ct =
       tail_entries is ct c (tail_of no_tail es),
       split_of_app es W _,
       split_entries is ct c _,
-      move_of_app es W none,
-      move_entries is ct c (move_of none es),
+      move_of_app es W None,
+      move_entries is ct c (move_of None es),
     )

@@ -2,9 +2,8 @@
 -- they agree. Assumes nothing.
 use Rattle.format.specs.Directory.{Act, Load, Slot, apply, dir, empty, mk, put, reaching, rm, skip, upd}
 use Rattle.format.proofs.Slots.{length_reaching, get_d_reaching}
-use Rattle.std.specs.Prelude.{◌≡◌, refl, ◌≢◌, ◌⊎◌, Bool, true, false, cond, ◌&&◌, List, [], ◌∷◌, ◌++◌, ℕ, suc, ◌+◌, ◌-◌, ◌≤◌, ◌<◌, max, take, drop, set, get_or, length, eqb, leb}
+use Rattle.std.specs.Prelude.{◌≡◌, refl, ◌≢◌, ◌⊎◌, Bool, true, false, cond, ◌&&◌, List, [], ◌∷◌, ◌++◌, ℕ, suc, ◌+◌, ◌-◌, ◌≤◌, ◌<◌, max, take, drop, set, get_or, length, eqb, leb, None, Option}
 use Rattle.std.proofs.Common.{sym, ap, ◌∙◌, inl, inr, arith, length-append, length-drop, length-set, length-take-le, get_or-take, get_or-append-add, get_or-drop, get_or-set_same, get_or-set_other, leb-false, eqb-true, leb-true}
-use Rattle.std.proofs.Math.Option.{Option, none}
 use Rattle.std.proofs.Math.ListN.{get_or-append}
 use Rattle.std.proofs.lemmas.Bool.{eqb-false}
 
@@ -48,8 +47,8 @@ Inside g i l = (i < length (dir l)) ⊎ (still_grows g l ≡ true)
 
 -- the search back, newest first: class c of slot i
 unfoldable pub find : ℕ → ℕ → List Act → Option Load
-find c i [] = none
-find c i (mk j ∷ l) = cond (leb j i) (cond (eqb j i) none (find c (i - 1) l)) (find c i l)
+find c i [] = None
+find c i (mk j ∷ l) = cond (leb j i) (cond (eqb j i) None (find c (i - 1) l)) (find c i l)
 find c i (rm j ∷ l) = cond (leb j i) (find c (i + 1) l) (find c i l)
 find c i (put j k v ∷ l) = cond (eqb j i && eqb c k) v (find c i l)
 find c i (skip ∷ l) = find c i l
@@ -131,7 +130,7 @@ find_dir g (mk j ∷ l) c i r h = go (leb j i) refl (eqb j i) refl (λ k q. find
     low = inside_there h
 
     go : (b : Bool) → leb j i ≡ b → (e : Bool) → eqb j i ≡ e → ((k : ℕ) → k < length D → find c k l ≡ get_or D k empty c)
-        → cond b (cond {A = Option Load} e none (find c (i - 1) l)) (find c i l)
+        → cond b (cond {A = Option Load} e None (find c (i - 1) l)) (find c i l)
         ≡ get_or (take j D ++ empty ∷ drop j D) i empty c
     go false b e q ih =
         let k : i < j = leb-false j i b in

@@ -1,6 +1,6 @@
 -- What a record that fetch found says: the sizes of the pair, and which block it was read from, with that block's
 -- revision and log. Assumes nothing.
-use Rattle.std.specs.Prelude.{◌≡◌, refl, ◌≢◌, Bool, true, false, not, ◌&&◌, ◌||◌, List, [], ℕ, ◌%◌, ◌≤◌, length, leb, eqb}
+use Rattle.std.specs.Prelude.{◌≡◌, refl, ◌≢◌, Bool, true, false, not, ◌&&◌, ◌||◌, List, [], ℕ, ◌%◌, ◌≤◌, length, leb, eqb, Ok}
 use Rattle.std.proofs.Math.Path.{sym, ap}
 use Rattle.std.proofs.Common.{◌∙◌, arith, leb-true, eqb-true, eq-eqb, ne_eqb}
 use Rattle.std.proofs.lemmas.Bool.{eqb-false, not-true, not-false}
@@ -14,11 +14,11 @@ use Rattle.format.specs.Fetch.{geometry_fits, pair_fits, too_high, mdir_of, few_
 use Rattle.format.specs.Writer.{block_at, is_second}
 use Rattle.format.specs.declared.Geometry.{Geometry}
 use Rattle.format.specs.declared.LfsMdir.{LfsMdir}
-use Rattle.format.specs.declared.Fetched.TheVariants as fetched
 use Rattle.theory.specs.Walk.Step.{both_true}
 use Rattle.theory.specs.Log.TwoBlocks.{view_at, view_log, rank_left_is, rank_right_is}
 use Rattle.theory.specs.Fetch.FoundRecord.{few_found, past_test}
 use Rattle.theory.specs.Commit.AcceptedVerdict.{fits_prog}
+use Rattle.format.specs.Record.{fetched}
 
 -- ---- what a found record says of the sizes
 -- "Block size 128 to 32,768"
@@ -57,7 +57,7 @@ pair_sized g b0 b1 n0 n1 h =
     )
 
 pub found_sized : (g : Geometry) (b0 b1 : List ℕ) (n0 n1 count seed : ℕ) (m : LfsMdir) (s : ℕ)
-    → fetch_of g b0 b1 n0 n1 count seed ≡ fetched.Found m s → Sized g b0 b1
+    → fetch_of g b0 b1 n0 n1 count seed ≡ Ok (fetched m s) → Sized g b0 b1
 unfolding fetch_of
 found_sized g b0 b1 n0 n1 count seed m s h =
     (pair_sized g b0 b1 n0 n1 (not-false _ (past_test (not (pair_fits g (length b0) (length b1) n0 n1)) _ _ m s h).0)).0
@@ -86,7 +86,7 @@ module _ (prog n0 n1 : ℕ) (b0 b1 : List ℕ) (seed : ℕ) (m : LfsMdir) (s : �
   -- n and k are the numbers, x and o the blocks, of place w and of the other
   reads_at : (w : Bool) (n k : ℕ) (x o : List ℕ) (rev : ℕ) (es : List Event) → x ≡ block_at w b0 b1
       → view_at w x o ≡ at w rev es → not (eqb n n0) ≡ w
-      → few_enough (mdir_of prog n k x rev es) (seed_of seed es) ≡ fetched.Found m s → Reads b0 b1 n0 m
+      → few_enough (mdir_of prog n k x rev es) (seed_of seed es) ≡ Ok (fetched m s) → Reads b0 b1 n0 m
   unfolding mdir_of
   reads_at w n k x o rev es ex h ew f =
       let e : mdir_of prog n k x rev es ≡ m = few_found (mdir_of prog n k x rev es) m (seed_of seed es) s f in
@@ -104,14 +104,14 @@ module _ (prog n0 n1 : ℕ) (b0 b1 : List ℕ) (seed : ℕ) (m : LfsMdir) (s : �
         tail' = ap (λ (d : LfsMdir). d.tail) (sym e) ∙ ap (tail_of no_tail) same;
       }
 
-  viewed_reads : (v : View) → view b0 b1 ≡ v → viewed prog n0 n1 b0 b1 seed v ≡ fetched.Found m s → Reads b0 b1 n0 m
+  viewed_reads : (v : View) → view b0 b1 ≡ v → viewed prog n0 n1 b0 b1 seed v ≡ Ok (fetched m s) → Reads b0 b1 n0 m
   viewed_reads none h f = absurd (let z : ◌≡◌ {A = ℕ} 0 1 = cc in omega arith)
   viewed_reads (at false rev es) h f = reads_at false n0 n1 b0 b1 rev es refl h (ap not (eq-eqb n0 n0 refl)) f
   viewed_reads (at true rev es) h f = reads_at true n1 n0 b1 b0 rev es refl h
       (ap not (ne_eqb n1 n0 (λ q. eqb-false n0 n1 apart (sym q)))) f
 
 pub found_reads : (g : Geometry) (b0 b1 : List ℕ) (n0 n1 count seed : ℕ) (m : LfsMdir) (s : ℕ)
-    → fetch_of g b0 b1 n0 n1 count seed ≡ fetched.Found m s → Reads b0 b1 n0 m
+    → fetch_of g b0 b1 n0 n1 count seed ≡ Ok (fetched m s) → Reads b0 b1 n0 m
 unfolding fetch_of
 found_reads g b0 b1 n0 n1 count seed m s h =
     let p = past_test (not (pair_fits g (length b0) (length b1) n0 n1)) _ _ m s h in

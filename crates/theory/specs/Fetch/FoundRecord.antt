@@ -1,5 +1,5 @@
 -- Which block a found record is of, and what of the record the block's log says. Assumes nothing.
-use Rattle.std.specs.Prelude.{◌≡◌, refl, Bool, cond, ◌&&◌, ◌||◌, List, ℕ, length, eqb, ltb}
+use Rattle.std.specs.Prelude.{◌≡◌, refl, Bool, cond, ◌&&◌, ◌||◌, List, ℕ, length, eqb, ltb, Err, Ok, Result}
 use Rattle.std.proofs.Common.{sym, ◌∙◌, arith}
 use Rattle.std.proofs.Math.Path.{ap}
 use Rattle.std.proofs.Math.Bool.{true, false, not}
@@ -13,10 +13,11 @@ use Rattle.format.specs.declared.Geometry.{Geometry}
 use Rattle.format.specs.declared.LfsMdir.{LfsMdir}
 use Rattle.format.specs.declared.Refusal.{Refusal}
 use Rattle.format.specs.declared.Refusal.TheVariants.{Corrupt, TooMany}
-use Rattle.format.specs.declared.Fetched.{Fetched}
-use Rattle.format.specs.declared.Fetched.TheVariants.{Found, Refused}
 use Rattle.theory.specs.Walk.Step.{both_true}
 use Rattle.theory.specs.Log.TwoBlocks.{view_at, view_log}
+use Rattle.format.specs.declared.Fetched.{Fetched}
+use Rattle.format.specs.Record.{fetched}
+use Rattle.format.specs.Answer.{answer_mdir}
 
 -- the record m is of the block at place w of the two: the first where w is false
 pub record Answering (b0 b1 : List ℕ) (n0 : ℕ) (m : LfsMdir) : Type 0 where
@@ -28,24 +29,24 @@ pub record Answering (b0 b1 : List ℕ) (n0 : ℕ) (m : LfsMdir) : Type 0 where
   pub end_tag : m.etag ≡ log_end_tag (log (block_at w b0 b1))
   pub count : m.count ≡ count_of 0 (log (block_at w b0 b1))
 
-refused_found : (r : Refusal) (m : LfsMdir) (s : ℕ) → Refused r ≡ Found m s → ⊥
+refused_found : (r : Refusal) (m : LfsMdir) (s : ℕ) → Err r ≡ Ok (fetched m s) → ⊥
 refused_found r m s h = let z : ◌≡◌ {A = ℕ} 0 1 = cc in omega arith
 
-pub few_found : (k m : LfsMdir) (t s : ℕ) → few_enough k t ≡ Found m s → k ≡ m
+pub few_found : (k m : LfsMdir) (t s : ℕ) → few_enough k t ≡ Ok (fetched m s) → k ≡ m
 few_found k m t s h = go (ltb 1_023 k.count) h
   where
-    go : (b : Bool) → cond b (Refused (TooMany k t)) (Found k t) ≡ Found m s → k ≡ m
+    go : (b : Bool) → cond b (Err (TooMany (fetched k t))) (Ok (fetched k t)) ≡ Ok (fetched m s) → k ≡ m
     go true h = cc
-    go false h = cc
+    go false h = ap answer_mdir h
 
 -- a test that did not refuse
-pub past_test : (b : Bool) (r : Refusal) (f : Fetched) (m : LfsMdir) (s : ℕ) → cond b (Refused r) f ≡ Found m s
-    → (b ≡ false) × (f ≡ Found m s)
+pub past_test : (b : Bool) (r : Refusal) (f : Result Fetched Refusal) (m : LfsMdir) (s : ℕ) → cond b (Err r) f ≡ Ok (fetched m s)
+    → (b ≡ false) × (f ≡ Ok (fetched m s))
 past_test true r f m s h = absurd (refused_found r m s h)
 past_test false r f m s h = (refl, h)
 
 module _ (prog n0 n1 : ℕ) (b0 b1 : List ℕ) (seed : ℕ) (m : LfsMdir) (s : ℕ) (apart : eqb n0 n1 ≡ false) where
-  viewed_answers : (v : View) → view b0 b1 ≡ v → viewed prog n0 n1 b0 b1 seed v ≡ Found m s → Answering b0 b1 n0 m
+  viewed_answers : (v : View) → view b0 b1 ≡ v → viewed prog n0 n1 b0 b1 seed v ≡ Ok (fetched m s) → Answering b0 b1 n0 m
   unfolding mdir_of
   viewed_answers none h f = absurd (refused_found Corrupt m s f)
   viewed_answers (at false rev es) h f =
@@ -76,7 +77,7 @@ module _ (prog n0 n1 : ℕ) (b0 b1 : List ℕ) (seed : ℕ) (m : LfsMdir) (s : �
 
 -- fetch's record is of the block that its pair names first
 pub found_answers : (g : Geometry) (b0 b1 : List ℕ) (n0 n1 count seed : ℕ) (m : LfsMdir) (s : ℕ)
-    → fetch_of g b0 b1 n0 n1 count seed ≡ Found m s → Answering b0 b1 n0 m
+    → fetch_of g b0 b1 n0 n1 count seed ≡ Ok (fetched m s) → Answering b0 b1 n0 m
 unfolding fetch_of pair_fits
 found_answers g b0 b1 n0 n1 count seed m s h =
     let p = past_test (not (pair_fits g (length b0) (length b1) n0 n1)) _ _ m s h in

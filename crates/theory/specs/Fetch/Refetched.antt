@@ -2,7 +2,7 @@
 -- the other block are unchanged. Assumes nothing.
 use Rattle.std.proofs.Math.Path.{◌≡◌, refl, sym, ap}
 use Rattle.std.proofs.Common.{subst, ◌∙◌, inl, inr, arith, add_assoc, length-append, take-append-drop, length-take-le}
-use Rattle.std.specs.Prelude.{◌≢◌, not, cond, ◌&&◌, ◌||◌, ℕ, ◌+◌, ◌%◌, ◌≤◌, drop, leb, ltb}
+use Rattle.std.specs.Prelude.{◌≢◌, not, cond, ◌&&◌, ◌||◌, ℕ, ◌+◌, ◌%◌, ◌≤◌, drop, leb, ltb, Err, Ok, Result}
 use Rattle.std.proofs.Math.Bool.{Bool, true, false}
 use mathlib.Core.List.{List, [], ◌++◌}
 use Rattle.std.proofs.Math.ListN.{length, take}
@@ -23,8 +23,6 @@ use Rattle.format.specs.declared.LfsFcrc.{LfsFcrc}
 use Rattle.format.specs.declared.LfsMdir.{LfsMdir}
 use Rattle.format.specs.declared.Refusal.{Refusal}
 use Rattle.format.specs.declared.Refusal.TheVariants.{Invalid, Corrupt, TooMany}
-use Rattle.format.specs.declared.Fetched.{Fetched}
-use Rattle.format.specs.declared.Fetched.TheVariants.{Found, Refused}
 use Rattle.theory.specs.Walk.Locality.{le32_front}
 use Rattle.theory.specs.Log.Folds.{span_app, tag_app, count_app, tail_of_app, split_of_app, forward_app, seed_app}
 use Rattle.theory.specs.Log.Folds.{forward_or_none}
@@ -33,20 +31,23 @@ use Rattle.theory.specs.Log.Continued.{walk_continues}
 use Rattle.theory.specs.Log.Continued.{log_continues}
 use Rattle.theory.specs.Log.TwoBlocks.{view_at, view_log, view_grow, app_some}
 use Rattle.theory.specs.Fetch.FoundBlock.{Sized, pair_sized}
+use Rattle.format.specs.declared.Fetched.{Fetched}
+use Rattle.format.specs.Record.{fetched}
+use Rattle.format.specs.Answer.{answer_mdir, answer_seed}
 
 -- ---- what a fetch gave
 few_gave : (k m : LfsMdir) (t s : ℕ) → Gave (few_enough k t) m s → (k ≡ m) × (t ≡ s)
 few_gave k m t s h = go (ltb 1_023 k.count) h
   where
-    go : (b : Bool) → Gave (cond b (Refused (TooMany k t)) (Found k t)) m s → (k ≡ m) × (t ≡ s)
+    go : (b : Bool) → Gave (cond b (Err (TooMany (fetched k t))) (Ok (fetched k t))) m s → (k ≡ m) × (t ≡ s)
     go true (inl e) = (cc, cc)
-    go true (inr e) = (cc, cc)
-    go false (inl e) = (cc, cc)
+    go true (inr e) = (ap answer_mdir e, ap (answer_seed 0) e)
+    go false (inl e) = (ap answer_mdir e, ap (answer_seed 0) e)
     go false (inr e) = (cc, cc)
 
 -- a test that did not refuse
-gave_past : (b : Bool) (r : Refusal) (f : Fetched) (m : LfsMdir) (s : ℕ) → (r ≡ TooMany m s → ⊥)
-    → Gave (cond b (Refused r) f) m s → (b ≡ false) × Gave f m s
+gave_past : (b : Bool) (r : Refusal) (f : Result Fetched Refusal) (m : LfsMdir) (s : ℕ) → (r ≡ TooMany (fetched m s) → ⊥)
+    → Gave (cond b (Err r) f) m s → (b ≡ false) × Gave f m s
 gave_past true r f m s n (inl e) = absurd (let z : ◌≡◌ {A = ℕ} 0 1 = cc in omega arith)
 gave_past true r f m s n (inr e) = absurd (n (cc))
 gave_past false r f m s n h = (refl, h)
@@ -167,10 +168,10 @@ module _ (g : Geometry) (b0 b1 : List ℕ) (n0 n1 count seed : ℕ) (m : LfsMdir
 
       go : (q : Bool) → (q ≡ true → Agree)
           → cond (not (q && pair_sync m.pair (record { n0 = n0; n1 = n1 }) && leb m.off g.block_size
-          && leb 8 m.off)) (Refused Invalid)
-          (cond T (Refused Corrupt) (continued g.prog_size (block_of b0 b1 n0 m) s m))
-          ≡ cond (not q) (Refused Invalid)
-          (cond T (Refused Corrupt) (viewed g.prog_size n0 n1 b0 b1 seed (view b0 b1)))
+          && leb 8 m.off)) (Err Invalid)
+          (cond T (Err Corrupt) (continued g.prog_size (block_of b0 b1 n0 m) s m))
+          ≡ cond (not q) (Err Invalid)
+          (cond T (Err Corrupt) (viewed g.prog_size n0 n1 b0 b1 seed (view b0 b1)))
       go false h = refl
       go true h = let a = h refl in rw (
         a.sync,

@@ -1,6 +1,6 @@
 -- A lookup at offset 0 on the bytes of a block: it reads nothing behind where the walk back begins, and it answers what
 -- the place it finds holds. Assumes nothing.
-use Rattle.std.specs.Prelude.{◌≡◌, Bool, length, take, drop, get_or}
+use Rattle.std.specs.Prelude.{◌≡◌, Bool, length, take, drop, get_or, None, Ok, Option, Some}
 use Rattle.std.proofs.Math.Path.{refl}
 use Rattle.std.proofs.Common.{sym, ap, ◌∙◌, arith, zero-add, add-zero, suc-add, take-take, get_or-take}
 use Rattle.std.proofs.Math.Bool.{true, false}
@@ -17,15 +17,13 @@ use Rattle.format.specs.Look.{data_size, bytes_of, HitIn, wlook}
 use Rattle.format.specs.Lookup.{searched, slice_start, slice_end, slice_answer, slice_buffer}
 use Rattle.format.specs.Answer.{got_word}
 use Rattle.format.specs.declared.LfsMdir.{LfsMdir}
-use Rattle.format.specs.declared.Hit.{Hit}
-use Rattle.format.specs.declared.Hit.TheVariants as hit
-use Rattle.format.specs.declared.Word.TheVariants as word
 use Rattle.format.specs.declared.LfsGstate.{LfsGstate}
 use Rattle.format.proofs.Words.{be32_at_lem, tag_length_ge}
 use Rattle.format.proofs.Searched.{found_in, bytes_length}
 use Rattle.theory.specs.Lookup.ByMask.{holds, Answers}
 use Rattle.theory.specs.Lookup.WhatIsFound.{AllMet, wlook_has, searched_has}
 use Rattle.format.specs.Machine.{held_word, held_buffer}
+use Rattle.format.specs.declared.Found.{Found}
 
 -- ---- what the walk back meets stands whole before n, and so does what the search finds there
 abbrev pub Within : ℕ → Met → Type 0
@@ -109,11 +107,11 @@ module _ (e : ℕ) (x y : List ℕ) (same : take e x ≡ take e y) where
   back_same off t h = backs_same (suc off) off t h
 
   -- what was found before e is read alike
-  pub slice_same : (buffer : List ℕ) (f : Hit) → HitIn e f → length x ≡ length y
+  pub slice_same : (buffer : List ℕ) (f : Option Found) → HitIn e f → length x ≡ length y
       → (slice_answer x 0 (length buffer) f ≡ slice_answer y 0 (length buffer) f)
       × (slice_buffer x 0 buffer f ≡ slice_buffer y 0 buffer f)
-  slice_same buffer hit.Nothing h long = (refl, refl)
-  slice_same buffer (hit.Found u) h long =
+  slice_same buffer None h long = (refl, refl)
+  slice_same buffer (Some u) h long =
       let s : take (min (data_size u) (length buffer)) (drop (slice_start u 0) x)
       ≡ take (min (data_size u) (length buffer)) (drop (slice_start u 0) y)
       = same_piece (slice_start u 0) (min (data_size u) (length buffer))
@@ -128,12 +126,12 @@ take_both (suc n) (suc k) [] = sym (take-nil (min (suc k) (suc n)))
 take_both (suc n) (suc k) (x ∷ l) = ap (λ (z : List ℕ). x ∷ z) (take_both n k l)
     ∙ ap (λ (m : ℕ). take m (x ∷ l)) (sym (suc-min-suc k n))
 
-pub slice_held : (b buffer : List ℕ) (i : ℕ) (f : Hit) → HitIn (length b) f → Answers i f
+pub slice_held : (b buffer : List ℕ) (i : ℕ) (f : Option Found) → HitIn (length b) f → Answers i f
     → (got_word (slice_answer b 0 (length buffer) f) ≡ held_word i (holds b f))
     × (slice_buffer b 0 buffer f ≡ held_buffer buffer (holds b f))
 unfolding holds
-slice_held b buffer i hit.Nothing h a = (refl, refl)
-slice_held b buffer i (hit.Found e) h a =
+slice_held b buffer i None h a = (refl, refl)
+slice_held b buffer i (Some e) h a =
     let n : length (bytes_of b e) ≡ data_size e = bytes_length b e h in
     let read : slice_end e 0 (length buffer) ≤ length b
     = omega (arith, h.inside, min-le_left (data_size e) (length buffer)) in
@@ -143,4 +141,4 @@ slice_held b buffer i (hit.Found e) h a =
     let bytes : take (length buffer) (bytes_of b e)
     ≡ take (min (data_size e) (length buffer)) (drop (slice_start e 0) b)
     = rw at (take_both (length buffer) (data_size e) (drop (slice_start e 0) b)) in
-    rw (fits, n, bytes) (ap word.Is a, refl)
+    rw (fits, n, bytes) (ap Ok a, refl)

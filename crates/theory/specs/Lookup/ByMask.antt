@@ -1,9 +1,8 @@
 -- The lookup as document 01 words it, masks and a key and a difference that wrap, is the search for a class of a slot.
 -- Assumes nothing.
-use Rattle.std.specs.Prelude.{◌≡◌, ◌≢◌, Bool, true, false, ◌&&◌, ℕ, suc, ◌+◌, ◌-◌, ◌*◌, ◌^◌, ◌≤◌, ◌<◌, length, eqb, leb}
+use Rattle.std.specs.Prelude.{◌≡◌, ◌≢◌, Bool, true, false, ◌&&◌, ℕ, suc, ◌+◌, ◌-◌, ◌*◌, ◌^◌, ◌≤◌, ◌<◌, length, eqb, leb, None, Option, Some}
 use Rattle.std.proofs.Math.Path.{refl, sym}
 use Rattle.std.proofs.Common.{ap, ◌∙◌, inl, arith, eqb-true, eq-eqb, ne_eqb, leb-true, leb-false}
-use Rattle.std.proofs.Math.Option.{Option, none, some}
 use mathlib.Core.List.{List, [], ◌∷◌, map}
 use Rattle.std.specs.Int.Bits.{bit_and}
 use Rattle.std.proofs.lemmas.Bool.{eqb-false}
@@ -14,8 +13,6 @@ use Rattle.format.specs.Back.{Met}
 use Rattle.format.specs.Look.{data_size, bytes_of, as_ids, spliced_at, wlook}
 use Rattle.format.specs.Directory.{Load, Act, mk, rm, put, skip, dir, apply, empty, load_of, act}
 use Rattle.format.specs.declared.Found.{Found}
-use Rattle.format.specs.declared.Hit.{Hit}
-use Rattle.format.specs.declared.Hit.TheVariants as hit
 use Rattle.format.proofs.Tags.{of_chunk, of_fields, of_valid, of_type1, of_type3, of_id, length_size}
 use Rattle.format.proofs.Searched.{found_bytes}
 use Rattle.theory.specs.Walk.Step.{both_true}
@@ -25,34 +22,34 @@ use Rattle.theory.specs.Back.BackActs.{bytes_at, seen_as, seen}
 use Rattle.theory.specs.Lookup.Masks.{Query, QueryBy, hit_act}
 
 -- what an entry that was found holds, by what is read of it
-unfoldable pub holds_as : (Found → List ℕ) → Hit → Option Load
-holds_as of hit.Nothing = none
-holds_as of (hit.Found e) = some (record { type = tag_type3 e.tag; bytes = of e })
+unfoldable pub holds_as : (Found → List ℕ) → Option Found → Option Load
+holds_as of None = None
+holds_as of (Some e) = Some (record { type = tag_type3 e.tag; bytes = of e })
 
 -- its data
-unfoldable pub holds : List ℕ → Hit → Option Load
-holds b hit.Nothing = none
-holds b (hit.Found e) = some (record { type = tag_type3 e.tag; bytes = bytes_of b e })
+unfoldable pub holds : List ℕ → Option Found → Option Load
+holds b None = None
+holds b (Some e) = Some (record { type = tag_type3 e.tag; bytes = bytes_of b e })
 
-holds_as_lem : (b : List ℕ) (h : Hit) → holds b h ≡ holds_as (bytes_of b) h
+holds_as_lem : (b : List ℕ) (h : Option Found) → holds b h ≡ holds_as (bytes_of b) h
 unfolding holds holds_as
-holds_as_lem b hit.Nothing = refl
-holds_as_lem b (hit.Found e) = refl
+holds_as_lem b None = refl
+holds_as_lem b (Some e) = refl
 
-module _ (b : List ℕ) (h : Hit) where
-  pub missing : h ≡ hit.Nothing → none ≡ holds b h
+module _ (b : List ℕ) (h : Option Found) where
+  pub missing : h ≡ None → None ≡ holds b h
   unfolding holds
   missing q = sym (ap (holds b) q)
 
-  pub there : {e : Found} → h ≡ hit.Found e
-      → some (record { type = tag_type3 e.tag; bytes = bytes_of b e }) ≡ holds b h
+  pub there : {e : Found} → h ≡ Some e
+      → Some (record { type = tag_type3 e.tag; bytes = bytes_of b e }) ≡ holds b h
   unfolding holds
   there q = sym (ap (holds b) q)
 
 -- its tag, "the tag plus the difference", has the id that was asked for
-abbrev pub Answers : ℕ → Hit → Type 0
-Answers i hit.Nothing = Unit {0}
-Answers i (hit.Found e) = e.tag ≡ tag_of (tag_type3 e.tag) i (data_size e)
+abbrev pub Answers : ℕ → Option Found → Type 0
+Answers i None = Unit {0}
+Answers i (Some e) = e.tag ≡ tag_of (tag_type3 e.tag) i (data_size e)
 
 -- the shapes of a regular log's tags, where a tag t is taken for `see t`
 abbrev pub ShapeBy : (ℕ → ℕ) → ℕ → List ℕ → Act → Type 0
@@ -171,8 +168,8 @@ bytes_alike b m w kept = found_bytes m.tag m.off 0 b
 -- it has the met tag's own type and what is read there, and answers the id
 pub met_held : (at : Met → List ℕ) (of : Found → List ℕ) → Alike at of → (m : Met) (id w : ℕ)
     → w ≡ tag_of (tag_type3 m.tag) id (tag_size m.tag) → id < 2 ^ 10 → tag_delete m.tag ≡ false
-    → (holds_as of (hit.Found (met_as m w)) ≡ some (record { type = tag_type3 m.tag; bytes = at m }))
-    × Answers id (hit.Found (met_as m w))
+    → (holds_as of (Some (met_as m w)) ≡ Some (record { type = tag_type3 m.tag; bytes = at m }))
+    × Answers id (Some (met_as m w))
 unfolding holds_as
 met_held at of alike m id w ew low kept =
     let t : ℕ = m.tag in
@@ -185,11 +182,11 @@ met_held at of alike m id w ew low kept =
 -- of the data
 pub bytes_held : (b : List ℕ) (m : Met) (id w : ℕ) → w ≡ tag_of (tag_type3 m.tag) id (tag_size m.tag) → id < 2 ^ 10
     → tag_delete m.tag ≡ false
-    → (holds b (hit.Found (met_as m w)) ≡ some (record { type = tag_type3 m.tag; bytes = bytes_at b m }))
-    × Answers id (hit.Found (met_as m w))
+    → (holds b (Some (met_as m w)) ≡ Some (record { type = tag_type3 m.tag; bytes = bytes_at b m }))
+    × Answers id (Some (met_as m w))
 bytes_held b m id w ew low kept =
     let h = met_held (bytes_at b) (bytes_of b) (bytes_alike b) m id w ew low kept in
-    (holds_as_lem b (hit.Found (met_as m w)) ∙ h.0, h.1)
+    (holds_as_lem b (Some (met_as m w)) ∙ h.0, h.1)
 
 -- ---- the wrapped lookup is the search, where a tag is taken for another
 module _ (see : ℕ → ℕ) (at : Met → List ℕ) (of : Found → List ℕ) (alike : Alike at of) (mask T c s asked : ℕ)

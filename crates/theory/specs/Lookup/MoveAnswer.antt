@@ -1,5 +1,5 @@
 -- What a lookup of the move state answers in a regular log: "Move state: id 1,023, length 12". Assumes nothing.
-use Rattle.std.specs.Prelude.{◌≡◌, refl, ◌≢◌, Bool, true, false, cond, ℕ, ◌+◌, ◌-◌, ◌%◌, ◌^◌, ◌<◌, take, drop, leb, eqb}
+use Rattle.std.specs.Prelude.{◌≡◌, refl, ◌≢◌, Bool, true, false, cond, ℕ, ◌+◌, ◌-◌, ◌%◌, ◌^◌, ◌<◌, take, drop, leb, eqb, None, Some}
 use Rattle.std.proofs.Common.{sym, ◌∙◌, arith, eqb-true}
 use mathlib.Core.List.{List, [], ◌∷◌, reverse_aux}
 use Rattle.format.specs.Word.{be32, all_ones, minus32}
@@ -14,7 +14,6 @@ use Rattle.format.specs.declared.Rules.TheVariants.{Littlefs}
 use Rattle.format.specs.Back.{Met, hop, back, places}
 use Rattle.format.specs.Look.{mask_move, found_at, spliced_at, wlook}
 use Rattle.format.specs.Directory.{is_move}
-use Rattle.format.specs.declared.Hit.TheVariants as hit
 use Rattle.format.proofs.Tags.{low_length, low_type3, xor_low, of_fields}
 use Rattle.format.proofs.Back.{back_step}
 use Rattle.theory.specs.Walk.Step.{both_true}
@@ -91,7 +90,7 @@ wlook_moved low (m ∷ ms) h k =
     go : (is : Bool) → is_move m.tag ≡ is → (gone : Bool)
         → (is_move m.tag ≡ true → m.tag ≡ tag_of type_move no_slot 12)
         → Answers no_slot (wlook false mask_move (mask_move + low) 0 ms)
-        → Answers no_slot (cond is (cond gone hit.Nothing (hit.Found (found_at m.tag m.off 0)))
+        → Answers no_slot (cond is (cond gone None (Some (found_at m.tag m.off 0)))
         (wlook false mask_move (mask_move + low) 0 ms))
     go true e true f ih = tt
     go true e false f ih = rw (f e)

@@ -1,7 +1,6 @@
 -- The move state of a log, and its lookup: the newest one, whatever its id. Assumes nothing.
-use Rattle.std.specs.Prelude.{◌≡◌, refl, ◌≢◌, Bool, true, false, cond, ℕ, ◌+◌, ◌-◌, ◌*◌, ◌/◌, ◌%◌, ◌^◌, ◌<◌, drop, take, eqb, leb}
+use Rattle.std.specs.Prelude.{◌≡◌, refl, ◌≢◌, Bool, true, false, cond, ℕ, ◌+◌, ◌-◌, ◌*◌, ◌/◌, ◌%◌, ◌^◌, ◌<◌, drop, take, eqb, leb, None, Option, Some}
 use Rattle.std.proofs.Common.{sym, ap, ◌∙◌, arith, eqb-true, eq-eqb, ne_eqb}
-use Rattle.std.proofs.Math.Option.{Option, none}
 use mathlib.Core.List.{List, [], ◌∷◌, ◌++◌, reverse_aux}
 use Rattle.std.specs.Int.Bits.{bit_and}
 use Rattle.std.proofs.lemmas.Nat.Bits.{and_high}
@@ -15,7 +14,6 @@ use Rattle.format.specs.Log.{committed, log, log_end, log_end_tag}
 use Rattle.format.specs.Back.{Met, hop, back, places}
 use Rattle.format.specs.Look.{mask_move, found_at, spliced_at, wlook}
 use Rattle.format.specs.Directory.{Load, load_of, is_move, move_of}
-use Rattle.format.specs.declared.Hit.TheVariants as hit
 use Rattle.format.proofs.Tags.{low_length, low_type3, xor_low}
 use Rattle.format.proofs.Back.{back_step}
 use Rattle.format.proofs.Searched.{found_bytes}
@@ -49,7 +47,7 @@ same_type t = omega arith
 
 -- newest first over the tags met
 unfoldable pub last_move : List ℕ → List Met → Option Load
-last_move b [] = none
+last_move b [] = None
 last_move b (m ∷ ms) = cond (is_move m.tag) (load_of m.tag (bytes_at b m)) (last_move b ms)
 
 -- it is what the lookup by mask finds, "no ids": nothing is added to the difference
@@ -63,7 +61,7 @@ wlook_move b low (m ∷ ms) h =
   where
     go : (is gone : Bool) → tag_delete m.tag ≡ gone → holds b (wlook false mask_move (mask_move + low) 0 ms)
         ≡ last_move b ms
-        → holds b (cond is (cond (tag_delete m.tag) hit.Nothing (hit.Found (found_at m.tag m.off 0)))
+        → holds b (cond is (cond (tag_delete m.tag) None (Some (found_at m.tag m.off 0)))
         (wlook false mask_move (mask_move + low) 0 ms))
         ≡ cond is (load_of m.tag (bytes_at b m)) (last_move b ms)
     go true true e ih = rw e
@@ -93,7 +91,7 @@ last_move_places (chk t c ∷ es) b off R h w =
     last_move_places es b (off + tag_length t) (record { tag = t; off = off } ∷ R) h.1 w ∙ rw (check_move t h.0)
 last_move_places (inv ∷ es) b off R h w = absurd h
 
-last_move_nil : (b : List ℕ) → last_move b [] ≡ none
+last_move_nil : (b : List ℕ) → last_move b [] ≡ None
 unfolding last_move
 last_move_nil b = refl
 
@@ -113,7 +111,7 @@ last_move_top b off t c = rw (back_step b off t, back_step b off (t % 2 ^ 31), l
 
 -- ---- the move state, on the bytes of a block whose log is es
 pub move_lookup : (b : List ℕ) (es : List Event) → log b ≡ es → es ≢ [] → AllContained es → Eights es
-    → last_move b (back b (log_end es) (log_end_tag es)) ≡ move_of none es
+    → last_move b (back b (log_end es) (log_end_tag es)) ≡ move_of None es
 unfolding log walk
 move_lookup b es h nonempty reg eight =
     let sp = committed_split (walk_from (crc all_ones (take 4 b)) all_ones (drop 4 b)) in
@@ -127,6 +125,6 @@ move_lookup b es h nonempty reg eight =
 -- and by the lookup: mask 0x7ff, no ids, a key of any id and size
 pub move_found : (b : List ℕ) (es : List Event) (low : ℕ) → log b ≡ es → es ≢ [] → AllContained es → Eights es
     → low < 2 ^ 20
-    → holds b (wlook false mask_move (mask_move + low) 0 (back b (log_end es) (log_end_tag es))) ≡ move_of none es
+    → holds b (wlook false mask_move (mask_move + low) 0 (back b (log_end es) (log_end_tag es))) ≡ move_of None es
 move_found b es low h nonempty reg eight l = wlook_move b low (back b (log_end es) (log_end_tag es)) l
     ∙ move_lookup b es h nonempty reg eight

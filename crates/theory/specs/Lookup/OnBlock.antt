@@ -1,8 +1,7 @@
 -- The lookup by mask, key and difference, on the bytes of a block with a regular log, is the directory's. Assumes
 -- nothing.
-use Rattle.std.specs.Prelude.{◌≡◌, refl, ◌≢◌, Bool, true, false, ℕ, ◌+◌, ◌-◌, ◌%◌, ◌^◌, ◌≤◌, ◌<◌, take, drop, length, get_or, leb}
+use Rattle.std.specs.Prelude.{◌≡◌, refl, ◌≢◌, Bool, true, false, ℕ, ◌+◌, ◌-◌, ◌%◌, ◌^◌, ◌≤◌, ◌<◌, take, drop, length, get_or, leb, Option}
 use Rattle.std.proofs.Common.{ap, ◌∙◌, inl, arith}
-use Rattle.std.proofs.Math.Option.{Option}
 use mathlib.Core.List.{List, [], ◌∷◌, reverse, reverse_aux, map}
 use Rattle.format.specs.Word.{be32, all_ones, minus32}
 use Rattle.format.specs.Tag.{tag_length, tag_flipped, tag_of}

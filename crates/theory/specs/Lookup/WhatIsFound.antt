@@ -1,5 +1,5 @@
 -- What holds of nothing, and of each entry that the walk back meets, holds of what a search finds. Assumes nothing.
-use Rattle.std.specs.Prelude.{◌≡◌, Bool, true, false, cond, ◌&&◌, ltb}
+use Rattle.std.specs.Prelude.{◌≡◌, Bool, true, false, cond, ◌&&◌, ltb, None, Option, Some}
 use Rattle.std.proofs.Math.Path.{refl}
 use mathlib.Core.List.{List, [], ◌∷◌}
 use Prim.Native.Nat.{ℕ, ◌^◌}
@@ -13,8 +13,7 @@ use Rattle.format.specs.Gstate.{gstate_has_move_here}
 use Rattle.format.specs.Lookup.{has_ids, searched_from, searched}
 use Rattle.format.specs.declared.LfsMdir.{LfsMdir}
 use Rattle.format.specs.declared.LfsGstate.{LfsGstate}
-use Rattle.format.specs.declared.Hit.{Hit}
-use Rattle.format.specs.declared.Hit.TheVariants as hit
+use Rattle.format.specs.declared.Found.{Found}
 
 -- of each tag that is met
 abbrev pub AllMet : (Met → Type 0) → List Met → Type 0
@@ -22,10 +21,10 @@ AllMet A [] = Unit {0}
 AllMet A (m ∷ ms) = A m × AllMet A ms
 
 -- P is said of what is found, A of each tag that is met, D of the difference, which stays so
-module _ (P : Hit → Type 0) (A : Met → Type 0) (D : ℕ → Type 0) (nothing : P hit.Nothing)
+module _ (P : Option Found → Type 0) (A : Met → Type 0) (D : ℕ → Type 0) (nothing : P None)
     (next : (ids : Bool) (t key d : ℕ) → D d → D (diff_after ids t key d))
     (one : (m : Met) (d : ℕ) → A m → D d → tag_delete m.tag ≡ false
-    → P (hit.Found (found_at m.tag m.off d))) where
+    → P (Some (found_at m.tag m.off d))) where
   pub wlook_has : (ids : Bool) (mask key d : ℕ) (ms : List Met) → D d → AllMet A ms → P (wlook ids mask key d ms)
   unfolding wlook
   wlook_has ids mask key d [] h a = nothing
@@ -38,8 +37,8 @@ module _ (P : Hit → Type 0) (A : Met → Type 0) (D : ℕ → Type 0) (nothing
       after = diff_after ids m.tag key d
 
       go : (created hits gone : Bool) → tag_delete m.tag ≡ gone → P (wlook ids mask key after ms)
-          → P (cond created hit.Nothing (cond hits
-          (cond gone hit.Nothing (hit.Found (found_at m.tag m.off after))) (wlook ids mask key after ms)))
+          → P (cond created None (cond hits
+          (cond gone None (Some (found_at m.tag m.off after))) (wlook ids mask key after ms)))
       go true hits gone e k = nothing
       go false true true e k = nothing
       go false true false e k = one m after a.0 (next ids m.tag key d h) e
@@ -57,7 +56,7 @@ module _ (P : Hit → Type 0) (A : Met → Type 0) (D : ℕ → Type 0) (nothing
       from d w = wlook_has (has_ids mask) mask key d (back b dir.off dir.etag) w a
 
       go : (here at below : Bool)
-          → P (cond here (cond at hit.Nothing (cond below (searched_from b dir mask key (minus32 0 (2 ^ 10)))
+          → P (cond here (cond at None (cond below (searched_from b dir mask key (minus32 0 (2 ^ 10)))
           (searched_from b dir mask key 0))) (searched_from b dir mask key 0))
       go true true below = nothing
       go true false true = from (minus32 0 (2 ^ 10)) k

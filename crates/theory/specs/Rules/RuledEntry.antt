@@ -1,9 +1,8 @@
 -- An entry that passes its rule, and what the directory machine, the walk and the lookups ask of it. Assumes nothing.
-use Rattle.std.specs.Prelude.{◌≡◌, ◌≢◌, ◌⊎◌, Bool, true, cond, ◌&&◌, ◌||◌, List, ℕ, suc, ◌+◌, ◌-◌, ◌^◌, ◌≤◌, ◌<◌, max, length, eqb, leb, ltb}
+use Rattle.std.specs.Prelude.{◌≡◌, ◌≢◌, ◌⊎◌, Bool, true, cond, ◌&&◌, ◌||◌, List, ℕ, suc, ◌+◌, ◌-◌, ◌^◌, ◌≤◌, ◌<◌, max, length, eqb, leb, ltb, None, Some}
 use Rattle.std.proofs.Math.Path.{refl}
 use Rattle.std.proofs.Common.{sym, ap, subst, ◌∙◌, inl, inr, arith}
 use Rattle.std.proofs.Math.Bool.{false}
-use Rattle.std.proofs.Math.Option.{none, some}
 use borrow.Author.Tests.{eqb-true, leb-true, ltb-true, eqb-false}
 use Rattle.format.specs.Tag.{tag_type3, tag_chunk, tag_id, tag_size, removal_size, tag_delete, tag_length, tag_of}
 use Rattle.format.specs.Kind.{type_file, type_directory, type_superblock, type_dir_struct, type_inline_struct, type_ctz_struct}
@@ -116,7 +115,7 @@ module _ (g : Bool) (c n t k : ℕ) (d : List ℕ) (R : Rule) (is : act t d ≡ 
       narrow = not_wide t (inl (omega arith))
 
       go : (b : Bool) → tag_delete t ≡ b → length d ≡ tag_length t - 4 → R ≡ rule_of true (tag_type3 t)
-          → PutOk (put (tag_id t) k (cond b none (some (record { type = tag_type3 t; bytes = d }))))
+          → PutOk (put (tag_id t) k (cond b None (Some (record { type = tag_type3 t; bytes = d }))))
       go true e n r = tt
       go false e n r =
           let q : tag_size t ≢ removal_size = eqb-false (tag_size t) removal_size e in

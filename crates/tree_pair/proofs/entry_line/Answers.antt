@@ -2,5 +2,5 @@
 use Rattle.tree_pair.proofs.Entries.{no_line}
 use Rattle.tree_pair.proofs.entry_line.Goals as goal
 
-pub returns-in-Nothing : goal.returns-in-Nothing
-returns-in-Nothing c = no_line c.args.b.now c.args.depth _ c.in-Nothing.is _
+pub returns-in-None : goal.returns-in-None
+returns-in-None c = no_line c.args.b.now c.args.depth _ c.in-None.is _

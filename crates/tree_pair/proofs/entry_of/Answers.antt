@@ -15,13 +15,13 @@ returns-in_default-find_back c =
 
 pub returns-then-lfs_tag_type3-eq-LFS_TYPE_DIRSTRUCT : goal.returns-then-lfs_tag_type3-eq-LFS_TYPE_DIRSTRUCT
 returns-then-lfs_tag_type3-eq-LFS_TYPE_DIRSTRUCT c =
-    entry_dir _ _ _ _ c.requires _ c.lfs_mktag-key.ensures _ c.find_back.ensures.0 _ c.in-Found-find_back.is _ _
-    c.name_seen.ensures c.in-Found.is _ c.read_at.ensures.buffer_after _ c.lfs_tag_type3.ensures
+    entry_dir _ _ _ _ c.requires _ c.lfs_mktag-key.ensures _ c.find_back.ensures.0 _ c.in-Some-find_back.is _ _
+    c.name_seen.ensures c.in-Some.is _ c.read_at.ensures.buffer_after _ c.lfs_tag_type3.ensures
     c.if-lfs_tag_type3-eq-LFS_TYPE_DIRSTRUCT.true _ _ c.le32.ensures
     c.le32-then-lfs_tag_type3-eq-LFS_TYPE_DIRSTRUCT.ensures
 
 pub returns : goal.returns
 returns c =
-    entry_file _ _ _ _ c.requires _ c.lfs_mktag-key.ensures _ c.find_back.ensures.0 _ c.in-Found-find_back.is _ _
-    c.name_seen.ensures c.in-Found.is _ c.read_at.ensures.buffer_after _ c.lfs_tag_type3.ensures
+    entry_file _ _ _ _ c.requires _ c.lfs_mktag-key.ensures _ c.find_back.ensures.0 _ c.in-Some-find_back.is _ _
+    c.name_seen.ensures c.in-Some.is _ c.read_at.ensures.buffer_after _ c.lfs_tag_type3.ensures
     c.if-lfs_tag_type3-eq-LFS_TYPE_DIRSTRUCT.false _ c.size_of.ensures

@@ -11,7 +11,7 @@ returns-in_default c = name_none _ _ _ _ c.requires _ c.lfs_mktag-key.ensures _ 
 
 pub returns-then-not-is_hidden : goal.returns-then-not-is_hidden
 returns-then-not-is_hidden c =
-    name_plain _ _ _ _ c.requires _ c.lfs_mktag-key.ensures _ c.find_back.ensures.0 _ c.in-Found.is _
+    name_plain _ _ _ _ c.requires _ c.lfs_mktag-key.ensures _ c.find_back.ensures.0 _ c.in-Some.is _
     c.is_hidden.ensures c.if-not-is_hidden.true
 
 pub find_back-requires-2 : goal.find_back-requires-2
@@ -19,10 +19,10 @@ find_back-requires-2 c = search_fits _ _ _ _ c.requires
 
 pub returns-in_default-find_back : goal.returns-in_default-find_back
 returns-in_default-find_back c =
-    name_unseen _ _ _ _ c.requires _ c.lfs_mktag-key.ensures _ c.find_back.ensures.0 _ c.in-Found.is _
+    name_unseen _ _ _ _ c.requires _ c.lfs_mktag-key.ensures _ c.find_back.ensures.0 _ c.in-Some.is _
     c.find_back-2.ensures.0 c.in_default-find_back.is
 
 pub returns : goal.returns
 returns c =
-    name_under _ _ _ _ c.requires _ c.lfs_mktag-key.ensures _ c.find_back.ensures.0 _ c.in-Found.is _
-    c.find_back-2.ensures.0 _ c.in-Found-find_back.is
+    name_under _ _ _ _ c.requires _ c.lfs_mktag-key.ensures _ c.find_back.ensures.0 _ c.in-Some.is _
+    c.find_back-2.ensures.0 _ c.in-Some-find_back.is

@@ -3,23 +3,23 @@ use mathlib.Core.Path.{sym, ◌∙◌}
 use Rattle.tree_pair.proofs.Opened.{open_refused, answers_inside, committed, open_irregular, open_regular}
 use Rattle.tree_pair.proofs.open_in.Goals as goal
 
-pub returns-in-Refused : goal.returns-in-Refused
-returns-in-Refused c = open_refused _ _ c.args.rules _ _ (sym c.in-Refused.is ∙ c.fetch_in.ensures)
+pub returns-in-Err : goal.returns-in-Err
+returns-in-Err c = open_refused _ _ c.args.rules _ _ (sym c.in-Err.is ∙ c.fetch_in.ensures)
 
 pub block-b-requires : goal.block-b-requires
 block-b-requires c =
-    (c.requires, answers_inside _ _ c.args.rules _ _ _ (sym c.in-Found.is ∙ c.fetch_in.ensures))
+    (c.requires, answers_inside _ _ c.args.rules _ _ _ (sym c.in-Ok.is ∙ c.fetch_in.ensures))
 
 pub log_regular-requires : goal.log_regular-requires
 log_regular-requires c =
-    committed _ _ c.args.rules _ _ _ (sym c.in-Found.is ∙ c.fetch_in.ensures) _ c.block-b.ensures
+    committed _ _ c.args.rules _ _ _ (sym c.in-Ok.is ∙ c.fetch_in.ensures) _ c.block-b.ensures
 
 pub returns-then-not-log_regular : goal.returns-then-not-log_regular
 returns-then-not-log_regular c =
-    open_irregular _ _ c.args.rules _ _ _ (sym c.in-Found.is ∙ c.fetch_in.ensures) _ c.block-b.ensures _
+    open_irregular _ _ c.args.rules _ _ _ (sym c.in-Ok.is ∙ c.fetch_in.ensures) _ c.block-b.ensures _
     c.rules_of.ensures _ c.log_regular.ensures c.if-not-log_regular.true
 
 pub returns : goal.returns
 returns c =
-    open_regular _ _ c.args.rules _ _ _ (sym c.in-Found.is ∙ c.fetch_in.ensures) _ c.block-b.ensures _
+    open_regular _ _ c.args.rules _ _ _ (sym c.in-Ok.is ∙ c.fetch_in.ensures) _ c.block-b.ensures _
     c.rules_of.ensures _ c.log_regular.ensures c.if-not-log_regular.false

@@ -2,15 +2,15 @@
 use Rattle.std.proofs.Common.{◌≡◌, ℕ, ◌-◌, ◌*◌, ◌/◌, ◌%◌, div-add-mod', arith, eq-eqb, ne_eqb}
 use native.Mathlib.Nat.{mod-le}
 use Rattle.format.specs.Arith.{align_down}
-use Rattle.format.specs.declared.Word.TheVariants.{Is, Refused}
 use Rattle.format.specs.declared.Refusal.TheVariants.{Invalid}
 use Rattle.util.proofs.lfs_aligndown.Goals as goal
+use Rattle.std.specs.Prelude.{Err, Ok}
 
-refused : (a m : ℕ) → m ≡ 0 → Refused Invalid ≡ align_down a m
+refused : (a m : ℕ) → m ≡ 0 → Err Invalid ≡ align_down a m
 unfolding align_down
 refused a m e = rw (eq-eqb m 0 e)
 
-aligned : (a m : ℕ) → (m ≡ 0 → ⊥) → Is (a - a % m) ≡ align_down a m
+aligned : (a m : ℕ) → (m ≡ 0 → ⊥) → Ok (a - a % m) ≡ align_down a m
 unfolding align_down
 aligned a m f = let e : a - a % m ≡ a / m * m = omega (arith, div-add-mod' a m) in rw (ne_eqb m 0 f, e)
 

@@ -1,15 +1,15 @@
 -- `word::lfs_le32_at` meets its contract: the test of the offset decides the definition's case. Assumes nothing.
 use mathlib.Core.Path.{ap, ◌∙◌}
-use Rattle.format.specs.declared.Word.TheVariants.{Is}
 use Rattle.word.proofs.Inside.{is_inside, first, second}
 use Rattle.word.proofs.lfs_le32_at.Goals as goal
+use Rattle.std.specs.Prelude.{Ok}
 
 pub le32-requires : goal.le32-requires
 le32-requires c = is_inside c.args.s.now _ _ c.has_word.ensures
     c.if-has_word.true
 
 pub returns-then-has_word : goal.returns-then-has_word
-returns-then-has_word c = ap Is c.le32.ensures ∙ first _ _ _ _ c.has_word.ensures c.if-has_word.true
+returns-then-has_word c = ap Ok c.le32.ensures ∙ first _ _ _ _ c.has_word.ensures c.if-has_word.true
 
 pub returns-else-has_word : goal.returns-else-has_word
 returns-else-has_word c = second _ _ _ _ c.has_word.ensures c.if-has_word.false

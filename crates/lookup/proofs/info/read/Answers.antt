@@ -12,18 +12,18 @@ pub slice_bounds-read-end : goal.slice_bounds-read-end
 slice_bounds-read-end c = sym (length-take-le (c.args.name_max + 1) (blank_buffer 256)
     (omega arith))
 
-pub returns-in-Refused : goal.returns-in-Refused
-returns-in-Refused c = let a = c.args in
+pub returns-in-Err : goal.returns-in-Err
+returns-in-Err c = let a = c.args in
     info_refused_lem a.b.now a.dir a.gdisk a.name_max a.id (omega arith) (omega arith) _ _
     c.lfs_mktag-gmask.ensures
     c.lfs_mktag-gtag.ensures _
-    c.read.ensures.value _ c.in-Refused.is _
+    c.read.ensures.value _ c.in-Err.is _
     c.refused.ensures
 
-pub returns-in-Found : goal.returns-in-Found
-returns-in-Found c = let a = c.args in
+pub returns-in-Ok : goal.returns-in-Ok
+returns-in-Ok c = let a = c.args in
     info_found a.b.now a.dir a.gdisk a.name_max a.id (omega arith) (omega arith) _ _
     c.lfs_mktag-gmask.ensures
     c.lfs_mktag-gtag.ensures _
-    c.read.ensures.value _ c.in-Found.is _
+    c.read.ensures.value _ c.in-Ok.is _
     c.read.ensures.buffer_after _ c.named.ensures
