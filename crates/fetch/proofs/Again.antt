@@ -8,13 +8,13 @@ use native.Mathlib.Omega.{arith}
 use lib.Dec.{leb}
 use lib.ListN.{length}
 use Rattle.format.specs.Fetch.{too_high}
-use Rattle.format.specs.Lookup.{record_fits}
+use Rattle.format.specs.Lookup.{record_fits, block_of}
 use Rattle.format.specs.Refetch.{held_forward, refetch_fits, continued, refetch_of}
 use Rattle.format.specs.declared.Geometry.{Geometry}
 use Rattle.format.specs.declared.LfsMdir.{LfsMdir}
 use Rattle.format.specs.declared.Refusal.TheVariants.{Invalid, Corrupt}
 use Rattle.sizes.proofs.Sized.{both}
-use Rattle.sizes.proofs.Records.{record_sized, end_inside, block_first, block_second}
+use Rattle.sizes.proofs.Records.{record_sized, end_inside, of_block}
 use Rattle.fetch_walk.specs.Block.{walked_again}
 use Rattle.fetch_walk.specs.Dir.{empty_dir}
 use Rattle.fetch_walk.specs.declared.Taken.{Taken}
@@ -66,7 +66,7 @@ module _ (g : Geometry) (b0 b1 : List ℕ) (n0 n1 count seed : ℕ) (m : LfsMdir
     sound : record_fits g (length b0) (length b1) n0 n1 m ≡ true
     sound = sym is ∙ (both p (leb 8 m.off) ok).0
 
-    pub first_known : Known g.prog_size b0 m
+    first_known : Known g.prog_size b0 m
     first_known =
         let s = record_sized g (length b0) (length b1) n0 n1 m sound in
         record {
@@ -75,7 +75,7 @@ module _ (g : Geometry) (b0 b1 : List ℕ) (n0 n1 count seed : ℕ) (m : LfsMdir
           within = (end_inside g (length b0) (length b1) n0 n1 m sound).0;
         }
 
-    pub second_known : Known g.prog_size b1 m
+    second_known : Known g.prog_size b1 m
     second_known =
         let s = record_sized g (length b0) (length b1) n0 n1 m sound in
         record {
@@ -84,6 +84,10 @@ module _ (g : Geometry) (b0 b1 : List ℕ) (n0 n1 count seed : ℕ) (m : LfsMdir
           within = (end_inside g (length b0) (length b1) n0 n1 m sound).1;
         }
 
+    -- b is the block that the record was read from
+    pub block_known : (b : List ℕ) → b ≡ block_of b0 b1 n0 m → Known g.prog_size b m
+    block_known = of_block b0 b1 n0 m (λ b. Known g.prog_size b m) (first_known, second_known)
+
     module _ (h0 h1 : Bool) (e0 : h0 ≡ too_high count n0) (e1 : h1 ≡ too_high count n1) where
       pub refetch_high : h0 || h1 ≡ true → Err Corrupt ≡ refetch_of g b0 b1 n0 n1 count seed m
       unfolding refetch_of
@@ -91,14 +95,8 @@ module _ (g : Geometry) (b0 b1 : List ℕ) (n0 n1 count seed : ℕ) (m : LfsMdir
 
       -- r is what `go_on` answers
       module _ (low : h0 || h1 ≡ false) (r : Result Fetched Refusal) where
-        pub refetch_first : m.pair.n0 ≡ n0 → r ≡ continued g.prog_size b0 seed m
+        pub refetch_read : (b : List ℕ) → b ≡ block_of b0 b1 n0 m → r ≡ continued g.prog_size b seed m
             → r ≡ refetch_of g b0 b1 n0 n1 count seed m
         unfolding refetch_of
-        refetch_first q e = e ∙ ap (λ (b : List ℕ). continued g.prog_size b seed m) (block_first b0 b1 n0 m q)
-            ∙ sym (rw (← is, ok, ← e0, ← e1, low))
-
-        pub refetch_second : (m.pair.n0 ≡ n0 → ⊥) → r ≡ continued g.prog_size b1 seed m
-            → r ≡ refetch_of g b0 b1 n0 n1 count seed m
-        unfolding refetch_of
-        refetch_second q e = e ∙ ap (λ (b : List ℕ). continued g.prog_size b seed m) (block_second b0 b1 n0 m q)
+        refetch_read b q e = e ∙ ap (λ (x : List ℕ). continued g.prog_size x seed m) q
             ∙ sym (rw (← is, ok, ← e0, ← e1, low))

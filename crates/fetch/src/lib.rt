@@ -200,10 +200,6 @@ pub fn lfs_dir_refetch(
     if sizes::too_high(block_count, n0) | sizes::too_high(block_count, n1) {
         return Err(Refusal::Corrupt);
     }
-    let pair = dir.pair;
-    if pair.n0 == n0 {
-        go_on(prog, b0, dir, seed)
-    } else {
-        go_on(prog, b1, dir, seed)
-    }
+    let b = sizes::block_of(b0, b1, n0, dir);
+    go_on(prog, b, dir, seed)
 }

@@ -6,7 +6,7 @@
 ghost use Rattle.std.specs.Prelude.{◌≡◌};
 ghost use Rattle.format.specs.Find.{find_of};
 
-use format::{Fetched, Geometry, Refusal};
+use format::{Geometry, Refusal, Rules};
 
 // "the lowest id whose live name has the given bytes and type, or none. .. An empty name is -22, and an irregular log
 // is -202." A type that no name has, and a name longer than any, are asked for in vain.
@@ -25,20 +25,11 @@ pub fn lfs_dir_find(
     ensures { result ≡ find_of g b0.now b1.now n0 n1 block_count seed rules
         name.now kind }
 {
-    if (1 < rules) | (name.len() == 0) {
+    let rules = Rules::try_from(rules)?;
+    if name.is_empty() {
         return Err(Refusal::Invalid);
     }
-    match fetch::lfs_dir_fetch(g, b0, b1, n0, n1, block_count, seed) {
-        Err(r) => Err(r),
-        Fetched::Found(dir, _) => {
-            let pair = dir.pair;
-            let end = dir.off as usize;
-            let rule = commit_regular::rules_of(rules);
-            if pair.n0 == n0 {
-                find_pass::find_in(b0, end, rule, name, kind)
-            } else {
-                find_pass::find_in(b1, end, rule, name, kind)
-            }
-        }
-    }
+    let dir = fetch::lfs_dir_fetch(g, b0, b1, n0, n1, block_count, seed)?.dir;
+    let b = sizes::block_of(b0, b1, n0, dir);
+    find_pass::find_in(b, dir.off as usize, rules, name, kind)
 }

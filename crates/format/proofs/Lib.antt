@@ -21,6 +21,8 @@ pub mod Searched
 pub mod Erased
 pub mod Rooms
 pub mod Refusals
+-- The rule that a call takes as a number.
+pub mod TheRule
 -- Which logs are regular: document 01's rule and littlefs's; the slots that a directory is made to reach.
 pub mod Growing
 pub mod Slots

@@ -10,7 +10,7 @@ use borrow.Author.Tests.{leb-true, eq-eqb, ne_eqb}
 use Rattle.format.specs.Tag.{tag_type3, mk_tag}
 use Rattle.format.specs.Lookup.{record_fits, block_of, searched, slice_answer, slice_buffer, blank_buffer, name_mask}
 use Rattle.format.specs.Lookup.{name_key}
-use Rattle.format.specs.Lookup.{struct_mask, struct_key, info_refused, info_root, info_size, info_from, read_answer}
+use Rattle.format.specs.Lookup.{struct_mask, struct_key, info_root, info_size, info_from, read_answer}
 use Rattle.format.specs.Lookup.{read_buffer, info_of, getinfo_fits, getinfo_of}
 use Rattle.format.specs.declared.Geometry.{Geometry}
 use Rattle.format.specs.declared.LfsMdir.{LfsMdir}
@@ -58,16 +58,16 @@ module _ (b : List ℕ) (dir : LfsMdir) (gdisk : LfsGstate) (id t : ℕ) (name :
   answers : a ≡ read_answer b 8 (searched b dir gdisk struct_mask (struct_key id))
   answers = e ∙ ap (λ u. read_answer b 8 u) struct
 
-  pub named_refused : (r : Refusal) → a ≡ Err r → (x : Result LfsInfo Refusal) → x ≡ info_refused r → x ≡ promised
-  named_refused r q x ex = ex ∙ ap (λ y. told y (read_buffer b 8 (searched b dir gdisk struct_mask (struct_key id))))
+  pub named_refused : (r : Refusal) → a ≡ Err r → Err r ≡ promised
+  named_refused r q = ap (λ y. told y (read_buffer b 8 (searched b dir gdisk struct_mask (struct_key id))))
       (sym q ∙ answers)
 
   -- d is the buffer, z the size in it, k the name's type
   pub named_found_lem : (u : Found) → a ≡ Ok u → (d : List ℕ) → d ≡ read_buffer b 8 (searched b dir gdisk gm gt)
       → (z k : ℕ) → z ≡ info_size u.tag d → k ≡ tag_type3 t
-      → record { answer = (Ok tt); info = record { kind = k % 2 ^ 8; size = z; name = name } } ≡ promised
+      → Ok (record { kind = k % 2 ^ 8; size = z; name = name }) ≡ promised
   named_found_lem u q d ed z k ez ek =
-      (λ i. record { answer = (Ok tt); info = record { kind = ek i % 2 ^ 8; size = ez i; name = name } })
+      (λ i. Ok (record { kind = ek i % 2 ^ 8; size = ez i; name = name }))
       ∙ (λ i. told ((sym q ∙ answers) i) ((ed ∙ ap (λ v. read_buffer b 8 v) struct) i))
 
 -- ---- the name's lookup, into the front of a blank buffer
@@ -103,10 +103,9 @@ module _ (b : List ℕ) (dir : LfsMdir) (gdisk : LfsGstate) (nameMax id : ℕ) (
   name_answer_lem = e ∙ ap (λ f. slice_answer b 0 (length (blank nameMax)) f) name_search
       ∙ ap (λ (k : ℕ). slice_answer b 0 k u) (ap length lent ∙ length-replicate {A = ℕ} (nameMax + 1) 0)
 
-  pub info_refused_lem : (r : Refusal) → a ≡ Err r → (x : Result LfsInfo Refusal) → x ≡ info_refused r
-      → x ≡ info_of b nameMax u v
-  info_refused_lem r q x ex = ex
-      ∙ ap (λ y. info_from y (read_buffer b (nameMax + 1) u) (read_answer b 8 v) (read_buffer b 8 v))
+  pub info_refused_lem : (r : Refusal) → a ≡ Err r → Err r ≡ info_of b nameMax u v
+  info_refused_lem r q =
+      ap (λ y. info_from y (read_buffer b (nameMax + 1) u) (read_answer b 8 v) (read_buffer b 8 v))
       (sym q ∙ name_answer_lem)
 
   -- l is the part that was lent, x the info with the buffer of which it is the front
@@ -132,10 +131,9 @@ module _ (g : Geometry) (b0 b1 : List ℕ) (n0 n1 : ℕ) (dir : LfsMdir) (gdisk 
   abbrev taken : Bool
   taken = fits && leb 1 nameMax && leb nameMax 255 && leb id 1023
 
-  pub getinfo_refused : taken ≡ false → (x : Result LfsInfo Refusal) → x ≡ info_refused Invalid
-      → x ≡ getinfo_of g b0 b1 n0 n1 dir gdisk nameMax id
+  pub getinfo_refused : taken ≡ false → Err Invalid ≡ getinfo_of g b0 b1 n0 n1 dir gdisk nameMax id
   unfolding getinfo_of getinfo_fits
-  getinfo_refused h x ex = ex ∙ sym (rw (← e, h))
+  getinfo_refused h = sym (rw (← e, h))
 
   module _ (h : taken ≡ true) where
     pub getinfo_inside : ((dir.off ≤ length b0) × (dir.off ≤ length b1)) × ((nameMax ≤ 255) × (id ≤ 1023))
@@ -147,9 +145,9 @@ module _ (g : Geometry) (b0 b1 : List ℕ) (n0 n1 : ℕ) (dir : LfsMdir) (gdisk 
           (leb-true nameMax 255 q.1, leb-true id 1023 p.1),
         )
 
-    pub getinfo_root : id ≡ 1023 → (x : Result LfsInfo Refusal) → x ≡ info_root → x ≡ getinfo_of g b0 b1 n0 n1 dir gdisk nameMax id
+    pub getinfo_root : id ≡ 1023 → (x : LfsInfo) → x ≡ info_root → Ok x ≡ getinfo_of g b0 b1 n0 n1 dir gdisk nameMax id
     unfolding getinfo_of getinfo_fits
-    getinfo_root q x ex = ex ∙ sym (rw (← e, h, eq-eqb id 1023 q))
+    getinfo_root q x ex = ap Ok ex ∙ sym (rw (← e, h, eq-eqb id 1023 q))
 
     -- b is the block that is read
     pub getinfo_read : (id ≡ 1023 → ⊥) → (b : List ℕ) → b ≡ block_of b0 b1 n0 dir → (x : Result LfsInfo Refusal)

@@ -8,7 +8,7 @@ ghost use Rattle.format.specs.Lookup.{getslice_of, getslice_buffer, get_of, get_
 ghost use Rattle.format.specs.Lookup.{getinfo_of};
 
 use format::types::{LONGEST_BUFFER, NO_SLOT};
-use format::{Geometry, LfsGstate, LfsMdir, Refusal};
+use format::{Found, Geometry, LfsGstate, LfsInfo, LfsMdir, Refusal};
 
 // an info from a block; for the crates of this repository, some functions ask for an end inside it
 pub mod info;
@@ -37,12 +37,8 @@ pub fn lfs_dir_getslice(
     if !(fits & (buffer.len() <= LONGEST_BUFFER)) {
         return Err(Refusal::Invalid);
     }
-    let pair = dir.pair;
-    if pair.n0 == n0 {
-        lookup_search::slice::read(b0, dir, gdisk, gmask, gtag, goff, buffer)
-    } else {
-        lookup_search::slice::read(b1, dir, gdisk, gmask, gtag, goff, buffer)
-    }
+    let b = sizes::block_of(b0, b1, n0, dir);
+    lookup_search::slice::read(b, dir, gdisk, gmask, gtag, goff, buffer)
 }
 
 // Per lfs.c lfs_dir_get: as many bytes as the key's size field says, and the buffer behind them left alone.
@@ -85,8 +81,7 @@ pub fn lfs_dir_get(
     )
 }
 
-// Per lfs.c lfs_dir_getinfo. The longest name read is a parameter, and the info comes back by value: all zero on a
-// refusal.
+// Per lfs.c lfs_dir_getinfo. The longest name read is a parameter, and the info comes back by value.
 pub fn lfs_dir_getinfo(
     g: Geometry,
     b0: &[u8],
@@ -102,56 +97,16 @@ pub fn lfs_dir_getinfo(
 {
     let fits = sizes::record_fits(g, b0.len(), b1.len(), n0, n1, dir);
     if !(fits & (1 <= name_max) & (name_max <= 255) & (id <= NO_SLOT)) {
-        return info::refused(Refusal::Invalid);
+        return Err(Refusal::Invalid);
     }
     if id == NO_SLOT {
-        return info::root();
+        return Ok(info::root());
     }
-    let pair = dir.pair;
-    if pair.n0 == n0 {
-        info::read(b0, dir, gdisk, name_max, id)
-    } else {
-        info::read(b1, dir, gdisk, name_max, id)
-    }
+    let b = sizes::block_of(b0, b1, n0, dir);
+    info::read(b, dir, gdisk, name_max, id)
 }
 
-// A global state and an answer: what lfs_dir_getgstate leaves, by value.
-#[derive(Clone, Copy)]
-pub struct GotGstate {
-    pub answer: Result<(), Refusal>,
-    pub gstate: LfsGstate,
-}
-
-// lfs_dir_getgstate by value.
-pub fn getgstate_of(
-    g: Geometry,
-    b0: &[u8],
-    b1: &[u8],
-    n0: u32,
-    n1: u32,
-    dir: LfsMdir,
-    gdisk: LfsGstate,
-    gstate: LfsGstate,
-) -> GotGstate
-    ensures { (result.answer ≡ getgstate_of g b0.now b1.now n0 n1 dir gdisk)
-        × (result.gstate ≡ getgstate_state g b0.now b1.now n0 n1 dir gdisk gstate) }
-{
-    if !sizes::record_fits(g, b0.len(), b1.len(), n0, n1, dir) {
-        return GotGstate {
-            answer: Err(Refusal::Invalid),
-            gstate: gstate,
-        };
-    }
-    let pair = dir.pair;
-    if pair.n0 == n0 {
-        moved::read(b0, dir, gdisk, gstate)
-    } else {
-        moved::read(b1, dir, gdisk, gstate)
-    }
-}
-
-// Per lfs.c lfs_dir_getgstate: the move state of a pair XORed into a lent state, where it stands. Thin, over the
-// function above.
+// Per lfs.c lfs_dir_getgstate: the move state of a pair XORed into a lent state, where it stands.
 pub fn lfs_dir_getgstate(
     g: Geometry,
     b0: &[u8],
@@ -166,7 +121,9 @@ pub fn lfs_dir_getgstate(
         × (gstate.new ≡ getgstate_state g b0.now b1.now n0 n1 dir gdisk
         gstate.old) }
 {
-    let r = getgstate_of(g, b0, b1, n0, n1, dir, gdisk, *gstate);
-    *gstate = r.gstate;
-    r.answer
+    if !sizes::record_fits(g, b0.len(), b1.len(), n0, n1, dir) {
+        return Err(Refusal::Invalid);
+    }
+    let b = sizes::block_of(b0, b1, n0, dir);
+    moved::read(b, dir, gdisk, gstate)
 }

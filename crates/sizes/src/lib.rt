@@ -4,7 +4,7 @@
 
 ghost use Rattle.std.specs.Prelude.{◌≡◌};
 ghost use Rattle.format.specs.Fetch.{geometry_fits, images_fit, pair_fits, too_high};
-ghost use Rattle.format.specs.Lookup.{record_fits};
+ghost use Rattle.format.specs.Lookup.{record_fits, block_of};
 ghost use Rattle.format.specs.Writer.{writes_fit};
 
 use format::{Geometry, LfsMdir, LfsPair};
@@ -52,6 +52,13 @@ pub fn record_fits(g: Geometry, len0: usize, len1: usize, n0: u32, n1: u32, dir:
     pair_fits(g, len0, len1, n0, n1)
         & util::lfs_pair_issync(dir.pair, LfsPair { n0: n0, n1: n1 })
         & (dir.off <= g.block_size)
+}
+
+// The block that a record was read from: the image with the record's first number.
+pub fn block_of<'a>(b0: &'a [u8], b1: &'a [u8], n0: u32, dir: LfsMdir) -> &'a [u8]
+    ensures { result.now ≡ block_of b0.now b1.now n0 dir }
+{
+    if dir.pair.n0 == n0 { b0 } else { b1 }
 }
 
 // How a call writes: the rule by which the log must be regular is 0 or 1, and the erased byte "0xff or 0x00".
