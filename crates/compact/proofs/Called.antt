@@ -12,8 +12,9 @@ use Rattle.format.specs.Word.{le32, to_le32, plus32, all_ones}
 use Rattle.format.specs.Crc.{crc}
 use Rattle.format.specs.Log.{log}
 use Rattle.format.specs.Fetch.{fetch_of}
-use Rattle.format.specs.Regular.{Regular, rules_of}
+use Rattle.format.specs.Regular.{Regular, rules_fit, rules_of}
 use Rattle.format.specs.declared.Rules.{Rules}
+use Rattle.format.specs.Erased.{erased_fits}
 use Rattle.format.specs.Commit.{check_tag}
 use Rattle.format.specs.Stores.{coincides}
 use Rattle.format.specs.Writer.{rounded_end, check_size, writes_fit, block_at, is_second, unlimited}
@@ -32,6 +33,17 @@ use Rattle.compact_block.specs.Renewed.{renewed_items, Renewable, renewed_to}
 use Rattle.std.specs.Prelude.{Err, Ok, Result}
 use Rattle.format.specs.declared.Fetched.{Fetched}
 use Rattle.format.specs.Record.{fetched}
+
+-- ---- how a call writes, from its two tests
+module _ (rules e : ℕ) where
+  pub rule_unfit : rules_fit rules ≡ false → writes_fit rules e ≡ false
+  rule_unfit h = rw h
+
+  pub byte_unfit : rules_fit rules ≡ true → erased_fits e ≡ false → writes_fit rules e ≡ false
+  byte_unfit h k = rw (h, k)
+
+  pub both_fit : rules_fit rules ≡ true → erased_fits e ≡ true → writes_fit rules e ≡ true
+  both_fit h k = rw (h, k)
 
 -- ---- a verdict with the place of the block that answers
 abbrev placed_at : Bool → CompactVerdict → CompactVerdict
@@ -102,14 +114,14 @@ module _ (g : Geometry) (b0 b1 : List ℕ) (n0 n1 count seed rules e : ℕ) wher
   unfolding compact_stores_of compact_images
   leaves n v q r c0 c1 h table left k = rw q (h.0, (h.1.0, (h.1.1, k)))
 
-  -- t is what `writes_fit` answers
+  -- t is what they come to
   module _ (t : Bool) (et : t ≡ writes_fit rules e) where
-    pub called_invalid : (n : ℕ) (table : List ℕ) → not t ≡ true → Called n (Err Invalid) b0 b1 table table
+    pub called_invalid : (n : ℕ) (table : List ℕ) → t ≡ false → Called n (Err Invalid) b0 b1 table table
     unfolding compact_verdict compact_table
     called_invalid n table h = leaves n (compact_refused Invalid) (rw (← et, h)) (Err Invalid) b0 b1
         (refl, (refl, refl)) table table (rw (← et, h))
 
-    module _ (k : not t ≡ false) where
+    module _ (k : t ≡ true) where
       pub called_refused : (n : ℕ) (table : List ℕ) (r : Refusal)
           → Err r ≡ fetch_of g b0 b1 n0 n1 count seed → Called n (Err r) b0 b1 table table
       unfolding compact_verdict compact_table
@@ -166,14 +178,16 @@ module _ (g : Geometry) (b0 b1 : List ℕ) (n0 n1 count seed rules e : ℕ) wher
           pub renews_first : Renewable g.prog_size b0 b1 m
           renews_first = renewable false place_first
 
-          pub called_first : (n : ℕ) (r : Result ℕ Refusal) (c : List ℕ)
-              → r ≡ compact_made n (compactable (rules_of rules) e g.prog_size false b0 (log b0))
-              → c ≡ renewed_to e n b1 (compactable (rules_of rules) e g.prog_size false b0 (log b0))
-              → (table left : List ℕ) → left ≡ table_renewed (rules_of rules) (log b0) table
+          -- asked: the rule that the number is
+          pub called_first : (asked : Rules) → asked ≡ rules_of rules → (n : ℕ) (r : Result ℕ Refusal) (c : List ℕ)
+              → r ≡ compact_made n (compactable asked e g.prog_size false b0 (log b0))
+              → c ≡ renewed_to e n b1 (compactable asked e g.prog_size false b0 (log b0))
+              → (table left : List ℕ) → left ≡ table_renewed asked (log b0) table
               → Called n r b0 c table left
-          called_first n r c er ec table left et' = leaves n _ (verdict_of_lem false place_first) r b0 c
-              (first_leaves e n b0 b1 (compactable (rules_of rules) e g.prog_size false b0 (log b0)) r c er ec)
-              table left (et' ∙ table_of false place_first table)
+          called_first asked q n r c er ec table left et' =
+              leaves n _ (verdict_of_lem false place_first) r b0 c
+              (first_leaves e n b0 b1 (compactable (rules_of rules) e g.prog_size false b0 (log b0)) r c (er ∙ rw q) (ec ∙ rw q))
+              table left (et' ∙ ap (λ (x : Rules). table_renewed x (log b0) table) q ∙ table_of false place_first table)
 
         -- the second block answers
         module _ (h : m.pair.n0 ≡ n0 → ⊥) where
@@ -183,14 +197,16 @@ module _ (g : Geometry) (b0 b1 : List ℕ) (n0 n1 count seed rules e : ℕ) wher
           pub renews_second : Renewable g.prog_size b1 b0 m
           renews_second = renewable true place_second
 
-          pub called_second : (n : ℕ) (r : Result ℕ Refusal) (c : List ℕ)
-              → r ≡ compact_made n (compactable (rules_of rules) e g.prog_size false b1 (log b1))
-              → c ≡ renewed_to e n b0 (compactable (rules_of rules) e g.prog_size false b1 (log b1))
-              → (table left : List ℕ) → left ≡ table_renewed (rules_of rules) (log b1) table
+          -- asked: the rule that the number is
+          pub called_second : (asked : Rules) → asked ≡ rules_of rules → (n : ℕ) (r : Result ℕ Refusal) (c : List ℕ)
+              → r ≡ compact_made n (compactable asked e g.prog_size false b1 (log b1))
+              → c ≡ renewed_to e n b0 (compactable asked e g.prog_size false b1 (log b1))
+              → (table left : List ℕ) → left ≡ table_renewed asked (log b1) table
               → Called n r c b1 table left
-          called_second n r c er ec table left et' = leaves n _ (verdict_of_lem true place_second) r c b1
-              (second_leaves e n b0 b1 (compactable (rules_of rules) e g.prog_size false b1 (log b1)) r c er ec)
-              table left (et' ∙ table_of true place_second table)
+          called_second asked q n r c er ec table left et' =
+              leaves n _ (verdict_of_lem true place_second) r c b1
+              (second_leaves e n b0 b1 (compactable (rules_of rules) e g.prog_size false b1 (log b1)) r c (er ∙ rw q) (ec ∙ rw q))
+              table left (et' ∙ ap (λ (x : Rules). table_renewed x (log b1) table) q ∙ table_of true place_second table)
 
   -- ---- the call with no limit: c0, c1 and `left` are what the other leaves
   abbrev pub Answered : Result Fetched Refusal → List ℕ → List ℕ → List ℕ → List ℕ → Type 0

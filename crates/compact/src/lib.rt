@@ -11,7 +11,7 @@ ghost use Rattle.format.specs.Index.{compact_table};
 ghost use Rattle.format.specs.Stopped.{CompactLeaves, CompactStoresLeaves};
 
 use format::types::UNLIMITED;
-use format::{Fetched, Geometry, Refusal};
+use format::{Fetched, Geometry, Refusal, Rules};
 
 // What all three calls do, with a limit of stores and a table. Inlined, so that it shares their frame on the stack.
 #[inline(always)]
@@ -35,19 +35,15 @@ fn run(
     ensures table_after { table.new ≡ compact_table g b0.old b1.old n0 n1 block_count seed
         rules erased table.old }
 {
-    if !sizes::writes_fit(rules, erased) {
+    let rules = Rules::try_from(rules)?;
+    if !sizes::erased_fits(erased) {
         return Err(Refusal::Invalid);
     }
-    match fetch::lfs_dir_fetch(g, b0, b1, n0, n1, block_count, seed) {
-        Err(r) => Err(r),
-        Fetched::Found(dir, _) => {
-            let pair = dir.pair;
-            if pair.n0 == n0 {
-                compact_block::renew(g.prog_size, rules, erased, b0, b1, dir, stores, table)
-            } else {
-                compact_block::renew(g.prog_size, rules, erased, b1, b0, dir, stores, table)
-            }
-        }
+    let dir = fetch::lfs_dir_fetch(g, b0, b1, n0, n1, block_count, seed)?.dir;
+    if dir.pair.n0 == n0 {
+        compact_block::renew(g.prog_size, rules, erased, b0, b1, dir, stores, table)
+    } else {
+        compact_block::renew(g.prog_size, rules, erased, b1, b0, dir, stores, table)
     }
 }
 
@@ -111,7 +107,7 @@ pub fn lfs_dir_compact_with(
     ensures table_after { table.new ≡ compact_table g b0.old b1.old n0 n1 block_count seed
         rules erased table.old }
 {
-    match run(
+    run(
         g,
         b0,
         b1,
@@ -123,13 +119,8 @@ pub fn lfs_dir_compact_with(
         erased,
         UNLIMITED,
         table,
-    ) {
-        Err(r) => Err(r),
-        Ok(_) => match fetch::lfs_dir_fetch(g, b0, b1, n0, n1, block_count, seed) {
-            Fetched::Found(dir, read) => Ok(Fetched { dir: dir, seed: read }),
-            Err(r) => Err(r),
-        },
-    }
+    )?;
+    fetch::lfs_dir_fetch(g, b0, b1, n0, n1, block_count, seed)
 }
 
 // The same with no table.

@@ -14,28 +14,23 @@ use Rattle.format.proofs.Growing.{widest}
 use Rattle.index_theory.proofs.Extended.{built_front}
 use Rattle.index_pass.specs.Run.{Buildable}
 use Rattle.compact_block.specs.Renewed.{Recorded, renewed_to, anew}
-use Rattle.std.specs.Prelude.{Err, Ok, Result}
+use Rattle.std.specs.Prelude.{Err, Ok, Result, Option, Some, None}
+use Rattle.compact_entries.specs.Placed.{Indexes}
 use Rattle.format.specs.declared.Refusal.{Refusal}
 
--- what is lent of the table t: its first `used` words, which are the log's places if y says so
-pub record Lends (old t : List ℕ) (used : ℕ) (y : Bool) : Type 0 where
-  pub inside : used ≤ length t
-  pub are : y ≡ true → take (used - 0) t ≡ places_of (log old)
-
 -- r is the rule that was asked for, x whether the log is regular by it
-module _ (old : List ℕ) (rules : ℕ) (r : Rules) (asked : r ≡ rules_of rules) (x : Bool)
-    (ex : x ≡ Regular r (log old)) where
-  ruled : (y : Bool) → x ≡ y → Regular (rules_of rules) (log old) ≡ y
-  ruled y h = rw (← asked) (sym ex ∙ h)
+module _ (old : List ℕ) (r : Rules) (x : Bool) (ex : x ≡ Regular r (log old)) where
+  ruled : (y : Bool) → x ≡ y → Regular r (log old) ≡ y
+  ruled y h = sym ex ∙ h
 
   -- what is answered and left: of the call, the other block and the table
   module _ (byte prog : ℕ) (new table : List ℕ) (n : ℕ) where
     abbrev v : CompactVerdict
-    v = compactable (rules_of rules) byte prog false old (log old)
+    v = compactable r byte prog false old (log old)
 
     abbrev pub Renewed : Result ℕ Refusal → List ℕ → List ℕ → Type 0
     Renewed s b t = (s ≡ compact_made n v) × ((b ≡ renewed_to byte n new v)
-        × (t ≡ table_renewed (rules_of rules) (log old) table))
+        × (t ≡ table_renewed r (log old) table))
 
     pub renew_irregular : not x ≡ true → Renewed (Err Irregular) new table
     unfolding compactable
@@ -50,7 +45,7 @@ module _ (old : List ℕ) (rules : ℕ) (r : Rules) (asked : r ≡ rules_of rule
 
   module _ (h : not x ≡ false) where
     pub renew_regular : Regular Littlefs (log old) ≡ true
-    renew_regular = widest (rules_of rules) (log old) (ruled true (not-false x h))
+    renew_regular = widest r (log old) (ruled true (not-false x h))
 
     pub renew_builds : (dir : LfsMdir) → Recorded old dir → Buildable old dir.off
     renew_builds dir w = record {
@@ -70,10 +65,15 @@ module _ (old : List ℕ) (rules : ℕ) (r : Rules) (asked : r ≡ rules_of rule
       pub places_few : (k : ℕ) → q ≡ Ok k → 2 * k ≤ n
       places_few k is = (front k is).0
 
-      pub lends_places : (k : ℕ) → q ≡ Ok k → (used : ℕ) → used ≡ 2 * k → (y : Bool) → Lends old t used y
-      lends_places k is used eu y =
-          let e : used - 0 ≡ 2 * k = omega arith in
-          record { inside = omega (arith, (front k is).0); are = λ h. rw (e, et) (front k is).1 }
+      pub lent_places : (k : ℕ) → q ≡ Ok k → (places : List ℕ) → places ≡ take (2 * k - 0) t
+          → places ≡ places_of (log old)
+      lent_places k is places ep =
+          let e : 2 * k - 0 ≡ 2 * k = omega arith in
+          ep ∙ rw (e, et) (front k is).1
 
-pub lends_none : (old t : List ℕ) (used : ℕ) → used ≡ 0 → (y : Bool) → y ≡ false → Lends old t used y
-lends_none old t used eu y ey = record { inside = omega arith; are = λ h. cc }
+pub indexes_some : (old : List ℕ) (o : Option (List ℕ)) (places : List ℕ) → o ≡ Some places
+    → places ≡ places_of (log old) → Indexes old o
+indexes_some old o places e h = rw e h
+
+pub indexes_none : (old : List ℕ) (o : Option (List ℕ)) → o ≡ None → Indexes old o
+indexes_none old o e = rw e tt

@@ -3,11 +3,11 @@
 // refusal alters nothing.
 #![tactic(auto)]
 
-ghost use Rattle.std.specs.Prelude.{◌≡◌, min, true, false, length};
+ghost use Rattle.std.specs.Prelude.{◌≡◌, min, true, false, length, option_copied};
 ghost use Rattle.format.specs.Word.{to_le32, all_ones};
 ghost use Rattle.format.specs.Crc.{crc};
 ghost use Rattle.format.specs.Log.{log};
-ghost use Rattle.format.specs.Regular.{Regular, rules_of};
+ghost use Rattle.format.specs.Regular.{Regular};
 ghost use Rattle.format.specs.declared.Rules.TheVariants.{Littlefs};
 ghost use Rattle.format.specs.Erased.{erased};
 ghost use Rattle.format.specs.Compaction.{compact_stores, compactable, compact_made};
@@ -19,7 +19,7 @@ ghost use Rattle.compact_block.specs.Renewed.{anew};
 use commit_lay::Run;
 use compact_entries::Emit;
 use format::types::{CRC_START, FIRST_PREV};
-use format::{LfsMdir, Refusal};
+use format::{LfsMdir, Refusal, Rules};
 
 // "erases the block ..", to the erased byte: one store.
 fn erase(b: &mut [u8], byte: u8)
@@ -63,10 +63,9 @@ fn write(
     rev: u32,
     tag: u32,
     stores: u32,
-    places: &[u32],
-    indexed: bool,
+    places: Option<&[u32]>,
 ) -> u32
-    requires { Writable erased prog old.now new.old dir × Indexes old.now places.now indexed }
+    requires { Writable erased prog old.now new.old dir × Indexes old.now (option_copied places) }
     ensures value { result ≡ min stores (compact_stores (renewed_items erased prog old.now)) }
     ensures after { new.new ≡ written_to erased prog old.now new.old rev tag stores }
 {
@@ -80,7 +79,7 @@ fn write(
     };
     let run = commit_lay::put_le32(new, first, rev);
     let begun = begin(rev, run);
-    let e = compact_entries::entries(erased, prog, old, new, begun, dir, places, indexed);
+    let e = compact_entries::entries(erased, prog, old, new, begun, dir, places);
     let last = compact_entries::check(new, e, tag);
     1 + last.at as u32
 }
@@ -95,18 +94,17 @@ fn rewrite(
     new: &mut [u8],
     dir: LfsMdir,
     stores: u32,
-    places: &[u32],
-    indexed: bool,
+    places: Option<&[u32]>,
 ) -> Result<u32, Refusal>
     requires { Renewable prog old.now new.old dir × (Regular Littlefs (log old.now) ≡ true)
-        × Indexes old.now places.now indexed }
+        × Indexes old.now (option_copied places) }
     ensures value { result ≡ compact_made stores (anew erased prog old.now) }
     ensures after { new.new ≡ renewed_to erased stores new.old
         (anew erased prog old.now) }
 {
     let rev = std::num::wrapping_add_u32(dir.rev, 1);
     let begun = begin(rev, Run { at: 0, left: 0 });
-    let e = compact_entries::entries(erased, prog, old, new, begun, dir, places, indexed);
+    let e = compact_entries::entries(erased, prog, old, new, begun, dir, places);
     if old.len() < commit_room::rounded_end(prog, e.end) {
         return Err(Refusal::NoSpace);
     }
@@ -115,7 +113,7 @@ fn rewrite(
         return Err(Refusal::Coincidence);
     }
     Ok(write(
-        erased, prog, old, new, dir, rev, tag, stores, places, indexed,
+        erased, prog, old, new, dir, rev, tag, stores, places,
     ))
 }
 
@@ -124,7 +122,7 @@ fn rewrite(
 // they walk.
 pub fn renew(
     prog: u32,
-    rules: u32,
+    rules: Rules,
     erased: u8,
     old: &[u8],
     new: &mut [u8],
@@ -134,22 +132,18 @@ pub fn renew(
 ) -> Result<u32, Refusal>
     requires { Renewable prog old.now new.old dir }
     ensures value { result ≡ compact_made stores
-        (compactable (rules_of rules) erased prog false old.now (log old.now)) }
+        (compactable rules erased prog false old.now (log old.now)) }
     ensures after { new.new ≡ renewed_to erased stores new.old
-        (compactable (rules_of rules) erased prog false old.now (log old.now)) }
-    ensures table_after { table.new ≡ table_renewed (rules_of rules) (log old.now) table.old }
+        (compactable rules erased prog false old.now (log old.now)) }
+    ensures table_after { table.new ≡ table_renewed rules (log old.now) table.old }
 {
     let end = dir.off as usize;
-    if !commit_regular::log_regular(old, end, commit_regular::rules_of(rules)) {
+    if !commit_regular::log_regular(old, end, rules) {
         return Err(Refusal::Irregular);
     }
-    let mut used = 0;
-    let mut indexed = false;
-    let built = index_pass::build(old, end, table);
-    if let Ok(n) = built {
-        used = 2 * n;
-        indexed = true;
-    }
-    let places = &table[0..used];
-    rewrite(prog, erased, old, new, dir, stores, places, indexed)
+    let places = match index_pass::build(old, end, table) {
+        Ok(n) => Some(&table[0..2 * n]),
+        Err(_) => None,
+    };
+    rewrite(prog, erased, old, new, dir, stores, places)
 }

@@ -1,7 +1,8 @@
 -- Slots from the places of an index: a place, a slot, the directory. Assumes nothing.
 use mathlib.Core.Path.{◌≡◌, refl, sym, ap, ◌∙◌}
 use mathlib.Core.Logic.{◌≢◌}
-use mathlib.Core.Bool.{Bool, true}
+use mathlib.Core.Bool.{true}
+use Rattle.std.specs.Prelude.{Option, Some}
 use mathlib.Core.List.{List, [], ◌∷◌}
 use Prim.Native.Nat.{ℕ, suc, ◌+◌, ◌-◌, ◌*◌, ◌^◌, ◌≤◌, ◌<◌}
 use native.Mathlib.Numerals.{add-one, add-two}
@@ -117,14 +118,14 @@ pub record Passing (b places : List ℕ) (s a : Standing) (id at : ℕ) : Type 0
   pub same : emits s (dir_items 0 (dir_of (log b))) ≡ emits a (dir_items id (drop id (dir_of (log b))))
 
 -- what the walk back asks, and the places, are enough
-pub indexed_placed : (b places : List ℕ) (e : Emit) (end etag count : ℕ) (x : Bool) → Source b e end etag count
-    → Indexes b places x → x ≡ true → Placed b e count places
+pub indexed_placed : (b places : List ℕ) (e : Emit) (end etag count : ℕ) (x : Option (List ℕ)) → Source b e end etag count
+    → Indexes b x → x ≡ Some places → Placed b e count places
 indexed_placed b places e end etag count x d i h = record {
   word = d.slots.word;
   regular = d.slots.regular;
   some = d.some;
   count' = d.slots.count';
-  places' = i h;
+  places' = rw h at i;
   small = d.small;
 }
 

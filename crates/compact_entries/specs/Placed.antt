@@ -1,5 +1,5 @@
 -- Slots that are written from the places of an index. Assumes nothing.
-use Rattle.std.specs.Prelude.{◌≡◌, ◌≢◌, Bool, true, List, [], ℕ, ◌+◌, ◌^◌, ◌≤◌, ◌<◌, length, drop}
+use Rattle.std.specs.Prelude.{◌≡◌, ◌≢◌, true, Option, Some, None, List, [], ℕ, ◌+◌, ◌^◌, ◌≤◌, ◌<◌, length, drop}
 use Rattle.format.specs.Log.{log}
 use Rattle.format.specs.Regular.{Regular}
 use Rattle.format.specs.declared.Rules.TheVariants.{Littlefs}
@@ -27,6 +27,7 @@ pub record Placed (b : List ℕ) (e : Emit) (count : ℕ) (places : List ℕ) : 
   pub places' : places ≡ places_of (log b)
   pub small : e.end ≤ 16
 
--- a log that is said to be indexed has these places
-abbrev pub Indexes : List ℕ → List ℕ → Bool → Type 0
-Indexes b places indexed = indexed ≡ true → places ≡ places_of (log b)
+-- places, where there are some, are the log's
+abbrev pub Indexes : List ℕ → Option (List ℕ) → Type 0
+Indexes b None = Unit {0}
+Indexes b (Some places) = places ≡ places_of (log b)

@@ -4,7 +4,7 @@
 // nothing.
 #![tactic(auto)]
 
-ghost use Rattle.std.specs.Prelude.{◌≡◌, cond, ◌∷◌, ◌++◌, ◌+◌, ◌^◌, ◌<◌, length, drop};
+ghost use Rattle.std.specs.Prelude.{◌≡◌, option_copied, cond, ◌∷◌, ◌++◌, ◌+◌, ◌^◌, ◌<◌, length, drop};
 ghost use Rattle.format.specs.Log.{log};
 ghost use Rattle.format.specs.Word.{xor, to_be32, to_le32};
 ghost use Rattle.format.specs.Kind.{type_tail, type_hard_tail};
@@ -153,7 +153,7 @@ fn placed_slots(old: &[u8], new: &mut [u8], e: Emit, count: u32, places: &[u32])
     w
 }
 
-// All slots, from the places where the log is indexed.
+// All slots, from the log's places where it is indexed.
 fn all_slots(
     old: &[u8],
     new: &mut [u8],
@@ -161,17 +161,16 @@ fn all_slots(
     end: usize,
     etag: u32,
     count: u32,
-    places: &[u32],
-    indexed: bool,
+    places: Option<&[u32]>,
 ) -> Emit
-    requires { Source old.now e end etag count × Indexes old.now places.now indexed }
+    requires { Source old.now e end etag count × Indexes old.now (option_copied places) }
     ensures { standing result new.new ≡ emits (standing e new.old)
         (dir_items 0 (dir_of (log old.now))) }
 {
-    if indexed {
-        return placed_slots(old, new, e, count, places);
+    match places {
+        Some(places) => placed_slots(old, new, e, count, places),
+        None => slots(old, new, e, end, etag, count),
     }
-    slots(old, new, e, end, etag, count)
 }
 
 // "tail 0x600 soft, 0x601 hard"
@@ -206,9 +205,9 @@ fn tail(new: &mut [u8], e: Emit, split: bool, pair: LfsPair) -> Emit
     )
 }
 
-// All that the block `old` holds, whose record is `dir`, and whose places are `places` if it is indexed.
-fn held(old: &[u8], new: &mut [u8], e: Emit, dir: LfsMdir, places: &[u32], indexed: bool) -> Emit
-    requires { Read old.now e dir × Indexes old.now places.now indexed }
+// All that the block `old` holds, whose record is `dir`, and whose places are `places` where it is indexed.
+fn held(old: &[u8], new: &mut [u8], e: Emit, dir: LfsMdir, places: Option<&[u32]>) -> Emit
+    requires { Read old.now e dir × Indexes old.now (option_copied places) }
     ensures { standing result new.new ≡ emits (standing e new.old)
         (compaction_items (log old.now)) }
 {
@@ -216,7 +215,7 @@ fn held(old: &[u8], new: &mut [u8], e: Emit, dir: LfsMdir, places: &[u32], index
     let etag = dir.etag;
     let pair = dir.tail;
     let count = dir.count as u32;
-    let w = all_slots(old, new, e, end, etag, count, places, indexed);
+    let w = all_slots(old, new, e, end, etag, count, places);
     let w = tail(new, w, dir.split, pair);
     // as lfs_dir_getgstate looks it up: no id, so that no pending move matters
     let gmask = tag::lfs_mktag(TYPE3_MASK, 0, 0);
@@ -237,8 +236,8 @@ fn forward(new: &mut [u8], e: Emit, fcrc: LfsFcrc) -> Emit
     entry(new, e, commit_room::LFS_FORWARD_TAG, &dat, 0, 8)
 }
 
-// All entries of the compaction of the block `old`, and the forward check behind them. The slots come from `places`
-// where `indexed` says that these are the log's, else by a walk back for each: the same entries either way.
+// All entries of the compaction of the block `old`, and the forward check behind them. The slots come from the log's
+// places, where there are some, else by a walk back for each: the same entries either way.
 pub fn entries(
     erased: u8,
     prog: u32,
@@ -246,14 +245,13 @@ pub fn entries(
     new: &mut [u8],
     e: Emit,
     dir: LfsMdir,
-    places: &[u32],
-    indexed: bool,
+    places: Option<&[u32]>,
 ) -> Emit
-    requires { Renewing prog old.now e dir × Indexes old.now places.now indexed }
+    requires { Renewing prog old.now e dir × Indexes old.now (option_copied places) }
     ensures { standing result new.new ≡ emits (standing e new.old)
         (with_forward erased prog (length old.now) 4 (compaction_items (log old.now))) }
 {
-    let w = held(old, new, e, dir, places, indexed);
+    let w = held(old, new, e, dir, places);
     let fcrc = commit_room::forward(erased, prog, old.len(), w.end);
     forward(new, w, fcrc)
 }

@@ -9,7 +9,7 @@ use lib.ListN.{length, take, drop, length-take}
 use lib.Dec.{ltb}
 use borrow.Author.Tests.{ne_eqb, eq-eqb, le-ltb, lt-ltb, not-true, not-false}
 use Rattle.format.specs.Log.{log, log_end}
-use Rattle.format.specs.Regular.{Regular, rules_of}
+use Rattle.format.specs.Regular.{Regular}
 use Rattle.format.specs.Index.{log_to, ends_at, indexable, built, indexed_as, table_as}
 use Rattle.format.specs.declared.Rules.{Rules}
 use Rattle.format.specs.declared.Refusal.TheVariants.{Irregular}
@@ -72,14 +72,14 @@ module _ (b : List ℕ) (end : ℕ) (k : InBlock b end) (ends : ends_at b end �
     ends = sym (ap (λ (l : List ℕ). log_end (log l)) (front_is b end) ∙ is);
   }
 
-  module _ (rules : ℕ) (r : Rules) (er : r ≡ rules_of rules) (x : Bool) (ex : x ≡ Regular r (log (front b end))) where
-    test_is : indexable (rules_of rules) b end ≡ x
-    test_is = sym (ex ∙ rw (er, front_is b end, ends))
+  module _ (r : Rules) (x : Bool) (ex : x ≡ Regular r (log (front b end))) where
+    test_is : indexable r b end ≡ x
+    test_is = sym (ex ∙ rw (front_is b end, ends))
 
-    pub not_indexable : not x ≡ true → indexable (rules_of rules) b end ≡ false
+    pub not_indexable : not x ≡ true → indexable r b end ≡ false
     not_indexable h = test_is ∙ not-true x h
 
-    pub is_indexable : not x ≡ false → indexable (rules_of rules) b end ≡ true
+    pub is_indexable : not x ≡ false → indexable r b end ≡ true
     is_indexable h = test_is ∙ not-false x h
 
     pub front_buildable : not x ≡ false → Buildable (front b end) end
@@ -91,12 +91,12 @@ module _ (b : List ℕ) (end : ℕ) (k : InBlock b end) (ends : ends_at b end �
     }
 
 -- ---- the function, by its tests
-module _ (rules : ℕ) (b : List ℕ) (end : ℕ) (T : List ℕ) where
+module _ (r : Rules) (b : List ℕ) (end : ℕ) (T : List ℕ) where
   abbrev Done : Result ℕ Refusal → List ℕ → Type 0
-  Done r new = (r ≡ indexed_in rules b end (length T)) × (new ≡ tabled_in rules b end T)
+  Done y new = (y ≡ indexed_in r b end (length T)) × (new ≡ tabled_in r b end T)
 
   off_end : ends_at b end ≡ false → Done (Err Irregular) T
-  off_end h = refuses (indexable (rules_of rules) b end) (built (length T) (log_to b end)) T (rw h)
+  off_end h = refuses (indexable r b end) (built (length T) (log_to b end)) T (rw h)
 
   pub block_low : end ≤ 4 → Done (Err Irregular) T
   block_low h = off_end (no_end_low b end h)
@@ -115,20 +115,20 @@ module _ (rules : ℕ) (b : List ℕ) (end : ℕ) (T : List ℕ) where
       pub block_committed : CommittedTo (front b end) end
       block_committed = front_committed b end k there high is_end
 
-      module _ (r : Rules) (er : r ≡ rules_of rules) (x : Bool) (ex : x ≡ Regular r (log (front b end))) where
+      module _ (x : Bool) (ex : x ≡ Regular r (log (front b end))) where
         pub block_irregular : not x ≡ true → Done (Err Irregular) T
-        block_irregular h = refuses (indexable (rules_of rules) b end) (built (length T) (log_to b end)) T
-            (not_indexable b end k there high is_end rules r er x ex h)
+        block_irregular h = refuses (indexable r b end) (built (length T) (log_to b end)) T
+            (not_indexable b end k there high is_end r x ex h)
 
         module _ (h : not x ≡ false) where
           pub block_buildable : Buildable (front b end) end
-          block_buildable = front_buildable b end k there high is_end rules r er x ex h
+          block_buildable = front_buildable b end k there high is_end r x ex h
 
           pub block_built : (i : Result ℕ Refusal) (new : List ℕ) → i ≡ indexed_as (built (length T) (log (front b end)))
               → new ≡ table_as (length T) (built (length T) (log (front b end))) → Done i new
           block_built i new ei en =
               let e : built (length T) (log (front b end)) ≡ built (length T) (log_to b end) =
               ap (λ (l : List ℕ). built (length T) (log l)) (front_is b end) in
-              accepts (indexable (rules_of rules) b end) (built (length T) (log_to b end)) T
-              (is_indexable b end k there high is_end rules r er x ex h) i new (ei ∙ ap indexed_as e)
+              accepts (indexable r b end) (built (length T) (log_to b end)) T
+              (is_indexable b end k there high is_end r x ex h) i new (ei ∙ ap indexed_as e)
               (en ∙ ap (table_as (length T)) e)

@@ -9,7 +9,7 @@ use lib.ListN.{length, take, drop}
 use Rattle.format.specs.Word.{all_ones}
 use Rattle.format.specs.Walk.{walk_from}
 use Rattle.format.specs.Log.{committed, log, span, log_end, log_end_tag}
-use Rattle.format.specs.Regular.{Regular, rules_of}
+use Rattle.format.specs.Regular.{Regular}
 use Rattle.format.specs.Index.{placed_from, log_to, ends_at, extendable, extended, ran_on, leading}
 use Rattle.format.specs.Index.{indexed_as, table_as}
 use Rattle.format.specs.declared.Rules.{Rules}
@@ -27,12 +27,12 @@ use Rattle.index.proofs.Block.{front_committed, not_indexable, is_indexable, fro
 use Rattle.std.specs.Prelude.{Err, Result, Option}
 use Rattle.format.specs.declared.Refusal.{Refusal}
 
-module _ (rules : ℕ) (b : List ℕ) (old end : ℕ) (T : List ℕ) where
+module _ (r : Rules) (b : List ℕ) (old end : ℕ) (T : List ℕ) where
   abbrev Done : Result ℕ Refusal → List ℕ → Type 0
-  Done r new = (r ≡ extended_in rules b old end T) × (new ≡ extended_table rules b old end T)
+  Done y new = (y ≡ extended_in r b old end T) × (new ≡ extended_table r b old end T)
 
-  refused : extendable (rules_of rules) b old end ≡ false → Done (Err Irregular) T
-  refused h = refuses (extendable (rules_of rules) b old end) (extended T b old end) T h
+  refused : extendable r b old end ≡ false → Done (Err Irregular) T
+  refused h = refuses (extendable r b old end) (extended T b old end) T h
 
   pub extend_low : old ≤ 4 → Done (Err Irregular) T
   extend_low h = refused (rw (no_end_low b old h))
@@ -81,9 +81,9 @@ module _ (rules : ℕ) (b : List ℕ) (old end : ℕ) (T : List ℕ) where
         pub extend_committed : CommittedTo (front b end) end
         extend_committed = front_committed b end k.0 new_ends far is_end
 
-        module _ (r : Rules) (er : r ≡ rules_of rules) (x : Bool) (ex : x ≡ Regular r (log (front b end))) where
+        module _ (x : Bool) (ex : x ≡ Regular r (log (front b end))) where
           pub extend_irregular : not x ≡ true → Done (Err Irregular) T
-          extend_irregular h = refused (rw (not_indexable b end k.0 new_ends far is_end rules r er x ex h)
+          extend_irregular h = refused (rw (not_indexable b end k.0 new_ends far is_end r x ex h)
               (and-false (ends_at b old)))
 
           -- table and n are what `trim` leaves and answers
@@ -102,7 +102,7 @@ module _ (rules : ℕ) (b : List ℕ) (old end : ℕ) (T : List ℕ) where
             pub extend_starts : Startable (front b end) old w.taken.etag end table n
             extend_starts = record {
               onwards = onwards;
-              small = (front_buildable b end k.0 new_ends far is_end rules r er x ex h).small;
+              small = (front_buildable b end k.0 new_ends far is_end r x ex h).small;
               inside = room holds;
               holds = rw taken holds;
             }
@@ -116,7 +116,7 @@ module _ (rules : ℕ) (b : List ℕ) (old end : ℕ) (T : List ℕ) where
                 (placed_from old (committed (walk_from all_ones w.taken.etag (drop old (front b end)))))
                 ≡ extended T b old end =
                 rw (long, taken, on_is old w.taken.etag refl tag_is, new_acts_lem b old old_ends inside end k.1) in
-                accepts (extendable (rules_of rules) b old end) (extended T b old end) T
-                (rw (old_ends, is_indexable b end k.0 new_ends far is_end rules r er x ex h)) i new
+                accepts (extendable r b old end) (extended T b old end) T
+                (rw (old_ends, is_indexable b end k.0 new_ends far is_end r x ex h)) i new
                 (u.answer ∙ ap indexed_as e)
                 (u.left ∙ ap₂ (λ (m : ℕ) (v : Option (List ℕ)). table_as m v) long e)

@@ -1,7 +1,7 @@
 -- What is answered and left of one block, where the sizes and numbers have passed. Assumes nothing.
 use Rattle.std.specs.Prelude.{Bool, not, cond, List, ℕ, ◌^◌, ◌≤◌, length, Err, Option, Result}
-use Rattle.format.specs.Regular.{rules_of}
 use Rattle.format.specs.Index.{log_to, indexable, extendable, built, extended, indexed_as, table_as}
+use Rattle.format.specs.declared.Rules.{Rules}
 use Rattle.format.specs.declared.Refusal.TheVariants.{Irregular}
 use Rattle.format.specs.declared.Refusal.{Refusal}
 
@@ -18,15 +18,15 @@ unfoldable pub block_table : Bool → List ℕ → Option (List ℕ) → List �
 block_table x table v = cond (not x) table (table_as (length table) v)
 
 -- a build
-abbrev pub indexed_in : ℕ → List ℕ → ℕ → ℕ → Result ℕ Refusal
-indexed_in rules b end n = block_answer (indexable (rules_of rules) b end) (built n (log_to b end))
+abbrev pub indexed_in : Rules → List ℕ → ℕ → ℕ → Result ℕ Refusal
+indexed_in r b end n = block_answer (indexable r b end) (built n (log_to b end))
 
-abbrev pub tabled_in : ℕ → List ℕ → ℕ → List ℕ → List ℕ
-tabled_in rules b end table = block_table (indexable (rules_of rules) b end) table (built (length table) (log_to b end))
+abbrev pub tabled_in : Rules → List ℕ → ℕ → List ℕ → List ℕ
+tabled_in r b end table = block_table (indexable r b end) table (built (length table) (log_to b end))
 
 -- an extension
-abbrev pub extended_in : ℕ → List ℕ → ℕ → ℕ → List ℕ → Result ℕ Refusal
-extended_in rules b old end table = block_answer (extendable (rules_of rules) b old end) (extended table b old end)
+abbrev pub extended_in : Rules → List ℕ → ℕ → ℕ → List ℕ → Result ℕ Refusal
+extended_in r b old end table = block_answer (extendable r b old end) (extended table b old end)
 
-abbrev pub extended_table : ℕ → List ℕ → ℕ → ℕ → List ℕ → List ℕ
-extended_table rules b old end table = block_table (extendable (rules_of rules) b old end) table (extended table b old end)
+abbrev pub extended_table : Rules → List ℕ → ℕ → ℕ → List ℕ → List ℕ
+extended_table r b old end table = block_table (extendable r b old end) table (extended table b old end)

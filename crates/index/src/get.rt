@@ -56,15 +56,9 @@ pub fn lfs_dir_index_get(
     if !(fits & (buffer.len() <= LONGEST_BUFFER)) {
         return Err(Refusal::Invalid);
     }
-    let pair = dir.pair;
-    match place_of(table, kind, id) {
-        None => Err(Refusal::NoEntry),
-        Some(e) => {
-            if pair.n0 == n0 {
-                lookup_search::slice::read_at(b0, e, 0, buffer)
-            } else {
-                lookup_search::slice::read_at(b1, e, 0, buffer)
-            }
-        }
-    }
+    let Some(e) = place_of(table, kind, id) else {
+        return Err(Refusal::NoEntry);
+    };
+    let b = sizes::block_of(b0, b1, n0, dir);
+    lookup_search::slice::read_at(b, e, 0, buffer)
 }

@@ -7,7 +7,7 @@ ghost use Rattle.std.specs.Prelude.{◌≡◌, ◌≤◌, length};
 ghost use Rattle.format.specs.Index.{index_of, index_table, extend_of, extend_table};
 ghost use Rattle.index.specs.Blocks.{InBlock, indexed_in, tabled_in, extended_in, extended_table};
 
-use format::{Geometry, LfsMdir, Refusal};
+use format::{Geometry, LfsMdir, Refusal, Rules};
 
 // What a table answers.
 pub mod get;
@@ -15,7 +15,7 @@ pub mod get;
 // A block's table for the log up to `end`: "-202 for a log that is irregular by the given rule, or a record whose end
 // is no commit boundary of its block's committed log, table unchanged". The walk sums what it passes: a record is taken
 // from anybody.
-fn index_block(b: &[u8], end: usize, rules: u32, table: &mut [u32]) -> Result<usize, Refusal>
+fn index_block(b: &[u8], end: usize, rules: Rules, table: &mut [u32]) -> Result<usize, Refusal>
     requires { InBlock b.now end }
     ensures value { result ≡ indexed_in rules b.now end (length table.old) }
     ensures table_after { table.new ≡ tabled_in rules b.now end table.old }
@@ -28,7 +28,7 @@ fn index_block(b: &[u8], end: usize, rules: u32, table: &mut [u32]) -> Result<us
     if walked.taken.off != end {
         return Err(Refusal::Irregular);
     }
-    if !commit_regular::log_regular(log, end, commit_regular::rules_of(rules)) {
+    if !commit_regular::log_regular(log, end, rules) {
         return Err(Refusal::Irregular);
     }
     index_pass::build(log, end, table)
@@ -49,22 +49,17 @@ pub fn lfs_dir_index(
     ensures table_after { table.new ≡ index_table g b0.now b1.now n0 n1 dir rules
         table.old }
 {
-    let fits = sizes::record_fits(g, b0.len(), b1.len(), n0, n1, dir);
-    if !(fits & (rules <= 1)) {
+    let rules = Rules::try_from(rules)?;
+    if !sizes::record_fits(g, b0.len(), b1.len(), n0, n1, dir) {
         return Err(Refusal::Invalid);
     }
-    let pair = dir.pair;
-    let end = dir.off as usize;
-    if pair.n0 == n0 {
-        index_block(b0, end, rules, table)
-    } else {
-        index_block(b1, end, rules, table)
-    }
+    let b = sizes::block_of(b0, b1, n0, dir);
+    index_block(b, dir.off as usize, rules, table)
 }
 
 // A block's table for the log up to `end`, from the one up to `old`: the walk goes on where the old log ends, and the
 // pass runs the entries behind it on the places that stand in the table.
-fn extend_block(b: &[u8], old: usize, end: usize, rules: u32, table: &mut [u32]) -> Result<usize, Refusal>
+fn extend_block(b: &[u8], old: usize, end: usize, rules: Rules, table: &mut [u32]) -> Result<usize, Refusal>
     requires { InBlock b.now end × (old ≤ end) }
     ensures value { result ≡ extended_in rules b.now old end table.old }
     ensures table_after { table.new ≡ extended_table rules b.now old end table.old }
@@ -82,7 +77,7 @@ fn extend_block(b: &[u8], old: usize, end: usize, rules: u32, table: &mut [u32])
     if on.taken.off != end {
         return Err(Refusal::Irregular);
     }
-    if !commit_regular::log_regular(log, end, commit_regular::rules_of(rules)) {
+    if !commit_regular::log_regular(log, end, rules) {
         return Err(Refusal::Irregular);
     }
     let used = index_table::trim(table);
@@ -106,18 +101,12 @@ pub fn lfs_dir_index_extend(
     ensures table_after { table.new ≡ extend_table g b0.now b1.now n0 n1 old dir rules
         table.old }
 {
-    let fits = sizes::record_fits(g, b0.len(), b1.len(), n0, n1, dir);
-    let old_fits = sizes::record_fits(g, b0.len(), b1.len(), n0, n1, old);
-    let pair = dir.pair;
-    let old_pair = old.pair;
-    if !(fits & (rules <= 1) & old_fits & (old_pair.n0 == pair.n0) & (old.off <= dir.off)) {
+    let rule = Rules::try_from(rules)?;
+    let fits = sizes::record_fits(g, b0.len(), b1.len(), n0, n1, dir)
+        & sizes::record_fits(g, b0.len(), b1.len(), n0, n1, old);
+    if !(fits & (old.pair.n0 == dir.pair.n0) & (old.off <= dir.off)) {
         return Err(Refusal::Invalid);
     }
-    let from = old.off as usize;
-    let end = dir.off as usize;
-    if pair.n0 == n0 {
-        extend_block(b0, from, end, rules, table)
-    } else {
-        extend_block(b1, from, end, rules, table)
-    }
+    let b = sizes::block_of(b0, b1, n0, dir);
+    extend_block(b, old.off as usize, dir.off as usize, rule, table)
 }

@@ -5,6 +5,7 @@
 ghost use Rattle.std.specs.Prelude.{◌≡◌};
 ghost use Rattle.format.specs.Fetch.{geometry_fits, images_fit, pair_fits, too_high};
 ghost use Rattle.format.specs.Lookup.{record_fits, block_of};
+ghost use Rattle.format.specs.Erased.{erased_fits};
 ghost use Rattle.format.specs.Writer.{writes_fit};
 
 use format::{Geometry, LfsMdir, LfsPair};
@@ -61,9 +62,16 @@ pub fn block_of<'a>(b0: &'a [u8], b1: &'a [u8], n0: u32, dir: LfsMdir) -> &'a [u
     if dir.pair.n0 == n0 { b0 } else { b1 }
 }
 
+// "Any other erased byte is -22."
+pub fn erased_fits(erased: u8) -> bool
+    ensures { result ≡ erased_fits erased }
+{
+    (erased == 0xff) | (erased == 0x00)
+}
+
 // How a call writes: the rule by which the log must be regular is 0 or 1, and the erased byte "0xff or 0x00".
 pub fn writes_fit(rules: u32, erased: u8) -> bool
     ensures { result ≡ writes_fit rules erased }
 {
-    (rules <= 1) & ((erased == 0xff) | (erased == 0x00))
+    (rules <= 1) & erased_fits(erased)
 }

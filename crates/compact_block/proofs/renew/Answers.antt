@@ -1,10 +1,11 @@
 -- `compact_block::renew` meets its contract: a log that is irregular, or the compaction with the table's places, or
 -- without. Assumes nothing.
-use Rattle.std.proofs.Common.{arith}
-use Rattle.compact_block.proofs.Lent.{Lends, renew_irregular, renew_done, renew_regular, renew_builds}
-use Rattle.compact_block.proofs.Lent.{places_few, lends_places, lends_none}
-use Rattle.std.proofs.Common.{ap, not}
-use Rattle.compact_block.proofs.renew.Goals.{in-Ok, in_default}
+use Rattle.std.proofs.Common.{arith, ap, not, refl, sym, ◌∙◌}
+use Rattle.std.specs.Prelude.{option_copied}
+use Rattle.compact_entries.specs.Placed.{Indexes}
+use Rattle.compact_block.proofs.Lent.{renew_irregular, renew_done, renew_regular, renew_builds}
+use Rattle.compact_block.proofs.Lent.{lent_places, indexes_some, indexes_none}
+use Rattle.compact_block.proofs.renew.Goals.{in-Ok, in-Err}
 use Rattle.compact_block.proofs.renew.Goals as goal
 
 pub log_regular-requires : goal.log_regular-requires
@@ -14,58 +15,37 @@ log_regular-requires c =
 
 pub returns-then-not-log_regular : goal.returns-then-not-log_regular
 returns-then-not-log_regular c =
-    let a = c.args in let all = renew_irregular _ a.rules _ c.rules_of.ensures _ c.log_regular.ensures
-    a.erased a.prog _ _ a.stores
-    (ap not c.if-not-log_regular.true) in record { value = all.0; after = all.1.0; table_after = all.1.1 }
-
-pub build-built-requires : goal.build-built-requires
-build-built-requires c = renew_builds _ c.args.rules _ c.rules_of.ensures _ c.log_regular.ensures
-    (ap not c.if-not-log_regular.false) _
-    c.requires.recorded
-
-pub overflow_mul-used : goal.overflow_mul-used
-overflow_mul-used c =
-    let few = places_few _ c.args.rules _ c.rules_of.ensures _ c.log_regular.ensures (ap not c.if-not-log_regular.false) _ _
-    c.build-built.ensures.value _ c.build-built.ensures.table_after c.build-built.auto.table _ c.in-Ok.is in
-    omega (
-      arith,
-      few,
-      c.well_formed,
-    )
-
-pub slice_bounds-places-end : goal.slice_bounds-places-end
-slice_bounds-places-end c =
     let a = c.args in
-    let m = c.match-built in
-    let t = c.build-built.ensures in
-    let lent : Lends a.old.now _ m.used m.indexed
-    = elim m.branch [
-      | in-Ok w ↦ lends_places _ a.rules _ c.rules_of.ensures _ c.log_regular.ensures
-          (ap not c.if-not-log_regular.false) _ _ t.value _ t.table_after c.build-built.auto.table _ w.in-Ok.is _
-          w.used-is _
-      | in_default w ↦ lends_none _ _ _ w.used-is _ w.indexed-is
-    ] in
-    lent.inside
+    let all = renew_irregular _ a.rules _ c.log_regular.ensures a.erased a.prog _ _ a.stores
+    (ap not c.if-not-log_regular.true) in
+    record { value = all.0; after = all.1.0; table_after = all.1.1 }
+
+pub build-requires : goal.build-requires
+build-requires c =
+    renew_builds _ c.args.rules _ c.log_regular.ensures (ap not c.if-not-log_regular.false) _ c.requires.recorded
 
 pub rewrite-requires : goal.rewrite-requires
 rewrite-requires c =
     let a = c.args in
-    let m = c.match-built in
-    let t = c.build-built.ensures in
-    let lent : Lends a.old.now _ m.used m.indexed
+    let m = c.match-build in
+    let t = c.build.ensures in
+    let regular = ap not c.if-not-log_regular.false in
+    let are : Indexes a.old.now (option_copied m.places)
     = elim m.branch [
-      | in-Ok w ↦ lends_places _ a.rules _ c.rules_of.ensures _ c.log_regular.ensures
-          (ap not c.if-not-log_regular.false) _ _ t.value _ t.table_after c.build-built.auto.table _ w.in-Ok.is _
-          w.used-is _
-      | in_default w ↦ lends_none _ _ _ w.used-is _ w.indexed-is
+      | in-Ok w ↦ indexes_some _ _ _ (ap option_copied w.places-is)
+          (lent_places _ a.rules _ c.log_regular.ensures regular _ _ t.value _ t.table_after c.build.auto.table
+          _ w.in-Ok.is _ refl)
+      | in-Err w ↦ indexes_none _ _ (ap option_copied w.places-is)
     ] in (
       c.requires,
-      renew_regular _ a.rules _ c.rules_of.ensures _ c.log_regular.ensures (ap not c.if-not-log_regular.false),
-      lent.are,
+      renew_regular _ a.rules _ c.log_regular.ensures regular,
+      are,
     )
 
 pub returns : goal.returns
 returns c =
-    let a = c.args in let all = renew_done _ a.rules _ c.rules_of.ensures _ c.log_regular.ensures a.erased a.prog _ _
-    a.stores
-    (ap not c.if-not-log_regular.false) _ c.build-built.ensures.table_after _ _ c.rewrite.ensures.value c.rewrite.ensures.after in record { value = all.0; after = all.1.0; table_after = all.1.1 }
+    let a = c.args in
+    let all = renew_done _ a.rules _ c.log_regular.ensures a.erased a.prog _ _ a.stores
+    (ap not c.if-not-log_regular.false) _ c.build.ensures.table_after _ _ c.rewrite.ensures.value
+    c.rewrite.ensures.after in
+    record { value = all.0; after = all.1.0; table_after = all.1.1 }

@@ -15,10 +15,10 @@ pub log_regular-requires : goal.log_regular-requires
 log_regular-requires c = block_committed c.args.rules _ _ c.args.table.now c.requires c.if-end-le4.false _ c.walk_block-walked.ensures c.if-walked-end.false
 
 pub returns-then-not-log_regular : goal.returns-then-not-log_regular
-returns-then-not-log_regular c = let all = block_irregular c.args.rules _ _ _ c.requires c.if-end-le4.false _ c.walk_block-walked.ensures c.if-walked-end.false _ c.rules_of.ensures _ c.log_regular.ensures (ap not c.if-not-log_regular.true) in record { value = all.0; table_after = all.1 }
+returns-then-not-log_regular c = let all = block_irregular c.args.rules _ _ _ c.requires c.if-end-le4.false _ c.walk_block-walked.ensures c.if-walked-end.false _ c.log_regular.ensures (ap not c.if-not-log_regular.true) in record { value = all.0; table_after = all.1 }
 
 pub build-requires : goal.build-requires
-build-requires c = block_buildable c.args.rules _ _ c.args.table.now c.requires c.if-end-le4.false _ c.walk_block-walked.ensures c.if-walked-end.false _ c.rules_of.ensures _ c.log_regular.ensures (ap not c.if-not-log_regular.false)
+build-requires c = block_buildable c.args.rules _ _ c.args.table.now c.requires c.if-end-le4.false _ c.walk_block-walked.ensures c.if-walked-end.false _ c.log_regular.ensures (ap not c.if-not-log_regular.false)
 
 pub returns : goal.returns
-returns c = let all = block_built c.args.rules _ _ c.args.table.now c.requires c.if-end-le4.false _ c.walk_block-walked.ensures c.if-walked-end.false _ c.rules_of.ensures _ c.log_regular.ensures (ap not c.if-not-log_regular.false) _ _ c.build.ensures.value c.build.ensures.table_after in record { value = all.0; table_after = all.1 }
+returns c = let all = block_built c.args.rules _ _ c.args.table.now c.requires c.if-end-le4.false _ c.walk_block-walked.ensures c.if-walked-end.false _ c.log_regular.ensures (ap not c.if-not-log_regular.false) _ _ c.build.ensures.value c.build.ensures.table_after in record { value = all.0; table_after = all.1 }

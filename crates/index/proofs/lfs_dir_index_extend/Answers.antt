@@ -1,22 +1,41 @@
--- `index::lfs_dir_index_extend` meets its contract: the tests decide the definitions' case (`Called.antt`), and the
--- record's first number the block. Assumes nothing.
-use Rattle.sizes.proofs.Records.{block_first, block_second}
-use Rattle.index.proofs.Called.{extend_refused, extend_inside, extend_read}
-use borrow.Author.Rules.{rules}
-use Rattle.std.proofs.Common.{ap, not}
+-- `index::lfs_dir_index_extend` meets its contract: the tests decide the definitions' case (`Called.antt`). Assumes
+-- nothing.
+use Rattle.std.proofs.Common.{◌≡◌, ◌≤◌, ap, ◌∙◌, rules, Err}
+use Rattle.format.proofs.TheRule.{rule_refused, rule_taken}
+use Rattle.sizes.proofs.Records.{of_block}
+use Rattle.index.specs.Blocks.{InBlock}
+use Rattle.index.proofs.Called.{extend_unruled, extend_refused, extend_inside, extend_read}
 use Rattle.index.proofs.lfs_dir_index_extend.Goals as goal
 
-pub returns-then-not-fits-rules : goal.returns-then-not-fits-rules
-returns-then-not-fits-rules c = let a = c.args in let all = extend_refused a.g a.b0.now a.b1.now a.n0 a.n1 a.old a.dir a.rules a.table.now _ c.record_fits-fits.ensures _ c.record_fits-old_fits.ensures (ap not c.if-not-fits-rules.true) in record { value = all.0; table_after = all.1 }
+pub returns-in_err-rule : goal.returns-in_err-rule
+returns-in_err-rule c =
+    let a = c.args in
+    let e : c.from_residual.result ≡ Err c.in_err-rule.field-0.0 = search rules in
+    let r = rule_refused _ _ c.try_from.ensures _ c.in_err-rule.was in
+    let all = extend_unruled a.g a.b0.now a.b1.now a.n0 a.n1 a.old a.dir a.rules a.table.now r.0 in
+    record { value = e ∙ ap Err r.1 ∙ all.0; table_after = all.1 }
+
+pub returns-then-not-fits-old : goal.returns-then-not-fits-old
+returns-then-not-fits-old c =
+    let a = c.args in
+    let r = rule_taken _ _ c.try_from.ensures _ c.in_ok-rule.was in
+    let all = extend_refused a.g a.b0.now a.b1.now a.n0 a.n1 a.old a.dir a.rules a.table.now r.0 _ c.record_fits.ensures
+    _ c.record_fits-2.ensures c.if-not-fits-old.true in
+    record { value = all.0; table_after = all.1 }
 
 pub extend_block-requires : goal.extend_block-requires
-extend_block-requires c = let a = c.args in (extend_inside a.g a.b0.now a.b1.now a.n0 a.n1 a.old a.dir a.rules a.table.now _ c.record_fits-fits.ensures _ c.record_fits-old_fits.ensures (ap not c.if-not-fits-rules.false)).0
+extend_block-requires c =
+    let a = c.args in
+    let r = rule_taken _ _ c.try_from.ensures _ c.in_ok-rule.was in
+    of_block a.b0.now a.b1.now a.n0 a.dir (λ b. InBlock b a.dir.off × (a.old.off ≤ a.dir.off))
+    (extend_inside a.g a.b0.now a.b1.now a.n0 a.n1 a.old a.dir a.rules a.table.now r.0 _ c.record_fits.ensures
+    _ c.record_fits-2.ensures c.if-not-fits-old.false) _ c.block_of-b.ensures
 
-pub extend_block-requires-else-pair-n0 : goal.extend_block-requires-else-pair-n0
-extend_block-requires-else-pair-n0 c = let a = c.args in (extend_inside a.g a.b0.now a.b1.now a.n0 a.n1 a.old a.dir a.rules a.table.now _ c.record_fits-fits.ensures _ c.record_fits-old_fits.ensures (ap not c.if-not-fits-rules.false)).1
-
-pub returns-then-pair-n0 : goal.returns-then-pair-n0
-returns-then-pair-n0 c = let a = c.args in let all = extend_read a.g a.b0.now a.b1.now a.n0 a.n1 a.old a.dir a.rules a.table.now _ c.record_fits-fits.ensures _ c.record_fits-old_fits.ensures (ap not c.if-not-fits-rules.false) a.b0.now (block_first a.b0.now a.b1.now a.n0 a.dir c.if-pair-n0.true) _ _ c.extend_block.ensures.value c.extend_block.ensures.table_after in record { value = all.0; table_after = all.1 }
-
-pub returns-else-pair-n0 : goal.returns-else-pair-n0
-returns-else-pair-n0 c = let a = c.args in let all = extend_read a.g a.b0.now a.b1.now a.n0 a.n1 a.old a.dir a.rules a.table.now _ c.record_fits-fits.ensures _ c.record_fits-old_fits.ensures (ap not c.if-not-fits-rules.false) a.b1.now (block_second a.b0.now a.b1.now a.n0 a.dir c.if-pair-n0.false) _ _ c.extend_block-else-pair-n0.ensures.value c.extend_block-else-pair-n0.ensures.table_after in record { value = all.0; table_after = all.1 }
+pub returns : goal.returns
+returns c =
+    let a = c.args in
+    let r = rule_taken _ _ c.try_from.ensures _ c.in_ok-rule.was in
+    let all = extend_read a.g a.b0.now a.b1.now a.n0 a.n1 a.old a.dir a.rules a.table.now r.0 _ c.record_fits.ensures
+    _ c.record_fits-2.ensures c.if-not-fits-old.false _ c.block_of-b.ensures _ r.1 _ _ c.extend_block.ensures.value
+    c.extend_block.ensures.table_after in
+    record { value = all.0; table_after = all.1 }
