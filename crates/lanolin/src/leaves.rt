@@ -11,7 +11,7 @@ ghost use Rattle.format.specs.Tag.{tag_delete, tag_length, mk_tag, mk_tag_if};
 ghost use Rattle.lanolin_answers.specs.Values.{word_out};
 
 use format::LfsPair;
-use lanolin_answers::{Value, altered_out, flag, word_out};
+use lanolin_answers::{Value, altered_out, flag};
 
 // ---- the checksum
 
@@ -128,14 +128,14 @@ pub extern "C" fn lanolin_max(a: u32, b: u32) -> u32
 pub extern "C" fn lanolin_aligndown(a: u32, alignment: u32) -> Value
     ensures { result ≡ word_out (align_down a alignment) }
 {
-    word_out(util::lfs_aligndown(a, alignment))
+    Value::from(util::lfs_aligndown(a, alignment))
 }
 
 #[unsafe(no_mangle)]
 pub extern "C" fn lanolin_alignup(a: u32, alignment: u32) -> Value
     ensures { result ≡ word_out (align_up a alignment) }
 {
-    word_out(util::lfs_alignup(a, alignment))
+    Value::from(util::lfs_alignup(a, alignment))
 }
 
 #[unsafe(no_mangle)]
@@ -172,14 +172,14 @@ pub extern "C" fn lanolin_scmp(a: u32, b: u32) -> i32
 pub extern "C" fn lanolin_le32_at(bytes: &[u8], at: usize) -> Value
     ensures { result ≡ word_out (le32_at bytes.now at) }
 {
-    word_out(word::lfs_le32_at(bytes, at))
+    Value::from(word::lfs_le32_at(bytes, at))
 }
 
 #[unsafe(no_mangle)]
 pub extern "C" fn lanolin_be32_at(bytes: &[u8], at: usize) -> Value
     ensures { result ≡ word_out (be32_at bytes.now at) }
 {
-    word_out(word::lfs_be32_at(bytes, at))
+    Value::from(word::lfs_be32_at(bytes, at))
 }
 
 #[unsafe(no_mangle)]

@@ -96,5 +96,5 @@ pub extern "C" fn lanolin_commit_stores(
         dat,
         stores,
     );
-    lanolin_answers::stored_out(s)
+    StoredOut::from(s)
 }

@@ -10,9 +10,7 @@ ghost use Rattle.format.specs.Lookup.{getgstate_state};
 ghost use Rattle.lanolin_answers.specs.Values.{fetched_out, got_out, info_out, named_out};
 
 use format::{Geometry, LfsGstate, LfsMdir};
-use lanolin_answers::{
-    FetchedOut, GotOut, InfoOut, NamedOut, altered_out, fetched_out, got_out, info_out, named_out,
-};
+use lanolin_answers::{FetchedOut, GotOut, InfoOut, NamedOut, altered_out, fetched_out};
 
 #[unsafe(no_mangle)]
 pub extern "C" fn lanolin_fetch(
@@ -72,7 +70,7 @@ pub extern "C" fn lanolin_getslice(
     ensures buffer_after { buffer.new ≡ getslice_buffer g b0.now b1.now n0 n1 dir gdisk gmask
         gtag goff buffer.old }
 {
-    got_out(lookup::lfs_dir_getslice(g, b0, b1, n0, n1, dir, gdisk, gmask, gtag, goff, buffer))
+    GotOut::from(lookup::lfs_dir_getslice(g, b0, b1, n0, n1, dir, gdisk, gmask, gtag, goff, buffer))
 }
 
 #[unsafe(no_mangle)]
@@ -93,7 +91,7 @@ pub extern "C" fn lanolin_get(
     ensures buffer_after { buffer.new ≡ get_buffer g b0.now b1.now n0 n1 dir gdisk gmask gtag
         buffer.old }
 {
-    got_out(lookup::lfs_dir_get(g, b0, b1, n0, n1, dir, gdisk, gmask, gtag, buffer))
+    GotOut::from(lookup::lfs_dir_get(g, b0, b1, n0, n1, dir, gdisk, gmask, gtag, buffer))
 }
 
 #[unsafe(no_mangle)]
@@ -110,7 +108,7 @@ pub extern "C" fn lanolin_getinfo(
 ) -> InfoOut
     ensures { result ≡ info_out (getinfo_of g b0.now b1.now n0 n1 dir gdisk name_max id) }
 {
-    info_out(lookup::lfs_dir_getinfo(g, b0, b1, n0, n1, dir, gdisk, name_max, id))
+    InfoOut::from(lookup::lfs_dir_getinfo(g, b0, b1, n0, n1, dir, gdisk, name_max, id))
 }
 
 // The state is handed on, and altered where it stands.
@@ -149,5 +147,5 @@ pub extern "C" fn lanolin_find(
     ensures { result ≡ named_out (find_of g b0.now b1.now n0 n1 block_count seed rules
         name.now type_) }
 {
-    named_out(find_name::lfs_dir_find(g, b0, b1, n0, n1, block_count, seed, rules, name, type_))
+    NamedOut::from(find_name::lfs_dir_find(g, b0, b1, n0, n1, block_count, seed, rules, name, type_))
 }

@@ -7,7 +7,7 @@ ghost use Rattle.format.specs.Stopped.{CompactLeaves, CompactStoresLeaves};
 ghost use Rattle.lanolin_answers.specs.Values.{committed_out, stored_out};
 
 use format::Geometry;
-use lanolin_answers::{CommittedOut, StoredOut, committed_out, stored_out};
+use lanolin_answers::{CommittedOut, StoredOut, committed_out};
 
 #[unsafe(no_mangle)]
 pub extern "C" fn lanolin_compact(
@@ -50,7 +50,7 @@ pub extern "C" fn lanolin_compact_stores(
     ensures compact_stores_leaves { CompactStoresLeaves g b0.old b1.old n0 n1 block_count seed rules erased
         stores b0.new b1.new }
 {
-    stored_out(compact::lfs_dir_compact_stores(
+    StoredOut::from(compact::lfs_dir_compact_stores(
         g,
         b0,
         b1,

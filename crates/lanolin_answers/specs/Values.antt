@@ -1,9 +1,7 @@
 -- The structs that C gets, from the answers. Assumes nothing.
 use Rattle.std.specs.Prelude.{ℕ, Option, Result}
-use Rattle.format.specs.Answer.{result_number, answer_value, got_found, answer_mdir, answer_seed}
-use Rattle.format.specs.Answer.{result_number, answer_index, answer_mdir, answer_seed}
-use Rattle.format.specs.Answer.{result_number, answer_index, answer_value, named_found, named_id}
-use Rattle.format.specs.Answer.{result_number, indexed_places}
+use Rattle.format.specs.Answer.{result_number, answer_value, answer_mdir, answer_seed, answer_index, answer_info}
+use Rattle.format.specs.Answer.{got_found, named_found, named_id, indexed_places}
 use Rattle.format.specs.declared.Written.{Written}
 use Rattle.lanolin_answers.specs.declared.Value.{Value}
 use Rattle.lanolin_answers.specs.declared.GotOut.{GotOut}
@@ -31,10 +29,10 @@ fetched_out seed f = record { result = result_number f; dir = answer_mdir f; see
 
 abbrev pub info_out : Result LfsInfo Refusal → InfoOut
 info_out i = record {
-  result = result_number i.answer;
-  kind = i.info.kind;
-  size = i.info.size;
-  name = i.info.name;
+  result = result_number i;
+  kind = (answer_info i).kind;
+  size = (answer_info i).size;
+  name = (answer_info i).name;
 }
 
 -- from the seed that was given

@@ -2,13 +2,13 @@
 #![tactic(auto)]
 
 ghost use Rattle.std.specs.Prelude.{◌≡◌, min};
-ghost use Rattle.format.specs.Answer.{flag_of, refusal_number, refusal_mdir, refusal_seed, refusal_index, result_number};
+ghost use Rattle.format.specs.Answer.{flag_of, refusal_mdir, refusal_seed, refusal_index, result_number};
 ghost use Rattle.format.specs.Answer.{zero_mdir};
 ghost use Rattle.format.specs.Word.{all_ones};
 ghost use Rattle.lanolin_answers.specs.Values.{word_out, got_out, fetched_out, info_out, committed_out, stored_out};
 ghost use Rattle.lanolin_answers.specs.Values.{named_out, indexed_out, text_out};
 
-use format::{Fetched, Found, LfsFcrc, LfsMdir, LfsPair, Refusal, Written};
+use format::{Fetched, Found, LfsFcrc, LfsInfo, LfsMdir, LfsPair, Refusal, Written};
 
 // A result and the value that comes with it, 0 on a refusal.
 #[repr(C)]
@@ -98,67 +98,51 @@ pub fn flag(b: bool) -> u32
     if b { 1 } else { 0 }
 }
 
-pub fn number(r: Refusal) -> i32
-    ensures { result ≡ refusal_number r }
-{
-    match r {
-        Refusal::Invalid => -22,
-        Refusal::Corrupt => -84,
-        Refusal::NoEntry => -2,
-        Refusal::TooMany(_, _) => -2,
-        Refusal::BadEntry(_) => -201,
-        Refusal::Irregular => -202,
-        Refusal::NoSpace => -28,
-        Refusal::Misaligned => -211,
-        Refusal::WrongValidity => -212,
-        Refusal::NotErased(_) => -213,
-        Refusal::Coincidence => -204,
-        Refusal::TableFull => -221,
-        Refusal::Spent => -231,
-        Refusal::TooDeep => -232,
-    }
-}
-
-pub fn word_out(w: Result<u32, Refusal>) -> Value
-    ensures { result ≡ word_out w }
-{
-    match w {
-        Ok(v) => Value {
-            result: 0,
-            value: v,
-        },
-        Err(r) => Value {
-            result: number(r),
-            value: 0,
-        },
-    }
-}
-
+// The number of an answer that comes with no value.
 pub fn altered_out(a: Result<(), Refusal>) -> i32
     ensures { result ≡ result_number a }
 {
     match a {
         Ok(()) => 0,
-        Err(r) => number(r),
+        Err(r) => r.number(),
     }
 }
 
-pub fn got_out(g: Result<Found, Refusal>) -> GotOut
-    ensures { result ≡ got_out g }
-{
-    match g {
-        Ok(e) => GotOut {
-            result: 0,
-            found: e,
-        },
-        Err(r) => GotOut {
-            result: number(r),
-            found: Found {
-                tag: 0,
-                length: 0,
-                off: 0,
+impl From<Result<u32, Refusal>> for Value {
+    ghost from_gives = { λ w v. v ≡ word_out w };
+
+    fn from(w: Result<u32, Refusal>) -> Value {
+        match w {
+            Ok(v) => Value {
+                result: 0,
+                value: v,
             },
-        },
+            Err(r) => Value {
+                result: r.number(),
+                value: 0,
+            },
+        }
+    }
+}
+
+impl From<Result<Found, Refusal>> for GotOut {
+    ghost from_gives = { λ g o. o ≡ got_out g };
+
+    fn from(g: Result<Found, Refusal>) -> GotOut {
+        match g {
+            Ok(e) => GotOut {
+                result: 0,
+                found: e,
+            },
+            Err(r) => GotOut {
+                result: r.number(),
+                found: Found {
+                    tag: 0,
+                    length: 0,
+                    off: 0,
+                },
+            },
+        }
     }
 }
 
@@ -182,23 +166,17 @@ fn zero_mdir() -> LfsMdir
     }
 }
 
-// The record that comes back with a refusal: all zero, but what was read where the count is too high.
-fn refused_mdir(r: Refusal) -> LfsMdir
-    ensures { result ≡ refusal_mdir r }
+// The record and the seed that come back with a refusal: all zero and the seed as given, but both as read where the
+// count is too high.
+fn refused_read(seed: u32, r: Refusal) -> Fetched
+    ensures { (result.dir ≡ refusal_mdir r) × (result.seed ≡ refusal_seed seed r) }
 {
     match r {
-        Refusal::TooMany(m, _) => m,
-        _ => zero_mdir(),
-    }
-}
-
-// The seed that comes back with a refusal: as given, or as read.
-fn refused_seed(seed: u32, r: Refusal) -> u32
-    ensures { result ≡ refusal_seed seed r }
-{
-    match r {
-        Refusal::TooMany(_, s) => s,
-        _ => seed,
+        Refusal::TooMany(read) => read,
+        _ => Fetched {
+            dir: zero_mdir(),
+            seed,
+        },
     }
 }
 
@@ -206,30 +184,44 @@ pub fn fetched_out(seed: u32, f: Result<Fetched, Refusal>) -> FetchedOut
     ensures { result ≡ fetched_out seed f }
 {
     match f {
-        Fetched::Found(m, s) => FetchedOut {
+        Ok(read) => FetchedOut {
             result: 0,
-            dir: m,
-            seed: s,
+            dir: read.dir,
+            seed: read.seed,
         },
-        Err(r) => FetchedOut {
-            result: number(r),
-            dir: refused_mdir(r),
-            seed: refused_seed(seed, r),
-        },
+        Err(r) => {
+            let read = refused_read(seed, r);
+            FetchedOut {
+                result: r.number(),
+                dir: read.dir,
+                seed: read.seed,
+            }
+        }
     }
 }
 
-pub fn info_out(i: Result<LfsInfo, Refusal>) -> InfoOut
-    ensures { result ≡ info_out i }
-{
-    let answer = i.answer;
-    let info = i.info;
-    let name = info.name;
-    InfoOut {
-        result: altered_out(answer),
-        kind: info.kind,
-        size: info.size,
-        name: name,
+// "A refusal leaves the info all zero."
+impl From<Result<LfsInfo, Refusal>> for InfoOut {
+    ghost from_gives = { λ i o. o ≡ info_out i };
+
+    fn from(i: Result<LfsInfo, Refusal>) -> InfoOut {
+        match i {
+            Ok(info) => {
+                let name = info.name;
+                InfoOut {
+                    result: 0,
+                    kind: info.kind,
+                    size: info.size,
+                    name,
+                }
+            }
+            Err(r) => InfoOut {
+                result: r.number(),
+                kind: 0,
+                size: 0,
+                name: [0u8; 256],
+            },
+        }
     }
 }
 
@@ -248,57 +240,64 @@ pub fn committed_out(seed: u32, c: Result<Fetched, Refusal>) -> CommittedOut
     ensures { result ≡ committed_out seed c }
 {
     match c {
-        Ok(Fetched { dir: m, seed: read }) => CommittedOut {
+        Ok(read) => CommittedOut {
             result: 0,
             index: 0,
-            dir: m,
-            seed: read,
+            dir: read.dir,
+            seed: read.seed,
         },
-        Err(r) => CommittedOut {
-            result: number(r),
-            index: refused_index(r),
-            dir: refused_mdir(r),
-            seed: refused_seed(seed, r),
-        },
+        Err(r) => {
+            let read = refused_read(seed, r);
+            CommittedOut {
+                result: r.number(),
+                index: refused_index(r),
+                dir: read.dir,
+                seed: read.seed,
+            }
+        }
     }
 }
 
-pub fn stored_out(s: Result<u32, Refusal>) -> StoredOut
-    ensures { result ≡ stored_out s }
-{
-    match s {
-        Ok(n) => StoredOut {
-            result: 0,
-            index: 0,
-            stores: n,
-        },
-        Err(r) => StoredOut {
-            result: number(r),
-            index: refused_index(r),
-            stores: 0,
-        },
+impl From<Result<u32, Refusal>> for StoredOut {
+    ghost from_gives = { λ s o. o ≡ stored_out s };
+
+    fn from(s: Result<u32, Refusal>) -> StoredOut {
+        match s {
+            Ok(n) => StoredOut {
+                result: 0,
+                index: 0,
+                stores: n,
+            },
+            Err(r) => StoredOut {
+                result: r.number(),
+                index: refused_index(r),
+                stores: 0,
+            },
+        }
     }
 }
 
-pub fn named_out(a: Result<Option<u32>, Refusal>) -> NamedOut
-    ensures { result ≡ named_out a }
-{
-    match a {
-        Ok(Some(id)) => NamedOut {
-            result: 0,
-            found: true,
-            id,
-        },
-        Ok(None) => NamedOut {
-            result: 0,
-            found: false,
-            id: 0,
-        },
-        Err(r) => NamedOut {
-            result: number(r),
-            found: false,
-            id: 0,
-        },
+impl From<Result<Option<u32>, Refusal>> for NamedOut {
+    ghost from_gives = { λ a o. o ≡ named_out a };
+
+    fn from(a: Result<Option<u32>, Refusal>) -> NamedOut {
+        match a {
+            Ok(Some(id)) => NamedOut {
+                result: 0,
+                found: true,
+                id,
+            },
+            Ok(None) => NamedOut {
+                result: 0,
+                found: false,
+                id: 0,
+            },
+            Err(r) => NamedOut {
+                result: r.number(),
+                found: false,
+                id: 0,
+            },
+        }
     }
 }
 
@@ -313,27 +312,30 @@ fn in_word(n: usize) -> u32
     }
 }
 
-pub fn indexed_out(i: Result<usize, Refusal>) -> IndexedOut
-    ensures { result ≡ indexed_out i }
-{
-    match i {
-        Ok(n) => IndexedOut {
-            result: 0,
-            places: in_word(n),
-        },
-        Err(r) => IndexedOut {
-            result: number(r),
-            places: 0,
-        },
+impl From<Result<usize, Refusal>> for IndexedOut {
+    ghost from_gives = { λ i o. o ≡ indexed_out i };
+
+    fn from(i: Result<usize, Refusal>) -> IndexedOut {
+        match i {
+            Ok(n) => IndexedOut {
+                result: 0,
+                places: in_word(n),
+            },
+            Err(r) => IndexedOut {
+                result: r.number(),
+                places: 0,
+            },
+        }
     }
 }
 
-pub fn text_out(w: Written) -> TextOut
-    ensures { result ≡ text_out w }
-{
-    let answer = w.answer;
-    TextOut {
-        result: altered_out(answer),
-        length: w.length,
+impl From<Written> for TextOut {
+    ghost from_gives = { λ w o. o ≡ text_out w };
+
+    fn from(w: Written) -> TextOut {
+        TextOut {
+            result: altered_out(w.answer),
+            length: w.length,
+        }
     }
 }

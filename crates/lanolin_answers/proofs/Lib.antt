@@ -1,2 +1,0 @@
--- Laws of the refusals.
-pub mod Others
