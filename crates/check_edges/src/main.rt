@@ -3,7 +3,7 @@
 // size 16, numbers 0 and 1.
 #![tactic(auto)]
 
-use format::{Fetched, Geometry, LfsMdir, Refusal};
+use format::{Geometry, LfsMdir, Refusal};
 use std::env::{Env, FillError};
 use std::fs::Files;
 use std::{fs, io, str};
@@ -27,9 +27,9 @@ fn refused(rt: &impl Print, r: Refusal) -> io::Result<()> {
     match r {
         Refusal::Invalid => text(rt, b"refused -22\n"),
         Refusal::Corrupt => text(rt, b"refused -84\n"),
-        Refusal::TooMany(m, _) => {
+        Refusal::TooMany(read) => {
             text(rt, b"refused -2")?;
-            record(rt, m)
+            record(rt, read.dir)
         }
         _ => text(rt, b"refused otherwise\n"),
     }
@@ -42,9 +42,9 @@ fn show(rt: &impl Print, pair: &[u8]) -> io::Result<()> {
         prog_size: 16,
     };
     match fetch::lfs_dir_fetch(g, &pair[0..half], &pair[half..], 0, 1, 0, 0) {
-        Fetched::Found(m, _) => {
+        Ok(read) => {
             text(rt, b"found")?;
-            record(rt, m)
+            record(rt, read.dir)
         }
         Err(r) => refused(rt, r),
     }

@@ -3,7 +3,7 @@
 // layout). Prints how many of each kind were equal.
 #![tactic(auto)]
 
-use format::{Fetched, Geometry, LfsFcrc, LfsGstate, LfsMdir, LfsPair, Refusal};
+use format::{Geometry, LfsFcrc, LfsGstate, LfsInfo, LfsMdir, LfsPair, Refusal};
 use std::io;
 use std::io::Read;
 
@@ -79,6 +79,13 @@ const GETINFO: u32 = 3;
 
 const GETGSTATE: u32 = 4;
 
+// What getinfo leaves where it refuses.
+const NO_INFO: LfsInfo = LfsInfo {
+    kind: 0,
+    size: 0,
+    name: [0; 256],
+};
+
 #[derive(Clone, Copy)]
 struct Tally {
     fetches: u32,
@@ -93,10 +100,7 @@ fn at(head: [u8; 128], k: usize) -> u32 {
     if 32 <= k {
         return 0;
     }
-    match word::lfs_le32_at(&head, k * 4) {
-        Ok(v) => v,
-        Err(_) => 0,
-    }
+    word::lfs_le32_at(&head, k * 4).unwrap_or(0)
 }
 
 fn mdir(head: [u8; 128]) -> LfsMdir {
@@ -146,19 +150,12 @@ fn geometry(head: [u8; 128]) -> Geometry {
     }
 }
 
-fn same_pair(p: LfsPair, q: LfsPair) -> bool {
-    (p.n0 == q.n0) & (p.n1 == q.n1)
-}
-
-fn same_mdir(m: LfsMdir, w: LfsMdir) -> bool {
-    same_pair(m.pair, w.pair)
-        & (m.rev == w.rev)
-        & (m.off == w.off)
-        & (m.etag == w.etag)
-        & (m.count == w.count)
-        & (m.erased == w.erased)
-        & (m.split == w.split)
-        & same_pair(m.tail, w.tail)
+// Equal but for the forward check, which the Rust's record has not.
+fn same_mdir(m: LfsMdir, want: LfsMdir) -> bool {
+    LfsMdir {
+        fcrc: want.fcrc,
+        ..m
+    } == want
 }
 
 // -84, -22 and -2 as the list has them, in two's complement.
@@ -167,7 +164,7 @@ fn number(r: Refusal) -> u32 {
         Refusal::Corrupt => 0xffff_ffac,
         Refusal::Invalid => 0xffff_ffea,
         Refusal::NoEntry => 0xffff_fffe,
-        Refusal::TooMany(_, _) => 0xffff_fffe,
+        Refusal::TooMany(_) => 0xffff_fffe,
         _ => 1,
     }
 }
@@ -185,11 +182,13 @@ fn same_fetch(head: [u8; 128], b0: &[u8], b1: &[u8]) -> bool {
         at(head, BLOCK_COUNT),
         at(head, SEED),
     ) {
-        Fetched::Found(m, s) => (result == 0) & same_mdir(m, want) & (s == seed),
-        Err(r) => match r {
-            Refusal::TooMany(m, s) => (result == number(r)) & same_mdir(m, want) & (s == seed),
-            _ => result == number(r),
-        },
+        Ok(read) => (result == 0) & same_mdir(read.dir, want) & (read.seed == seed),
+        Err(Refusal::TooMany(read)) => {
+            (result == number(Refusal::TooMany(read)))
+                & same_mdir(read.dir, want)
+                & (read.seed == seed)
+        }
+        Err(r) => result == number(r),
     }
 }
 
@@ -224,12 +223,10 @@ fn same_slice(head: [u8; 128], b0: &[u8], b1: &[u8], want: &[u8]) -> bool {
     slice_into(head, b0, b1, want, &mut space[0..size])
 }
 
-fn same_name(name: [u8; 256], want: &[u8]) -> bool {
-    &name[..] == want
-}
-
+// The info against the expected words; of a refusal it is all zero.
 fn same_info(head: [u8; 128], b0: &[u8], b1: &[u8], want: &[u8]) -> bool {
-    let i = lookup::lfs_dir_getinfo(
+    let result = at(head, WANT_RESULT);
+    let (equal, info) = match lookup::lfs_dir_getinfo(
         geometry(head),
         b0,
         b1,
@@ -239,23 +236,19 @@ fn same_info(head: [u8; 128], b0: &[u8], b1: &[u8], want: &[u8]) -> bool {
         gstate(head, GDISK),
         at(head, NAME_MAX),
         at(head, ID),
-    );
-    let answer = i.answer;
-    let info = i.info;
-    let name = info.name;
-    let result = at(head, WANT_RESULT);
-    let equal = match answer {
-        Ok(()) => result == 0,
-        Err(r) => result == number(r),
+    ) {
+        Ok(info) => (result == 0, info),
+        Err(r) => (result == number(r), NO_INFO),
     };
     equal
         & (info.kind as u32 == at(head, WANT_TYPE))
         & (info.size == at(head, WANT_SIZE))
-        & same_name(name, want)
+        & (&info.name[..] == want)
 }
 
 fn same_state(head: [u8; 128], b0: &[u8], b1: &[u8]) -> bool {
-    let got = lookup::getgstate_of(
+    let mut state = gstate(head, GIVEN_STATE);
+    let got = lookup::lfs_dir_getgstate(
         geometry(head),
         b0,
         b1,
@@ -263,17 +256,14 @@ fn same_state(head: [u8; 128], b0: &[u8], b1: &[u8]) -> bool {
         at(head, N1),
         mdir(head),
         gstate(head, GDISK),
-        gstate(head, GIVEN_STATE),
+        &mut state,
     );
-    let answer = got.answer;
-    let state = got.gstate;
-    let want = gstate(head, WANT_STATE);
     let result = at(head, WANT_RESULT);
-    let equal = match answer {
+    let equal = match got {
         Ok(()) => result == 0,
         Err(r) => result == number(r),
     };
-    equal & (state.tag == want.tag) & same_pair(state.pair, want.pair)
+    equal & (state == gstate(head, WANT_STATE))
 }
 
 // The next header; zeros where the input ends.
@@ -368,14 +358,12 @@ fn run<R: Read>(input: &mut R) -> io::Result<Tally> {
         states: 0,
         different: 0,
     };
-    let mut left: u32 = 100_000;
-    while 0 < left {
+    for _ in 0..100_000 {
         let head = header(input)?;
         if at(head, KIND) == 0 {
             return Ok(t);
         }
         t = replayed(input, head, t)?;
-        left -= 1;
     }
     Ok(t)
 }
