@@ -12,6 +12,7 @@ ghost use Rattle.format.specs.Stopped.{CompactLeaves, CompactStoresLeaves};
 
 use format::types::UNLIMITED;
 use format::{Fetched, Geometry, Refusal, Rules};
+use sizes::Pair;
 
 // What all three calls do, with a limit of stores and a table. Inlined, so that it shares their frame on the stack.
 #[inline(always)]
@@ -39,7 +40,8 @@ fn run(
     if !sizes::erased_fits(erased) {
         return Err(Refusal::Invalid);
     }
-    let dir = fetch::lfs_dir_fetch(g, b0, b1, n0, n1, block_count, seed)?.dir;
+    let pair = Pair { g, b0, b1, n0, n1 };
+    let dir = fetch::lfs_dir_fetch(pair, block_count, seed)?.dir;
     if dir.pair.n0 == n0 {
         compact_block::renew(g.prog_size, rules, erased, b0, b1, dir, stores, table)
     } else {
@@ -120,7 +122,7 @@ pub fn lfs_dir_compact_with(
         UNLIMITED,
         table,
     )?;
-    fetch::lfs_dir_fetch(g, b0, b1, n0, n1, block_count, seed)
+    fetch::lfs_dir_fetch(Pair { g, b0, b1, n0, n1 }, block_count, seed)
 }
 
 // The same with no table.

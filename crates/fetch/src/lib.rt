@@ -6,13 +6,15 @@ ghost use Rattle.std.specs.Prelude.{◌≡◌, ◌<◌};
 ghost use Rattle.format.specs.Count.{second_first};
 ghost use Rattle.format.specs.Fetch.{fetch_of};
 ghost use Rattle.format.specs.Refetch.{held_forward, continued, refetch_of};
+ghost use Rattle.sizes.specs.Lent.{of};
 ghost use Rattle.fetch.specs.Read.{Readable, Readables, erased_by, mdir_by, answer_by, in_order};
 ghost use Rattle.fetch.specs.Known.{Known, known_by};
 
 use fetch_walk::dir::DirState;
 use fetch_walk::{Taken, Walked};
 use format::types::CRC_START;
-use format::{Fetched, Geometry, LfsFcrc, LfsMdir, LfsPair, Refusal};
+use format::{Fetched, LfsFcrc, LfsMdir, LfsPair, Refusal};
+use sizes::Pair;
 
 // Where the first tag stands, behind the revision: the end of a log with no commit.
 const LOG_START: usize = 4;
@@ -109,21 +111,14 @@ fn in_order(prog: u32, n: u32, b: &[u8], m: u32, c: &[u8], seed: u32) -> Result<
 }
 
 // Per lfs.c lfs_dir_fetch. Any geometry, images, numbers, block count and seed: "Fetch tests -22, -84, -2."
-pub fn lfs_dir_fetch(
-    g: Geometry,
-    b0: &[u8],
-    b1: &[u8],
-    n0: u32,
-    n1: u32,
-    block_count: u32,
-    seed: u32,
-) -> Result<Fetched, Refusal>
-    ensures { result ≡ fetch_of g b0.now b1.now n0 n1 block_count seed }
+pub fn lfs_dir_fetch(pair: Pair, block_count: u32, seed: u32) -> Result<Fetched, Refusal>
+    ensures { result ≡ of pair.entry fetch_of block_count seed }
 {
-    let prog = g.prog_size;
-    if !sizes::pair_fits(g, b0.len(), b1.len(), n0, n1) {
+    if !pair.fits() {
         return Err(Refusal::Invalid);
     }
+    let Pair { g, b0, b1, n0, n1 } = pair;
+    let prog = g.prog_size;
     if sizes::too_high(block_count, n0) {
         return Err(Refusal::Corrupt);
     }
@@ -181,25 +176,20 @@ fn go_on(prog: u32, b: &[u8], dir: LfsMdir, seed: u32) -> Result<Fetched, Refusa
 // Any geometry, images, numbers, block count, seed and record. "The answer, seed and erased mark shall equal a full
 // fetch", where record and seed are of one, and what it read is unchanged.
 pub fn lfs_dir_refetch(
-    g: Geometry,
-    b0: &[u8],
-    b1: &[u8],
-    n0: u32,
-    n1: u32,
+    pair: Pair,
     block_count: u32,
     seed: u32,
     dir: LfsMdir,
 ) -> Result<Fetched, Refusal>
-    ensures { result ≡ refetch_of g b0.now b1.now n0 n1 block_count seed dir }
+    ensures { result ≡ of pair.entry refetch_of block_count seed dir }
 {
-    let prog = g.prog_size;
-    let fits = sizes::record_fits(g, b0.len(), b1.len(), n0, n1, dir);
+    let fits = pair.takes(dir);
     if !(fits & (FIRST_END <= dir.off)) {
         return Err(Refusal::Invalid);
     }
-    if sizes::too_high(block_count, n0) | sizes::too_high(block_count, n1) {
+    if sizes::too_high(block_count, pair.n0) | sizes::too_high(block_count, pair.n1) {
         return Err(Refusal::Corrupt);
     }
-    let b = sizes::block_of(b0, b1, n0, dir);
-    go_on(prog, b, dir, seed)
+    let b = pair.block_of(dir);
+    go_on(pair.g.prog_size, b, dir, seed)
 }

@@ -5,31 +5,29 @@
 
 ghost use Rattle.std.specs.Prelude.{◌≡◌};
 ghost use Rattle.format.specs.Find.{find_of};
+ghost use Rattle.sizes.specs.Lent.{of};
 
-use format::{Geometry, Refusal, Rules};
+use format::{Refusal, Rules};
+use sizes::Pair;
 
 // "the lowest id whose live name has the given bytes and type, or none. .. An empty name is -22, and an irregular log
 // is -202." A type that no name has, and a name longer than any, are asked for in vain.
 pub fn lfs_dir_find(
-    g: Geometry,
-    b0: &[u8],
-    b1: &[u8],
-    n0: u32,
-    n1: u32,
+    pair: Pair,
     block_count: u32,
     seed: u32,
     rules: u32,
     name: &[u8],
     kind: u32,
 ) -> Result<Option<u32>, Refusal>
-    ensures { result ≡ find_of g b0.now b1.now n0 n1 block_count seed rules
+    ensures { result ≡ of pair.entry find_of block_count seed rules
         name.now kind }
 {
     let rules = Rules::try_from(rules)?;
     if name.is_empty() {
         return Err(Refusal::Invalid);
     }
-    let dir = fetch::lfs_dir_fetch(g, b0, b1, n0, n1, block_count, seed)?.dir;
-    let b = sizes::block_of(b0, b1, n0, dir);
+    let dir = fetch::lfs_dir_fetch(pair, block_count, seed)?.dir;
+    let b = pair.block_of(dir);
     find_pass::find_in(b, dir.off as usize, rules, name, kind)
 }

@@ -1,9 +1,11 @@
 // What a table answers: an entry's tag, length and place, found by halving, and its bytes.
 ghost use Rattle.std.specs.Prelude.{◌≡◌};
 ghost use Rattle.format.specs.Index.{index_hit, index_get_of, index_get_buffer};
+ghost use Rattle.sizes.specs.Lent.{of};
 
 use format::types::{LONGEST_BUFFER, NO_SLOT, TYPE3_MASK};
-use format::{Found, Geometry, LfsMdir, Refusal};
+use format::{Found, LfsMdir, Refusal};
+use sizes::Pair;
 
 // What a table says: "any 0x0xx asks the name, any 0x2xx the struct, 0x300 to 0x3ff that attribute; any other type, and
 // an id that the table has not (above 1,023 too), finds nothing".
@@ -36,29 +38,25 @@ fn place_of(table: &[u32], kind: u32, id: u32) -> Option<Found>
 // "tag, length, place and buffer as L3's answer": the slice from 0. "A table that no build made is answered in bounds:
 // what it says is checked against the block (an offset past it is -84), and nothing else is asked of it."
 pub fn lfs_dir_index_get(
-    g: Geometry,
-    b0: &[u8],
-    b1: &[u8],
-    n0: u32,
-    n1: u32,
+    pair: Pair,
     dir: LfsMdir,
     table: &[u32],
     kind: u32,
     id: u32,
     buffer: &mut [u8],
 ) -> Result<Found, Refusal>
-    ensures value { result ≡ index_get_of g b0.now b1.now n0 n1 dir table.now kind id
+    ensures value { result ≡ of pair.entry index_get_of dir table.now kind id
         buffer.old }
-    ensures buffer_after { buffer.new ≡ index_get_buffer g b0.now b1.now n0 n1 dir
+    ensures buffer_after { buffer.new ≡ of pair.entry index_get_buffer dir
         table.now kind id buffer.old }
 {
-    let fits = sizes::record_fits(g, b0.len(), b1.len(), n0, n1, dir);
+    let fits = pair.takes(dir);
     if !(fits & (buffer.len() <= LONGEST_BUFFER)) {
         return Err(Refusal::Invalid);
     }
     let Some(e) = place_of(table, kind, id) else {
         return Err(Refusal::NoEntry);
     };
-    let b = sizes::block_of(b0, b1, n0, dir);
+    let b = pair.block_of(dir);
     lookup_search::slice::read_at(b, e, 0, buffer)
 }

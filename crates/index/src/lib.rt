@@ -5,9 +5,11 @@
 
 ghost use Rattle.std.specs.Prelude.{◌≡◌, ◌≤◌, length};
 ghost use Rattle.format.specs.Index.{index_of, index_table, extend_of, extend_table};
+ghost use Rattle.sizes.specs.Lent.{of};
 ghost use Rattle.index.specs.Blocks.{InBlock, indexed_in, tabled_in, extended_in, extended_table};
 
-use format::{Geometry, LfsMdir, Refusal, Rules};
+use format::{LfsMdir, Refusal, Rules};
+use sizes::Pair;
 
 // What a table answers.
 pub mod get;
@@ -36,30 +38,32 @@ fn index_block(b: &[u8], end: usize, rules: Rules, table: &mut [u32]) -> Result<
 
 // "every live name, struct and user attribute of every slot", where each stands.
 pub fn lfs_dir_index(
-    g: Geometry,
-    b0: &[u8],
-    b1: &[u8],
-    n0: u32,
-    n1: u32,
+    pair: Pair,
     dir: LfsMdir,
     rules: u32,
     table: &mut [u32],
 ) -> Result<usize, Refusal>
-    ensures value { result ≡ index_of g b0.now b1.now n0 n1 dir rules table.old }
-    ensures table_after { table.new ≡ index_table g b0.now b1.now n0 n1 dir rules
+    ensures value { result ≡ of pair.entry index_of dir rules table.old }
+    ensures table_after { table.new ≡ of pair.entry index_table dir rules
         table.old }
 {
     let rules = Rules::try_from(rules)?;
-    if !sizes::record_fits(g, b0.len(), b1.len(), n0, n1, dir) {
+    if !pair.takes(dir) {
         return Err(Refusal::Invalid);
     }
-    let b = sizes::block_of(b0, b1, n0, dir);
+    let b = pair.block_of(dir);
     index_block(b, dir.off as usize, rules, table)
 }
 
 // A block's table for the log up to `end`, from the one up to `old`: the walk goes on where the old log ends, and the
 // pass runs the entries behind it on the places that stand in the table.
-fn extend_block(b: &[u8], old: usize, end: usize, rules: Rules, table: &mut [u32]) -> Result<usize, Refusal>
+fn extend_block(
+    b: &[u8],
+    old: usize,
+    end: usize,
+    rules: Rules,
+    table: &mut [u32],
+) -> Result<usize, Refusal>
     requires { InBlock b.now end × (old ≤ end) }
     ensures value { result ≡ extended_in rules b.now old end table.old }
     ensures table_after { table.new ≡ extended_table rules b.now old end table.old }
@@ -87,26 +91,21 @@ fn extend_block(b: &[u8], old: usize, end: usize, rules: Rules, table: &mut [u32
 // "the same table as building afresh .. when the table given is the old record's. Any other table gets a defined answer
 // inside its bounds."
 pub fn lfs_dir_index_extend(
-    g: Geometry,
-    b0: &[u8],
-    b1: &[u8],
-    n0: u32,
-    n1: u32,
+    pair: Pair,
     old: LfsMdir,
     dir: LfsMdir,
     rules: u32,
     table: &mut [u32],
 ) -> Result<usize, Refusal>
-    ensures value { result ≡ extend_of g b0.now b1.now n0 n1 old dir rules table.old }
-    ensures table_after { table.new ≡ extend_table g b0.now b1.now n0 n1 old dir rules
+    ensures value { result ≡ of pair.entry extend_of old dir rules table.old }
+    ensures table_after { table.new ≡ of pair.entry extend_table old dir rules
         table.old }
 {
     let rule = Rules::try_from(rules)?;
-    let fits = sizes::record_fits(g, b0.len(), b1.len(), n0, n1, dir)
-        & sizes::record_fits(g, b0.len(), b1.len(), n0, n1, old);
+    let fits = pair.takes(dir) & pair.takes(old);
     if !(fits & (old.pair.n0 == dir.pair.n0) & (old.off <= dir.off)) {
         return Err(Refusal::Invalid);
     }
-    let b = sizes::block_of(b0, b1, n0, dir);
+    let b = pair.block_of(dir);
     extend_block(b, old.off as usize, dir.off as usize, rule, table)
 }

@@ -6,9 +6,11 @@
 ghost use Rattle.std.specs.Prelude.{◌≡◌};
 ghost use Rattle.format.specs.Lookup.{getslice_of, getslice_buffer, get_of, get_buffer, getgstate_of, getgstate_state};
 ghost use Rattle.format.specs.Lookup.{getinfo_of};
+ghost use Rattle.sizes.specs.Lent.{of};
 
 use format::types::{LONGEST_BUFFER, NO_SLOT};
-use format::{Found, Geometry, LfsGstate, LfsInfo, LfsMdir, Refusal};
+use format::{Found, LfsGstate, LfsInfo, LfsMdir, Refusal};
+use sizes::Pair;
 
 // an info from a block; for the crates of this repository, some functions ask for an end inside it
 pub mod info;
@@ -16,11 +18,7 @@ mod moved;
 
 // Per lfs.c lfs_dir_getslice: the entry's bytes from an offset on, and zeros in the rest of the buffer.
 pub fn lfs_dir_getslice(
-    g: Geometry,
-    b0: &[u8],
-    b1: &[u8],
-    n0: u32,
-    n1: u32,
+    pair: Pair,
     dir: LfsMdir,
     gdisk: LfsGstate,
     gmask: u32,
@@ -28,35 +26,31 @@ pub fn lfs_dir_getslice(
     goff: u32,
     buffer: &mut [u8],
 ) -> Result<Found, Refusal>
-    ensures value { result ≡ getslice_of g b0.now b1.now n0 n1 dir gdisk gmask gtag goff
+    ensures value { result ≡ of pair.entry getslice_of dir gdisk gmask gtag goff
         buffer.old }
-    ensures buffer_after { buffer.new ≡ getslice_buffer g b0.now b1.now n0 n1 dir gdisk gmask
+    ensures buffer_after { buffer.new ≡ of pair.entry getslice_buffer dir gdisk gmask
         gtag goff buffer.old }
 {
-    let fits = sizes::record_fits(g, b0.len(), b1.len(), n0, n1, dir);
+    let fits = pair.takes(dir);
     if !(fits & (buffer.len() <= LONGEST_BUFFER)) {
         return Err(Refusal::Invalid);
     }
-    let b = sizes::block_of(b0, b1, n0, dir);
+    let b = pair.block_of(dir);
     lookup_search::slice::read(b, dir, gdisk, gmask, gtag, goff, buffer)
 }
 
 // Per lfs.c lfs_dir_get: as many bytes as the key's size field says, and the buffer behind them left alone.
 pub fn lfs_dir_get(
-    g: Geometry,
-    b0: &[u8],
-    b1: &[u8],
-    n0: u32,
-    n1: u32,
+    pair: Pair,
     dir: LfsMdir,
     gdisk: LfsGstate,
     gmask: u32,
     gtag: u32,
     buffer: &mut [u8],
 ) -> Result<Found, Refusal>
-    ensures value { result ≡ get_of g b0.now b1.now n0 n1 dir gdisk gmask gtag
+    ensures value { result ≡ of pair.entry get_of dir gdisk gmask gtag
         buffer.old }
-    ensures buffer_after { buffer.new ≡ get_buffer g b0.now b1.now n0 n1 dir gdisk gmask gtag
+    ensures buffer_after { buffer.new ≡ of pair.entry get_buffer dir gdisk gmask gtag
         buffer.old }
 {
     let size = tag::lfs_tag_size(gtag) as usize;
@@ -66,64 +60,44 @@ pub fn lfs_dir_get(
     if LONGEST_BUFFER < buffer.len() {
         return Err(Refusal::Invalid);
     }
-    lfs_dir_getslice(
-        g,
-        b0,
-        b1,
-        n0,
-        n1,
-        dir,
-        gdisk,
-        gmask,
-        gtag,
-        0,
-        &mut buffer[..size],
-    )
+    lfs_dir_getslice(pair, dir, gdisk, gmask, gtag, 0, &mut buffer[..size])
 }
 
 // Per lfs.c lfs_dir_getinfo. The longest name read is a parameter, and the info comes back by value.
 pub fn lfs_dir_getinfo(
-    g: Geometry,
-    b0: &[u8],
-    b1: &[u8],
-    n0: u32,
-    n1: u32,
+    pair: Pair,
     dir: LfsMdir,
     gdisk: LfsGstate,
     name_max: u32,
     id: u32,
 ) -> Result<LfsInfo, Refusal>
-    ensures { result ≡ getinfo_of g b0.now b1.now n0 n1 dir gdisk name_max id }
+    ensures { result ≡ of pair.entry getinfo_of dir gdisk name_max id }
 {
-    let fits = sizes::record_fits(g, b0.len(), b1.len(), n0, n1, dir);
+    let fits = pair.takes(dir);
     if !(fits & (1 <= name_max) & (name_max <= 255) & (id <= NO_SLOT)) {
         return Err(Refusal::Invalid);
     }
     if id == NO_SLOT {
         return Ok(info::root());
     }
-    let b = sizes::block_of(b0, b1, n0, dir);
+    let b = pair.block_of(dir);
     info::read(b, dir, gdisk, name_max, id)
 }
 
 // Per lfs.c lfs_dir_getgstate: the move state of a pair XORed into a lent state, where it stands.
 pub fn lfs_dir_getgstate(
-    g: Geometry,
-    b0: &[u8],
-    b1: &[u8],
-    n0: u32,
-    n1: u32,
+    pair: Pair,
     dir: LfsMdir,
     gdisk: LfsGstate,
     gstate: &mut LfsGstate,
 ) -> Result<(), Refusal>
-    ensures { (result ≡ getgstate_of g b0.now b1.now n0 n1 dir gdisk)
-        × (gstate.new ≡ getgstate_state g b0.now b1.now n0 n1 dir gdisk
+    ensures { (result ≡ of pair.entry getgstate_of dir gdisk)
+        × (gstate.new ≡ of pair.entry getgstate_state dir gdisk
         gstate.old) }
 {
-    if !sizes::record_fits(g, b0.len(), b1.len(), n0, n1, dir) {
+    if !pair.takes(dir) {
         return Err(Refusal::Invalid);
     }
-    let b = sizes::block_of(b0, b1, n0, dir);
+    let b = pair.block_of(dir);
     moved::read(b, dir, gdisk, gstate)
 }

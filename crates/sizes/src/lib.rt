@@ -2,7 +2,8 @@
 // lookups and the writer make these tests before they read a block. Every function takes any numbers.
 #![tactic(auto)]
 
-ghost use Rattle.std.specs.Prelude.{◌≡◌};
+ghost use Rattle.std.specs.Prelude.{◌≡◌, length};
+ghost use Rattle.sizes.specs.Lent.{of};
 ghost use Rattle.format.specs.Fetch.{geometry_fits, images_fit, pair_fits, too_high};
 ghost use Rattle.format.specs.Lookup.{record_fits, block_of};
 ghost use Rattle.format.specs.Erased.{erased_fits};
@@ -45,21 +46,47 @@ pub fn too_high(block_count: u32, n: u32) -> bool
     (block_count != 0) & (block_count <= n)
 }
 
-// A record that a lookup takes, or a refetch: its pair is the two numbers, in either order, and its end does not pass
-// the block.
-pub fn record_fits(g: Geometry, len0: usize, len1: usize, n0: u32, n1: u32, dir: LfsMdir) -> bool
-    ensures { result ≡ record_fits g len0 len1 n0 n1 dir }
-{
-    pair_fits(g, len0, len1, n0, n1)
-        & util::lfs_pair_issync(dir.pair, LfsPair { n0: n0, n1: n1 })
-        & (dir.off <= g.block_size)
+// A metadata pair, as a call that reads is lent it: the sizes, both images, and their block numbers.
+#[derive(Clone, Copy)]
+pub struct Pair<'a> {
+    pub g: Geometry,
+    pub b0: &'a [u8],
+    pub b1: &'a [u8],
+    pub n0: u32,
+    pub n1: u32,
 }
 
-// The block that a record was read from: the image with the record's first number.
-pub fn block_of<'a>(b0: &'a [u8], b1: &'a [u8], n0: u32, dir: LfsMdir) -> &'a [u8]
-    ensures { result.now ≡ block_of b0.now b1.now n0 dir }
-{
-    if dir.pair.n0 == n0 { b0 } else { b1 }
+impl<'a> Pair<'a> {
+    // Its sizes, images and numbers are ones that a call takes.
+    pub fn fits(self) -> bool
+        ensures { result ≡ of self.entry (λ g b0 b1. pair_fits g (length b0) (length b1)) }
+    {
+        pair_fits(self.g, self.b0.len(), self.b1.len(), self.n0, self.n1)
+    }
+
+    // And the record is one that a lookup takes, or a refetch: its pair is the two numbers, in either order, and its
+    // end does not pass the block.
+    #[tactic(auto, unfolding(format::specs::Lookup::record_fits))]
+    pub fn takes(self, dir: LfsMdir) -> bool
+        ensures { result ≡ of self.entry (λ g b0 b1. record_fits g (length b0) (length b1)) dir }
+    {
+        self.fits()
+            & util::lfs_pair_issync(
+                dir.pair,
+                LfsPair {
+                    n0: self.n0,
+                    n1: self.n1,
+                },
+            )
+            & (dir.off <= self.g.block_size)
+    }
+
+    // The block that a record was read from: the image with the record's first number.
+    pub fn block_of(self, dir: LfsMdir) -> &'a [u8]
+        ensures { result.now ≡ block_of self.entry.b0.now self.entry.b1.now self.entry.n0 dir }
+    {
+        if dir.pair.n0 == self.n0 { self.b0 } else { self.b1 }
+    }
 }
 
 // "Any other erased byte is -22."

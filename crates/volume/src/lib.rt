@@ -6,6 +6,7 @@ ghost use Rattle.std.specs.Prelude.{◌≡◌, true, ◌<◌};
 ghost use Rattle.format.specs.Volume.{volume_fits, blocks_in, block_in, fetch_in};
 
 use format::{Fetched, Geometry, LfsPair, Refusal};
+use sizes::Pair;
 
 // Sizes that fit, and "empty or not whole blocks is -22".
 pub fn volume_fits(g: Geometry, vol: &[u8]) -> bool
@@ -47,5 +48,7 @@ pub fn fetch_in(g: Geometry, vol: &[u8], pair: LfsPair) -> Result<Fetched, Refus
     if blocks <= n1 as usize {
         return Err(Refusal::Corrupt);
     }
-    fetch::lfs_dir_fetch(g, block(g, vol, n0), block(g, vol, n1), n0, n1, 0, 0)
+    let b0 = block(g, vol, n0);
+    let b1 = block(g, vol, n1);
+    fetch::lfs_dir_fetch(Pair { g, b0, b1, n0, n1 }, 0, 0)
 }

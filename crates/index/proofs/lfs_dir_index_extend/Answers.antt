@@ -12,30 +12,30 @@ returns-in_err-rule c =
     let a = c.args in
     let e : c.from_residual.result ≡ Err c.in_err-rule.field-0.0 = search rules in
     let r = rule_refused _ _ c.try_from.ensures _ c.in_err-rule.was in
-    let all = extend_unruled a.g a.b0.now a.b1.now a.n0 a.n1 a.old a.dir a.rules a.table.now r.0 in
+    let all = extend_unruled a.pair.g a.pair.b0.now a.pair.b1.now a.pair.n0 a.pair.n1 a.old a.dir a.rules a.table.now r.0 in
     record { value = e ∙ ap Err r.1 ∙ all.0; table_after = all.1 }
 
 pub returns-then-not-fits-old : goal.returns-then-not-fits-old
 returns-then-not-fits-old c =
     let a = c.args in
     let r = rule_taken _ _ c.try_from.ensures _ c.in_ok-rule.was in
-    let all = extend_refused a.g a.b0.now a.b1.now a.n0 a.n1 a.old a.dir a.rules a.table.now r.0 _ c.record_fits.ensures
-    _ c.record_fits-2.ensures c.if-not-fits-old.true in
+    let all = extend_refused a.pair.g a.pair.b0.now a.pair.b1.now a.pair.n0 a.pair.n1 a.old a.dir a.rules a.table.now r.0 _ c.takes.ensures
+    _ c.takes-2.ensures c.if-not-fits-old.true in
     record { value = all.0; table_after = all.1 }
 
 pub extend_block-requires : goal.extend_block-requires
 extend_block-requires c =
     let a = c.args in
     let r = rule_taken _ _ c.try_from.ensures _ c.in_ok-rule.was in
-    of_block a.b0.now a.b1.now a.n0 a.dir (λ b. InBlock b a.dir.off × (a.old.off ≤ a.dir.off))
-    (extend_inside a.g a.b0.now a.b1.now a.n0 a.n1 a.old a.dir a.rules a.table.now r.0 _ c.record_fits.ensures
-    _ c.record_fits-2.ensures c.if-not-fits-old.false) _ c.block_of-b.ensures
+    of_block a.pair.b0.now a.pair.b1.now a.pair.n0 a.dir (λ b. InBlock b a.dir.off × (a.old.off ≤ a.dir.off))
+    (extend_inside a.pair.g a.pair.b0.now a.pair.b1.now a.pair.n0 a.pair.n1 a.old a.dir a.rules a.table.now r.0 _ c.takes.ensures
+    _ c.takes-2.ensures c.if-not-fits-old.false) _ c.block_of-b.ensures
 
 pub returns : goal.returns
 returns c =
     let a = c.args in
     let r = rule_taken _ _ c.try_from.ensures _ c.in_ok-rule.was in
-    let all = extend_read a.g a.b0.now a.b1.now a.n0 a.n1 a.old a.dir a.rules a.table.now r.0 _ c.record_fits.ensures
-    _ c.record_fits-2.ensures c.if-not-fits-old.false _ c.block_of-b.ensures _ r.1 _ _ c.extend_block.ensures.value
+    let all = extend_read a.pair.g a.pair.b0.now a.pair.b1.now a.pair.n0 a.pair.n1 a.old a.dir a.rules a.table.now r.0 _ c.takes.ensures
+    _ c.takes-2.ensures c.if-not-fits-old.false _ c.block_of-b.ensures _ r.1 _ _ c.extend_block.ensures.value
     c.extend_block.ensures.table_after in
     record { value = all.0; table_after = all.1 }

@@ -18,4 +18,4 @@ returns-then-blocks-n1 c = second_outside _ _ _ c.if-n0-n1.false c.if-blocks-n0.
 pub returns : goal.returns
 returns c = both_inside _ _ _ c.if-n0-n1.false
     c.if-blocks-n0.false c.if-blocks-n1.false _ _
-    c.block.ensures c.block-2.ensures _ c.lfs_dir_fetch.ensures
+    c.block-b0.ensures c.block-b1.ensures _ c.lfs_dir_fetch.ensures

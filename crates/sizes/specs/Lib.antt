@@ -1,0 +1,2 @@
+-- What is said of a pair that is lent.
+pub mod Lent
