@@ -4,6 +4,7 @@
 #![tactic(auto)]
 
 use format::{Geometry, LfsMdir, Refusal};
+use sizes::Pair;
 use std::env::{Env, FillError};
 use std::fs::Files;
 use std::{fs, io, str};
@@ -41,7 +42,14 @@ fn show(rt: &impl Print, pair: &[u8]) -> io::Result<()> {
         block_size: (half % 65536) as u32,
         prog_size: 16,
     };
-    match fetch::lfs_dir_fetch(g, &pair[0..half], &pair[half..], 0, 1, 0, 0) {
+    let pair = Pair {
+        g,
+        b0: &pair[0..half],
+        b1: &pair[half..],
+        n0: 0,
+        n1: 1,
+    };
+    match fetch::lfs_dir_fetch(pair, 0, 0) {
         Ok(read) => {
             text(rt, b"found")?;
             record(rt, read.dir)

@@ -4,6 +4,7 @@
 #![tactic(auto)]
 
 use format::{Geometry, LfsFcrc, LfsGstate, LfsInfo, LfsMdir, LfsPair, Refusal};
+use sizes::Pair;
 use std::io;
 use std::io::Read;
 
@@ -143,10 +144,17 @@ fn gstate_of(tag: u32, n0: u32, n1: u32) -> LfsGstate {
     }
 }
 
-fn geometry(head: [u8; 128]) -> Geometry {
-    Geometry {
-        block_size: at(head, BLOCK_SIZE),
-        prog_size: at(head, PROG_SIZE),
+// The pair that a call is lent.
+fn pair<'a>(head: [u8; 128], b0: &'a [u8], b1: &'a [u8]) -> Pair<'a> {
+    Pair {
+        g: Geometry {
+            block_size: at(head, BLOCK_SIZE),
+            prog_size: at(head, PROG_SIZE),
+        },
+        b0,
+        b1,
+        n0: at(head, N0),
+        n1: at(head, N1),
     }
 }
 
@@ -173,15 +181,7 @@ fn same_fetch(head: [u8; 128], b0: &[u8], b1: &[u8]) -> bool {
     let result = at(head, WANT_RESULT);
     let want = mdir(head);
     let seed = at(head, WANT_SEED);
-    match fetch::lfs_dir_fetch(
-        geometry(head),
-        b0,
-        b1,
-        at(head, N0),
-        at(head, N1),
-        at(head, BLOCK_COUNT),
-        at(head, SEED),
-    ) {
+    match fetch::lfs_dir_fetch(pair(head, b0, b1), at(head, BLOCK_COUNT), at(head, SEED)) {
         Ok(read) => (result == 0) & same_mdir(read.dir, want) & (read.seed == seed),
         Err(Refusal::TooMany(read)) => {
             (result == number(Refusal::TooMany(read)))
@@ -196,11 +196,7 @@ fn same_fetch(head: [u8; 128], b0: &[u8], b1: &[u8]) -> bool {
 fn slice_into(head: [u8; 128], b0: &[u8], b1: &[u8], want: &[u8], buffer: &mut [u8]) -> bool {
     let result = at(head, WANT_RESULT);
     let equal = match lookup::lfs_dir_getslice(
-        geometry(head),
-        b0,
-        b1,
-        at(head, N0),
-        at(head, N1),
+        pair(head, b0, b1),
         mdir(head),
         gstate(head, GDISK),
         at(head, GMASK),
@@ -227,11 +223,7 @@ fn same_slice(head: [u8; 128], b0: &[u8], b1: &[u8], want: &[u8]) -> bool {
 fn same_info(head: [u8; 128], b0: &[u8], b1: &[u8], want: &[u8]) -> bool {
     let result = at(head, WANT_RESULT);
     let (equal, info) = match lookup::lfs_dir_getinfo(
-        geometry(head),
-        b0,
-        b1,
-        at(head, N0),
-        at(head, N1),
+        pair(head, b0, b1),
         mdir(head),
         gstate(head, GDISK),
         at(head, NAME_MAX),
@@ -249,11 +241,7 @@ fn same_info(head: [u8; 128], b0: &[u8], b1: &[u8], want: &[u8]) -> bool {
 fn same_state(head: [u8; 128], b0: &[u8], b1: &[u8]) -> bool {
     let mut state = gstate(head, GIVEN_STATE);
     let got = lookup::lfs_dir_getgstate(
-        geometry(head),
-        b0,
-        b1,
-        at(head, N0),
-        at(head, N1),
+        pair(head, b0, b1),
         mdir(head),
         gstate(head, GDISK),
         &mut state,

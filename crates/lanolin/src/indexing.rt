@@ -6,6 +6,7 @@ ghost use Rattle.lanolin_answers.specs.Values.{got_out, indexed_out};
 
 use format::{Geometry, LfsMdir};
 use lanolin_answers::{GotOut, IndexedOut};
+use sizes::Pair;
 
 #[unsafe(no_mangle)]
 pub extern "C" fn lanolin_index(
@@ -23,7 +24,7 @@ pub extern "C" fn lanolin_index(
     ensures table_after { table.new ≡ index_table g b0.now b1.now n0 n1 dir rules
         table.old }
 {
-    IndexedOut::from(index::lfs_dir_index(g, b0, b1, n0, n1, dir, rules, table))
+    IndexedOut::from(index::lfs_dir_index(Pair { g, b0, b1, n0, n1 }, dir, rules, table))
 }
 
 #[unsafe(no_mangle)]
@@ -43,7 +44,7 @@ pub extern "C" fn lanolin_index_extend(
     ensures table_after { table.new ≡ extend_table g b0.now b1.now n0 n1 old dir rules
         table.old }
 {
-    IndexedOut::from(index::lfs_dir_index_extend(g, b0, b1, n0, n1, old, dir, rules, table))
+    IndexedOut::from(index::lfs_dir_index_extend(Pair { g, b0, b1, n0, n1 }, old, dir, rules, table))
 }
 
 // The entry's tag, length and place.
@@ -65,5 +66,5 @@ pub extern "C" fn lanolin_index_get(
     ensures buffer_after { buffer.new ≡ index_get_buffer g b0.now b1.now n0 n1 dir
         table.now kind id buffer.old }
 {
-    GotOut::from(index::get::lfs_dir_index_get(g, b0, b1, n0, n1, dir, table, kind, id, buffer))
+    GotOut::from(index::get::lfs_dir_index_get(Pair { g, b0, b1, n0, n1 }, dir, table, kind, id, buffer))
 }

@@ -11,6 +11,7 @@ ghost use Rattle.lanolin_answers.specs.Values.{fetched_out, got_out, info_out, n
 
 use format::{Geometry, LfsGstate, LfsMdir};
 use lanolin_answers::{FetchedOut, GotOut, InfoOut, NamedOut, altered_out, fetched_out};
+use sizes::Pair;
 
 #[unsafe(no_mangle)]
 pub extern "C" fn lanolin_fetch(
@@ -26,7 +27,7 @@ pub extern "C" fn lanolin_fetch(
 {
     fetched_out(
         seed,
-        fetch::lfs_dir_fetch(g, b0, b1, n0, n1, block_count, seed),
+        fetch::lfs_dir_fetch(Pair { g, b0, b1, n0, n1 }, block_count, seed),
     )
 }
 
@@ -46,7 +47,7 @@ pub extern "C" fn lanolin_refetch(
 {
     fetched_out(
         seed,
-        fetch::lfs_dir_refetch(g, b0, b1, n0, n1, block_count, seed, dir),
+        fetch::lfs_dir_refetch(Pair { g, b0, b1, n0, n1 }, block_count, seed, dir),
     )
 }
 
@@ -70,7 +71,7 @@ pub extern "C" fn lanolin_getslice(
     ensures buffer_after { buffer.new ≡ getslice_buffer g b0.now b1.now n0 n1 dir gdisk gmask
         gtag goff buffer.old }
 {
-    GotOut::from(lookup::lfs_dir_getslice(g, b0, b1, n0, n1, dir, gdisk, gmask, gtag, goff, buffer))
+    GotOut::from(lookup::lfs_dir_getslice(Pair { g, b0, b1, n0, n1 }, dir, gdisk, gmask, gtag, goff, buffer))
 }
 
 #[unsafe(no_mangle)]
@@ -91,7 +92,7 @@ pub extern "C" fn lanolin_get(
     ensures buffer_after { buffer.new ≡ get_buffer g b0.now b1.now n0 n1 dir gdisk gmask gtag
         buffer.old }
 {
-    GotOut::from(lookup::lfs_dir_get(g, b0, b1, n0, n1, dir, gdisk, gmask, gtag, buffer))
+    GotOut::from(lookup::lfs_dir_get(Pair { g, b0, b1, n0, n1 }, dir, gdisk, gmask, gtag, buffer))
 }
 
 #[unsafe(no_mangle)]
@@ -108,7 +109,7 @@ pub extern "C" fn lanolin_getinfo(
 ) -> InfoOut
     ensures { result ≡ info_out (getinfo_of g b0.now b1.now n0 n1 dir gdisk name_max id) }
 {
-    InfoOut::from(lookup::lfs_dir_getinfo(g, b0, b1, n0, n1, dir, gdisk, name_max, id))
+    InfoOut::from(lookup::lfs_dir_getinfo(Pair { g, b0, b1, n0, n1 }, dir, gdisk, name_max, id))
 }
 
 // The state is handed on, and altered where it stands.
@@ -127,7 +128,7 @@ pub extern "C" fn lanolin_getgstate(
         × (gstate.new ≡ getgstate_state g b0.now b1.now n0 n1 dir gdisk
         gstate.old) }
 {
-    altered_out(lookup::lfs_dir_getgstate(g, b0, b1, n0, n1, dir, gdisk, gstate))
+    altered_out(lookup::lfs_dir_getgstate(Pair { g, b0, b1, n0, n1 }, dir, gdisk, gstate))
 }
 
 // The lowest id whose name has these bytes and this type.
@@ -147,5 +148,5 @@ pub extern "C" fn lanolin_find(
     ensures { result ≡ named_out (find_of g b0.now b1.now n0 n1 block_count seed rules
         name.now type_) }
 {
-    NamedOut::from(find_name::lfs_dir_find(g, b0, b1, n0, n1, block_count, seed, rules, name, type_))
+    NamedOut::from(find_name::lfs_dir_find(Pair { g, b0, b1, n0, n1 }, block_count, seed, rules, name, type_))
 }
