@@ -10,18 +10,15 @@ use Rattle.format.specs.Crc.{crc}
 use Rattle.format.specs.Regular.{count_after}
 use Rattle.format.specs.Commit.{Item, commit_bytes}
 use Rattle.format.specs.Entries.{items_of, entry_item, entry_rule, entry_holds, judge, bad, good}
-use Rattle.format.specs.Writer.{forward_item, forward_items, block_at}
+use Rattle.format.specs.Writer.{forward_item, forward_items}
 use Rattle.format.specs.declared.Entry.{Entry}
 use Rattle.theory.specs.Directory.Machine.{most_slots}
 use Rattle.theory.specs.Rules.JudgedEntries.{good_entry, good_bad}
 use Rattle.commit_lay.specs.Laid.{Laid, laid, puts_of}
 use Rattle.commit_lay.proofs.Puts.{puts_app}
-use Rattle.commit_steps.specs.State.{trio, Onto, onto, state, laid_to, lay_of, laid_of, forward_laid, into, step_of}
-use Rattle.commit_steps.specs.State.{checked_of, sealed_of}
+use Rattle.commit_steps.specs.Steps.{Onto, onto, laid_to, lay_of, laid_of, forward_laid, checked_of, sealed_of}
 use Rattle.commit_steps.specs.declared.Laying.{Laying}
-use Rattle.commit_steps.specs.declared.Phase.TheVariants.{Lay}
-use Rattle.commit.specs.Passes.{seal_t}
-use Rattle.commit.proofs.Folded.{fold_e}
+use Rattle.commit.specs.Passes.{laid_all, written_of}
 use Rattle.commit.proofs.Chained.{last_tag, last_sum, entries_bytes, tag_app, entries_app, check_bytes, bytes_cut}
 use Rattle.commit.proofs.Judges.{tag_is, body_is}
 
@@ -47,7 +44,7 @@ judged_tagged dat (e ∷ es) i c c' low h = go (entry_holds dat c e) refl h
 -- one entry, laid
 laid_item : (dat : List ℕ) (l : Laying) (b : List ℕ) (e : Entry)
     → mk_tag e.kind e.id e.len ≡ tag_of e.kind e.id e.len
-    → laid_of l b dat e.kind e.id e.off e.len
+    → laid_of l b dat e
     ≡ laid_to l (entry_item dat e).tag
     (puts_of (laid l.run b) (to_be32 (xor (entry_item dat e).tag l.prev) ++ (entry_item dat e).body))
 unfolding laid_of lay_of
@@ -59,31 +56,17 @@ module _ (dat : List ℕ) where
   all_laid l b es = laid_to l (last_tag l.prev (items_of dat es))
       (puts_of (laid l.run b) (entries_bytes l.prev (items_of dat es)))
 
-  pub lay_first : (es : List Entry) (l : Laying) (b0 b1 : List ℕ) → Tagged es
-      → fold_e dat (trio (state false (Lay l)) b0 b1) es ≡ into false b0 b1 (all_laid l b0 es)
-  unfolding step_of last_tag entries_bytes puts_of
-  lay_first [] l b0 b1 h = refl
-  lay_first (e ∷ es) l b0 b1 h =
+  lay_pass : (es : List Entry) (l : Laying) (b : List ℕ) → Tagged es → laid_all es dat (onto l b) ≡ all_laid l b es
+  unfolding last_tag entries_bytes puts_of
+  lay_pass [] l b h = refl
+  lay_pass (e ∷ es) l b h =
       let i : Item = entry_item dat e in
-      let s : Laid = puts_of (laid l.run b0) (to_be32 (xor (entry_item dat e).tag l.prev)
+      let s : Laid = puts_of (laid l.run b) (to_be32 (xor (entry_item dat e).tag l.prev)
       ++ (entry_item dat e).body) in
-      rw (laid_item dat l b0 e h.0) (lay_first es (laid_to l i.tag s).to s.block b1 h.1)
-      ∙ ap (λ (u : Laid). into false b0 b1 (laid_to l (last_tag i.tag (items_of dat es)) u))
+      rw (laid_item dat l b e h.0) (lay_pass es (laid_to l i.tag s).to s.block h.1)
+      ∙ ap (λ (u : Laid). laid_to l (last_tag i.tag (items_of dat es)) u)
       (puts_app (to_be32 (xor i.tag l.prev) ++ i.body) (entries_bytes i.tag (items_of dat es))
-      (laid l.run b0))
-
-  pub lay_second : (es : List Entry) (l : Laying) (b0 b1 : List ℕ) → Tagged es
-      → fold_e dat (trio (state true (Lay l)) b0 b1) es ≡ into true b0 b1 (all_laid l b1 es)
-  unfolding step_of last_tag entries_bytes puts_of
-  lay_second [] l b0 b1 h = refl
-  lay_second (e ∷ es) l b0 b1 h =
-      let i : Item = entry_item dat e in
-      let s : Laid = puts_of (laid l.run b1) (to_be32 (xor (entry_item dat e).tag l.prev)
-      ++ (entry_item dat e).body) in
-      rw (laid_item dat l b1 e h.0) (lay_second es (laid_to l i.tag s).to b0 s.block h.1)
-      ∙ ap (λ (u : Laid). into true b0 b1 (laid_to l (last_tag i.tag (items_of dat es)) u))
-      (puts_app (to_be32 (xor i.tag l.prev) ++ i.body) (entries_bytes i.tag (items_of dat es))
-      (laid l.run b1))
+      (laid l.run b))
 
   -- ---- the forward check behind them
   -- the state and the block behind the items is
@@ -140,8 +123,6 @@ module _ (dat : List ℕ) where
           (forward_laid (all_laid l b es).to (all_laid l b es).block).block ≡ done b
       both_done b = ap (λ (o : Onto). checked_of o.to o.block) (forward_done es l b) ∙ checked_done b
 
-      pub sealed_done : (w : Bool) (b0 b1 : List ℕ) → seal_t (into w b0 b1 (all_laid l (block_at w b0 b1) es))
-          ≡ into w b0 b1 (done (block_at w b0 b1))
-      unfolding sealed_of
-      sealed_done false b0 b1 = ap (into false b0 b1) (both_done b0)
-      sealed_done true b0 b1 = ap (into true b0 b1) (both_done b1)
+      pub written_done : (b : List ℕ) → Tagged es → written_of es dat l b ≡ done b
+      unfolding written_of sealed_of
+      written_done b h = ap (λ (o : Onto). sealed_of o.to o.block) (lay_pass es l b h) ∙ both_done b

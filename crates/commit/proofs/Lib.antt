@@ -1,6 +1,5 @@
--- From the code's two passes to format's writer: a pass as a fold, the bytes, the first pass, the second, and both with
--- what is around them.
-pub mod Folded
+-- From the code's two passes to format's writer: the bytes, the first pass, the second, and both with what is around
+-- them.
 pub mod Chained
 pub mod Judges
 pub mod Lays

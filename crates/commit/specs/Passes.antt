@@ -1,44 +1,56 @@
--- A pass over a list of entries, by the number of entries done, and the whole of a commit's steps. Assumes nothing.
-use Rattle.std.specs.Prelude.{List, ℕ, zero, suc, length, get_or}
+-- The two passes over a list of entries, and all of a commit's steps. Assumes nothing.
+use Rattle.std.specs.Prelude.{Bool, true, false, List, ℕ, length, fold, Result, Ok, Err}
+use Rattle.format.specs.Lookup.{block_of}
+use Rattle.format.specs.Writer.{block_at, is_second}
 use Rattle.format.specs.declared.Geometry.{Geometry}
 use Rattle.format.specs.declared.Entry.{Entry}
-use Rattle.commit_steps.specs.State.{Trio, trio, step_of, begun_of, decided_of, sealed_of}
-use Rattle.commit_steps.specs.declared.State.{State}
+use Rattle.format.specs.declared.Refusal.{Refusal}
+use Rattle.commit_steps.specs.Steps.{Onto, onto, and_then, begun_of, judged_of, placed_of, laid_of, sealed_of}
+use Rattle.commit_steps.specs.declared.Judging.{Judging}
+use Rattle.commit_steps.specs.declared.Laying.{Laying}
 
-abbrev pub no_entry : Entry
-no_entry = record { kind = 0; id = 0; off = 0; len = 0 }
+-- the first pass: every entry is judged, up to the first bad one
+abbrev pub judged_all : List Entry → List ℕ → Judging → Result Judging Refusal
+judged_all es dat j = fold (λ r e. and_then r (λ k. judged_of k dat e)) (Ok j) es
 
-abbrev pub entry_at : List Entry → ℕ → Entry
-entry_at es i = get_or es i no_entry
+-- begin, the first pass, and what is between the passes: a refusal, or what is to be laid; `byte` is the erased one
+unfoldable pub decided_of : Geometry → List ℕ → List ℕ → ℕ → ℕ → ℕ → ℕ → ℕ → ℕ → List Entry → List ℕ → ℕ
+    → Result Laying Refusal
+decided_of g b0 b1 n0 n1 count seed rules byte es dat stores =
+    and_then (begun_of g b0 b1 n0 n1 count seed rules byte (length es) dat) (λ j. and_then (judged_all es dat j)
+    (λ k. placed_of byte k g.prog_size (block_of b0 b1 n0 k.old.dir) stores))
 
-abbrev pub step_e : Trio → List ℕ → Entry → Trio
-step_e t dat e = step_of t.st dat t.b0 t.b1 e.kind e.id e.off e.len
+-- the second pass: every entry is laid
+abbrev pub laid_all : List Entry → List ℕ → Onto → Onto
+laid_all es dat o = fold (λ u e. laid_of u.to u.block dat e) o es
 
--- the first n entries, one after the other
-unfoldable pub each_of : ℕ → List Entry → List ℕ → List ℕ → List ℕ → State → Trio
-each_of zero es dat b0 b1 s = trio s b0 b1
-each_of (suc n) es dat b0 b1 s = step_e (each_of n es dat b0 b1 s) dat (entry_at es n)
+-- and what is behind the entries
+unfoldable pub written_of : List Entry → List ℕ → Laying → List ℕ → Onto
+written_of es dat l b =
+    let o : Onto = laid_all es dat (onto l b) in
+    sealed_of o.to o.block
 
-abbrev pub pass_of : List Entry → List ℕ → Trio → Trio
-pass_of es dat t = each_of (length es) es dat t.b0 t.b1 t.st
+-- what a call answers, and leaves in both images
+pub record Left : Type 0 where
+  pub answer : Result Laying Refusal
+  pub b0 : List ℕ
+  pub b1 : List ℕ
 
-abbrev pub decide_t : ℕ → Geometry → ℕ → Trio → Trio
-decide_t byte g stores t = trio (decided_of byte t.st g t.b0 t.b1 stores) t.b0 t.b1
+abbrev pub left : Result Laying Refusal → List ℕ → List ℕ → Left
+left r x y = record { answer = r; b0 = x; b1 = y }
 
-abbrev pub seal_t : Trio → Trio
-seal_t t = sealed_of t.st t.b0 t.b1
+-- the block at a place, as it is laid onto
+abbrev pub into : Bool → List ℕ → List ℕ → Onto → Left
+into false b0 b1 o = left (Ok o.to) o.block b1
+into true b0 b1 o = left (Ok o.to) b0 o.block
 
--- from a begun state: judge every entry, decide; `byte` is the erased one
-unfoldable pub judged_from : State → Geometry → List ℕ → List ℕ → ℕ → List Entry → List ℕ → ℕ → Trio
-judged_from s g b0 b1 byte es dat stores = decide_t byte g stores (pass_of es dat (trio s b0 b1))
+-- "No refusal .. changes an image"; an accepted call lays into the block that answers.
+abbrev pub ran_by : Result Laying Refusal → List ℕ → List ℕ → ℕ → List Entry → List ℕ → Left
+ran_by (Err r) b0 b1 n0 es dat = left (Err r) b0 b1
+ran_by (Ok l) b0 b1 n0 es dat =
+    let w : Bool = is_second n0 l.old.dir in
+    into w b0 b1 (written_of es dat l (block_at w b0 b1))
 
--- from what was decided: lay every entry, seal
-unfoldable pub laid_from : State → List ℕ → List ℕ → List Entry → List ℕ → Trio
-laid_from s b0 b1 es dat = seal_t (pass_of es dat (trio s b0 b1))
-
--- begin, and both
-abbrev pub ran_of : Geometry → List ℕ → List ℕ → ℕ → ℕ → ℕ → ℕ → ℕ → ℕ → List Entry → List ℕ → ℕ → Trio
+abbrev pub ran_of : Geometry → List ℕ → List ℕ → ℕ → ℕ → ℕ → ℕ → ℕ → ℕ → List Entry → List ℕ → ℕ → Left
 ran_of g b0 b1 n0 n1 count seed rules byte es dat stores =
-    let t : Trio =
-    judged_from (begun_of g b0 b1 n0 n1 count seed rules byte (length es) dat) g b0 b1 byte es dat stores in
-    laid_from t.st t.b0 t.b1 es dat
+    ran_by (decided_of g b0 b1 n0 n1 count seed rules byte es dat stores) b0 b1 n0 es dat

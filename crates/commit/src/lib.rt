@@ -1,64 +1,129 @@
 // A commit: "a lent list of entry records (type, id, data offset, length) over a data buffer", appended to the block of
-// a pair that answers. Any blocks, numbers, entries and bytes; a refused call changes nothing. The functions here hold
-// the list of entries and do no more than pass it on: `each` is the one loop over it, run twice, and hands an entry's
-// numbers to `commit_steps::step`.
+// a pair that answers. Any blocks, numbers, entries and bytes. Two passes over the entries: the first judges, and only
+// reads, so a refused call changes nothing; the second lays.
 #![tactic(auto)]
 
 ghost use Rattle.std.specs.Prelude.{◌≡◌, length};
 ghost use Rattle.format.specs.Writer.{commit_of, commit_stores_of};
 ghost use Rattle.format.specs.Stopped.{CommitLeaves, CommitStoresLeaves};
-ghost use Rattle.commit_steps.specs.State.{trio};
-ghost use Rattle.commit.specs.Passes.{each_of, judged_from, laid_from};
+ghost use Rattle.commit_steps.specs.Steps.{onto};
+ghost use Rattle.commit.specs.Passes.{judged_all, decided_of, laid_all, written_of, left, ran_of};
 
-use commit_steps::State;
-use format::{Entry, Geometry};
+use commit_steps::{Judging, Laying};
+use fetch::lfs_dir_refetch;
+use format::types::UNLIMITED;
+use format::{Entry, Fetched, Geometry, Refusal};
 
-// One pass over the entries.
-fn each(es: &[Entry], dat: &[u8], b0: &mut [u8], b1: &mut [u8], st: State) -> State
-    ensures { trio result b0.new b1.new ≡ each_of (length es.now) es.now
-        dat.now b0.old b1.old st }
+// The first pass.
+fn judge_all(entries: &[Entry], dat: &[u8], begun: Judging) -> Result<Judging, Refusal>
+    ensures { result ≡ judged_all entries.now dat.now begun }
 {
-    let mut s = st;
-    let mut i = 0;
-    while i < es.len() {
-        let e = es[i];
-        s = commit_steps::step(s, dat, b0, b1, e.kind, e.id, e.off, e.len);
-        i += 1;
+    let mut j = begun;
+    for e in entries {
+        j = commit_steps::judge_entry(j, dat, *e)?;
     }
-    s
+    Ok(j)
 }
 
-// The first pass, from a begun state: judge every entry, and decide. Each function here holds few states, and fetch
-// runs outside of both passes: so little stack is taken at once, which a call of its own keeps so.
-#[inline(never)]
-fn judge(
-    s: State,
+// Whether the commit is refused, and else what is to be laid into the block that answers.
+#[tactic(auto, unfolding(crate::specs::Passes::decided_of))]
+fn decide(
     g: Geometry,
-    b0: &mut [u8],
-    b1: &mut [u8],
+    b0: &[u8],
+    b1: &[u8],
+    n0: u32,
+    n1: u32,
+    block_count: u32,
+    seed: u32,
+    rules: u32,
     erased: u8,
     entries: &[Entry],
     dat: &[u8],
     stores: u32,
-) -> State
-    ensures { trio result b0.new b1.new ≡ judged_from s g b0.old b1.old
+) -> Result<Laying, Refusal>
+    ensures { result ≡ decided_of g b0.now b1.now n0 n1 block_count seed rules erased
+        entries.now dat.now stores }
+{
+    let begun = commit_steps::begin(
+        g,
+        b0,
+        b1,
+        n0,
+        n1,
+        block_count,
+        seed,
+        rules,
+        erased,
+        entries.len(),
+        dat,
+    )?;
+    let judged = judge_all(entries, dat, begun)?;
+    let b = sizes::block_of(b0, b1, n0, judged.old.dir);
+    commit_steps::place(erased, judged, g.prog_size, b, stores)
+}
+
+// The second pass.
+fn lay_all(b: &mut [u8], entries: &[Entry], dat: &[u8], decided: Laying) -> Laying
+    ensures { onto result b.new ≡ laid_all entries.now dat.now (onto decided b.old) }
+{
+    let mut l = decided;
+    for e in entries {
+        l = commit_steps::lay_entry(b, l, dat, *e);
+    }
+    l
+}
+
+// Every entry, and the check.
+#[tactic(auto, unfolding(crate::specs::Passes::written_of))]
+fn write(b: &mut [u8], entries: &[Entry], dat: &[u8], decided: Laying) -> Laying
+    ensures { onto result b.new ≡ written_of entries.now dat.now decided b.old }
+{
+    let laid = lay_all(b, entries, dat, decided);
+    commit_steps::seal(b, laid)
+}
+
+// Both passes, with a limit of stores.
+fn run(
+    g: Geometry,
+    b0: &mut [u8],
+    b1: &mut [u8],
+    n0: u32,
+    n1: u32,
+    block_count: u32,
+    seed: u32,
+    rules: u32,
+    erased: u8,
+    entries: &[Entry],
+    dat: &[u8],
+    stores: u32,
+) -> Result<Laying, Refusal>
+    ensures { left result b0.new b1.new ≡ ran_of g b0.old b1.old n0 n1 block_count seed rules
         erased entries.now dat.now stores }
 {
-    let judged = each(entries, dat, b0, b1, s);
-    commit_steps::decide(erased, judged, g, b0, b1, stores)
+    let decided = decide(
+        g,
+        b0,
+        b1,
+        n0,
+        n1,
+        block_count,
+        seed,
+        rules,
+        erased,
+        entries,
+        dat,
+        stores,
+    )?;
+    if decided.old.dir.pair.n0 == n0 {
+        Ok(write(b0, entries, dat, decided))
+    } else {
+        Ok(write(b1, entries, dat, decided))
+    }
 }
 
-// The second pass, from what was decided: lay every entry and the check.
-fn lay(s: State, b0: &mut [u8], b1: &mut [u8], entries: &[Entry], dat: &[u8]) -> State
-    ensures { trio result b0.new b1.new ≡ laid_from s b0.old b1.old
-        entries.now dat.now }
-{
-    let laid = each(entries, dat, b0, b1, s);
-    commit_steps::seal(laid, b0, b1)
-}
-
-// "An accepted call answers what fetch gives on the finished pair from the same seed." `CommitLeaves` says what stands
-// in both images then, and has demand 3: wherever the call is stopped, the pair reads as finished or as never begun.
+// "An accepted call answers what fetch gives on the finished pair from the same seed": a refetch from the old record
+// gives the same, and walks no more than the commit that was laid. `CommitLeaves` says what stands in both images then,
+// and has demand 3: wherever the call is stopped, the pair reads as finished or as never begun.
 pub fn lfs_dir_commit(
     g: Geometry,
     b0: &mut [u8],
@@ -77,8 +142,7 @@ pub fn lfs_dir_commit(
         × CommitLeaves g b0.old b1.old n0 n1 block_count seed rules erased
         entries.now dat.now b0.new b1.new }
 {
-    let all = commit_steps::unlimited();
-    let begun = commit_steps::begin(
+    let laid = run(
         g,
         b0,
         b1,
@@ -88,12 +152,11 @@ pub fn lfs_dir_commit(
         seed,
         rules,
         erased,
-        entries.len(),
+        entries,
         dat,
-    );
-    let decided = judge(begun, g, b0, b1, erased, entries, dat, all);
-    let laid = lay(decided, b0, b1, entries, dat);
-    commit_steps::answer(laid, g, b0, b1, n0, n1, block_count)
+        UNLIMITED,
+    )?;
+    lfs_dir_refetch(g, b0, b1, n0, n1, block_count, laid.old.seed, laid.old.dir)
 }
 
 // The same "with a limit of n stores: exactly the first n of demand 3's list are made (all, if n is larger) and the
@@ -117,7 +180,7 @@ pub fn lfs_dir_commit_stores(
         × CommitStoresLeaves g b0.old b1.old n0 n1 block_count seed rules erased
         entries.now dat.now stores b0.new b1.new }
 {
-    let begun = commit_steps::begin(
+    let laid = run(
         g,
         b0,
         b1,
@@ -127,10 +190,9 @@ pub fn lfs_dir_commit_stores(
         seed,
         rules,
         erased,
-        entries.len(),
+        entries,
         dat,
-    );
-    let decided = judge(begun, g, b0, b1, erased, entries, dat, stores);
-    let laid = lay(decided, b0, b1, entries, dat);
-    commit_steps::made(laid, stores)
+        stores,
+    )?;
+    Ok(commit_steps::made(laid, stores))
 }
