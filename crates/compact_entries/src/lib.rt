@@ -85,10 +85,8 @@ fn slot(old: &[u8], new: &mut [u8], e: Emit, id: u32, seats: &[u32; 516]) -> Emi
         (create_item id ∷ slot_items classes 0 id (slot_in old.now seats.now)) }
 {
     let mut w = create(old, new, e, id);
-    let mut class = 0;
-    while class < compact_slot::CLASSES {
+    for class in 0..compact_slot::CLASSES {
         w = found_entry(old, new, w, compact_slot::found(seats, class));
-        class += 1;
     }
     w
 }
@@ -101,11 +99,9 @@ fn slots(old: &[u8], new: &mut [u8], e: Emit, end: usize, etag: u32, count: u32)
 {
     let mut seats = [0u32; 516];
     let mut w = e;
-    let mut id: u32 = 0;
-    while id < count {
+    for id in 0..count {
         compact_slot::gather_into(old, end, etag, id, &mut seats);
         w = slot(old, new, w, id, &seats);
-        id += 1;
     }
     w
 }
@@ -143,12 +139,10 @@ fn placed_slots(old: &[u8], new: &mut [u8], e: Emit, count: u32, places: &[u32])
 {
     let mut w = e;
     let mut at = 0;
-    let mut id: u32 = 0;
-    while id < count {
+    for id in 0..count {
         let part = placed_slot(old, new, w, id, places, at);
         w = part.emit;
         at = part.at;
-        id += 1;
     }
     w
 }

@@ -1,6 +1,6 @@
 -- `compact_entries::placed_slots` meets its contract. The loop keeps where all slots end, from here, and that the
 -- places
--- of the slots to come stand from `at` on (`Passing`); the slots that are left fall. Assumes nothing.
+-- of the slots to come stand from `at` on (`Passing`). Assumes nothing.
 use mathlib.Core.Path.{refl}
 use native.Mathlib.Omega.{arith}
 use Rattle.compact_entries.proofs.Placed.{passes, all_passed, slot_placed, slot_end, slot_passed}
@@ -34,9 +34,3 @@ loop-id-preserved c =
 pub returns : goal.returns
 returns c = all_passed _ _ _ _ c.requires _ _ _ _ c.loop-id.invariant.3
     c.loop-id-test.false
-
-pub overflow_add-id : goal.overflow_add-id
-overflow_add-id c = omega arith
-
-pub loop-id-smaller : goal.loop-id-smaller
-loop-id-smaller c = omega arith

