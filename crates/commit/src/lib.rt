@@ -6,6 +6,7 @@
 ghost use Rattle.std.specs.Prelude.{◌≡◌, length};
 ghost use Rattle.format.specs.Writer.{commit_of, commit_stores_of};
 ghost use Rattle.format.specs.Stopped.{CommitLeaves, CommitStoresLeaves};
+ghost use Rattle.sizes.specs.Lent.{of};
 ghost use Rattle.commit_steps.specs.Steps.{onto};
 ghost use Rattle.commit.specs.Passes.{judged_all, decided_of, laid_all, written_of, left, ran_of};
 
@@ -13,6 +14,7 @@ use commit_steps::{Judging, Laying};
 use fetch::lfs_dir_refetch;
 use format::types::UNLIMITED;
 use format::{Entry, Fetched, Geometry, Refusal};
+use sizes::Pair;
 
 // The first pass.
 fn judge_all(entries: &[Entry], dat: &[u8], begun: Judging) -> Result<Judging, Refusal>
@@ -28,11 +30,7 @@ fn judge_all(entries: &[Entry], dat: &[u8], begun: Judging) -> Result<Judging, R
 // Whether the commit is refused, and else what is to be laid into the block that answers.
 #[tactic(auto, unfolding(crate::specs::Passes::decided_of))]
 fn decide(
-    g: Geometry,
-    b0: &[u8],
-    b1: &[u8],
-    n0: u32,
-    n1: u32,
+    pair: Pair,
     block_count: u32,
     seed: u32,
     rules: u32,
@@ -41,25 +39,13 @@ fn decide(
     dat: &[u8],
     stores: u32,
 ) -> Result<Laying, Refusal>
-    ensures { result ≡ decided_of g b0.now b1.now n0 n1 block_count seed rules erased
+    ensures { result ≡ of pair.entry decided_of block_count seed rules erased
         entries.now dat.now stores }
 {
-    let begun = commit_steps::begin(
-        g,
-        b0,
-        b1,
-        n0,
-        n1,
-        block_count,
-        seed,
-        rules,
-        erased,
-        entries.len(),
-        dat,
-    )?;
+    let begun = commit_steps::begin(pair, block_count, seed, rules, erased, entries.len(), dat)?;
     let judged = judge_all(entries, dat, begun)?;
-    let b = sizes::block_of(b0, b1, n0, judged.old.dir);
-    commit_steps::place(erased, judged, g.prog_size, b, stores)
+    let b = pair.block_of(judged.old.dir);
+    commit_steps::place(erased, judged, pair.g.prog_size, b, stores)
 }
 
 // The second pass.
@@ -100,20 +86,8 @@ fn run(
     ensures { left result b0.new b1.new ≡ ran_of g b0.old b1.old n0 n1 block_count seed rules
         erased entries.now dat.now stores }
 {
-    let decided = decide(
-        g,
-        b0,
-        b1,
-        n0,
-        n1,
-        block_count,
-        seed,
-        rules,
-        erased,
-        entries,
-        dat,
-        stores,
-    )?;
+    let pair = Pair { g, b0, b1, n0, n1 };
+    let decided = decide(pair, block_count, seed, rules, erased, entries, dat, stores)?;
     if decided.old.dir.pair.n0 == n0 {
         Ok(write(b0, entries, dat, decided))
     } else {
@@ -156,7 +130,8 @@ pub fn lfs_dir_commit(
         dat,
         UNLIMITED,
     )?;
-    lfs_dir_refetch(g, b0, b1, n0, n1, block_count, laid.old.seed, laid.old.dir)
+    let pair = Pair { g, b0, b1, n0, n1 };
+    lfs_dir_refetch(pair, block_count, laid.old.seed, laid.old.dir)
 }
 
 // The same "with a limit of n stores: exactly the first n of demand 3's list are made (all, if n is larger) and the

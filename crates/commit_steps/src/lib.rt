@@ -5,6 +5,7 @@
 
 ghost use Rattle.std.specs.Prelude.{◌≡◌, ◌-◌, ◌≤◌, length};
 ghost use Rattle.format.specs.Regular.{rules_of};
+ghost use Rattle.sizes.specs.Lent.{of};
 ghost use Rattle.commit_regular.specs.Ends.{CommittedTo};
 ghost use Rattle.commit_lay.specs.Laid.{body_of};
 ghost use Rattle.commit_steps.specs.Steps.{onto, begun_of, started_of, judged_of, summed_of, forward_summed};
@@ -13,7 +14,8 @@ ghost use Rattle.commit_steps.specs.Steps.{placed_of, tested_of, laid_of, lay_of
 use commit_lay::Run;
 use fetch::lfs_dir_fetch;
 use format::types::CRC_START;
-use format::{Entry, Fetched, Geometry, LfsFcrc, Refusal, Rules};
+use format::{Entry, Fetched, LfsFcrc, Refusal, Rules};
+use sizes::Pair;
 
 // "Lookup buffer and entry data at most 65,536 bytes each; at most 8,192 entries"
 const MOST_DATA: usize = 65_536;
@@ -48,11 +50,7 @@ pub struct Laying {
 // the erased byte "0xff or 0x00".
 #[tactic(auto, unfolding(crate::specs::Steps::begun_of, format::specs::Writer::commit_fits))]
 pub fn begin(
-    g: Geometry,
-    b0: &[u8],
-    b1: &[u8],
-    n0: u32,
-    n1: u32,
+    pair: Pair,
     block_count: u32,
     seed: u32,
     rules: u32,
@@ -60,10 +58,10 @@ pub fn begin(
     entries: usize,
     dat: &[u8],
 ) -> Result<Judging, Refusal>
-    ensures { result ≡ begun_of g b0.now b1.now n0 n1 block_count seed rules erased entries
+    ensures { result ≡ of pair.entry begun_of block_count seed rules erased entries
         dat.now }
 {
-    let fits = sizes::pair_fits(g, b0.len(), b1.len(), n0, n1)
+    let fits = pair.fits()
         & (dat.len() <= MOST_DATA)
         & (entries <= MOST_ENTRIES)
         & sizes::writes_fit(rules, erased);
@@ -71,8 +69,8 @@ pub fn begin(
         return Err(Refusal::Invalid);
     }
     let rules = Rules::try_from(rules)?;
-    let old = lfs_dir_fetch(g, b0, b1, n0, n1, block_count, seed)?;
-    start(sizes::block_of(b0, b1, n0, old.dir), old, rules)
+    let old = lfs_dir_fetch(pair, block_count, seed)?;
+    start(pair.block_of(old.dir), old, rules)
 }
 
 // The log of the block that answers must be regular by the rule. Entries run against the record's count.
