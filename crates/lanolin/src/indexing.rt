@@ -44,7 +44,13 @@ pub extern "C" fn lanolin_index_extend(
     ensures table_after { table.new ≡ extend_table g b0.now b1.now n0 n1 old dir rules
         table.old }
 {
-    IndexedOut::from(index::lfs_dir_index_extend(Pair { g, b0, b1, n0, n1 }, old, dir, rules, table))
+    IndexedOut::from(index::lfs_dir_index_extend(
+        Pair { g, b0, b1, n0, n1 },
+        old,
+        dir,
+        rules,
+        table,
+    ))
 }
 
 // The entry's tag, length and place.
@@ -66,5 +72,12 @@ pub extern "C" fn lanolin_index_get(
     ensures buffer_after { buffer.new ≡ index_get_buffer g b0.now b1.now n0 n1 dir
         table.now kind id buffer.old }
 {
-    GotOut::from(index::get::lfs_dir_index_get(Pair { g, b0, b1, n0, n1 }, dir, table, kind, id, buffer))
+    GotOut::from(index::get::lfs_dir_index_get(
+        Pair { g, b0, b1, n0, n1 },
+        dir,
+        table,
+        kind,
+        id,
+        buffer,
+    ))
 }

@@ -71,7 +71,15 @@ pub extern "C" fn lanolin_getslice(
     ensures buffer_after { buffer.new ≡ getslice_buffer g b0.now b1.now n0 n1 dir gdisk gmask
         gtag goff buffer.old }
 {
-    GotOut::from(lookup::lfs_dir_getslice(Pair { g, b0, b1, n0, n1 }, dir, gdisk, gmask, gtag, goff, buffer))
+    GotOut::from(lookup::lfs_dir_getslice(
+        Pair { g, b0, b1, n0, n1 },
+        dir,
+        gdisk,
+        gmask,
+        gtag,
+        goff,
+        buffer,
+    ))
 }
 
 #[unsafe(no_mangle)]
@@ -148,5 +156,12 @@ pub extern "C" fn lanolin_find(
     ensures { result ≡ named_out (find_of g b0.now b1.now n0 n1 block_count seed rules
         name.now type_) }
 {
-    NamedOut::from(find_name::lfs_dir_find(Pair { g, b0, b1, n0, n1 }, block_count, seed, rules, name, type_))
+    NamedOut::from(find_name::lfs_dir_find(
+        Pair { g, b0, b1, n0, n1 },
+        block_count,
+        seed,
+        rules,
+        name,
+        type_,
+    ))
 }
