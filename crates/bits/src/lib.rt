@@ -10,7 +10,7 @@ ghost use Rattle.format.specs.Arith.{npw2, ctz, popc};
 pub fn lfs_npw2(a: u32) -> u32
     ensures { result ≡ npw2 a }
 {
-    util::lfs_max(1, 32 - u32::leading_zeros(std::num::wrapping_sub_u32(a, 1)))
+    util::lfs_max(1, 32 - u32::leading_zeros(a.wrapping_sub(1)))
 }
 
 // Per lfs_util.h lfs_ctz: how many zeros stand below the lowest set digit; 0 for 0, where the language counts 32.

@@ -18,7 +18,7 @@ pub fn agree(a: u32) -> bool
 pub fn lfs_npw2(a: u32) -> u32
     ensures { result ≡ npw2 a }
 {
-    let a4 = std::num::wrapping_sub_u32(a, 1);
+    let a4 = a.wrapping_sub(1);
     let s4 = (a4 > 0xffff) as u32;
     let a3 = a4 >> (s4 << 4);
     let s3 = (a3 > 0xff) as u32;
@@ -34,8 +34,8 @@ pub fn lfs_npw2(a: u32) -> u32
 pub fn lfs_ctz(a: u32) -> u32
     ensures { result ≡ ctz a }
 {
-    let low = a & std::num::wrapping_sub_u32(0, a);
-    lfs_npw2(std::num::wrapping_add_u32(low, 1)) - 1
+    let low = a & a.wrapping_neg();
+    lfs_npw2(low.wrapping_add(1)) - 1
 }
 
 // Per util.rs lfs_popc: the set digits of each two, of each four, of each byte, and of all bytes by a product. The
@@ -45,6 +45,6 @@ pub fn lfs_popc(a: u32) -> u32
 {
     let twos = a - (a >> 1 & 0x5555_5555);
     let fours = (twos & 0x3333_3333) + (twos >> 2 & 0x3333_3333);
-    let bytes = std::num::wrapping_add_u32(fours, fours >> 4) & 0x0f0f_0f0f;
+    let bytes = fours.wrapping_add(fours >> 4) & 0x0f0f_0f0f;
     ((bytes as u64) * 0x0101_0101 >> 24 & 0xff) as u32
 }

@@ -30,13 +30,11 @@ fn show(rt: &impl Print, a: u32) -> io::Result<()> {
 
 // 2 to the k and its neighbours.
 fn corners(rt: &impl Print) -> io::Result<()> {
-    let mut k = 0u32;
-    while k < 32 {
+    for k in 0..32u32 {
         let power = 1u32 << k;
         show(rt, power.wrapping_sub(1))?;
         show(rt, power)?;
         show(rt, power.wrapping_add(1))?;
-        k += 1;
     }
     show(rt, 0xffff_ffff)
 }
@@ -82,12 +80,10 @@ fn sum_line(rt: &impl Print, label: &str, sum: u32) -> io::Result<()> {
 fn many(rt: &impl Print) -> io::Result<()> {
     let mut counts = 0xffff_ffffu32;
     let mut shifts = 0xffff_ffffu32;
-    let mut i = 0u32;
-    while i < WORDS {
+    for i in 0..WORDS {
         let a = word(i);
         counts = by_counts(counts, a);
         shifts = by_shifts(shifts, a);
-        i += 1;
     }
     number(rt, "words ", WORDS)?;
     sum_line(rt, "\nby counts ", counts)?;

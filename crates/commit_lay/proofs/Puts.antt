@@ -3,18 +3,14 @@
 use mathlib.Core.Path.{◌≡◌, refl, sym, ap, ◌∙◌}
 use mathlib.Core.Bool.{Bool, true, false, cond}
 use mathlib.Core.List.{List, [], ◌∷◌, ◌++◌}
-use Prim.Native.Nat.{ℕ, ◌+◌, ◌-◌, ◌≤◌, ◌<◌}
+use Prim.Native.Nat.{ℕ, ◌+◌, ◌≤◌, ◌<◌}
 use native.Mathlib.Numerals.{add-one}
-use lib.ListN.{length, get_or, take, drop, length-set}
-use lib.Seq.{take-suc, take_all}
+use lib.ListN.{length, get_or, take, length-set}
+use lib.Seq.{take-suc}
 use lib.Dec.{eqb, leb}
 use borrow.Author.Tests.{eq-eqb, ne_eqb, le-leb, lt-leb}
-use Rattle.format.specs.Word.{to_be32}
-use Rattle.format.specs.Crc.{crc}
-use Rattle.format.proofs.Checksum.{crc_append}
-use Rattle.commit_lay.specs.Laid.{Laid, laid, moved, put_of, puts_of, body_of, Part}
+use Rattle.commit_lay.specs.Laid.{Laid, laid, moved, put_of, puts_of}
 use Rattle.commit_lay.specs.declared.Run.{Run}
-use Rattle.commit_lay.specs.declared.Span.{Span}
 
 -- ---- one store
 module _ (w : Run) (b : List ℕ) (x : ℕ) where
@@ -62,19 +58,3 @@ unfolding puts_of
 puts_more bs i s r t h e f =
     f ∙ ap (λ (u : Laid). put_of u (get_or bs i 0)) e ∙ puts_app (take i bs) (get_or bs i 0 ∷ []) s
     ∙ ap (puts_of s) (sym (take-suc bs i 0 h) ∙ ap (λ (n : ℕ). take n bs) (sym (add-one i)))
-
--- all of them
-pub puts_all : (bs : List ℕ) (i : ℕ) (s r : Laid) → length bs ≤ i → r ≡ puts_of s (take i bs) → r ≡ puts_of s bs
-puts_all bs i s r h e = e ∙ ap (puts_of s) (take_all i bs h)
-
--- ---- an entry: s is the part that `body` answers
-module _ (dat : List ℕ) (off len word : ℕ) (s : Span) (p : Part dat off len s) where
-  -- x and y are what `sum_be32` and `lfs_crc` answer
-  pub entry_summed : (sum x y : ℕ) → x ≡ crc sum (to_be32 word) → y ≡ crc x (take (s.to - s.from) (drop s.from dat))
-      → y ≡ crc sum (to_be32 word ++ body_of dat off len)
-  entry_summed sum x y ex ey = ey ∙ rw (ex, p.is) (sym (crc_append sum (to_be32 word) (body_of dat off len)))
-
-  -- t and u are what `put_be32` and `put_all` leave
-  pub entry_put : (r t u : Laid) → t ≡ puts_of r (to_be32 word)
-      → u ≡ puts_of t (take (s.to - s.from) (drop s.from dat)) → u ≡ puts_of r (to_be32 word ++ body_of dat off len)
-  entry_put r t u et eu = eu ∙ rw (et, p.is) (puts_app (to_be32 word) (body_of dat off len) r)

@@ -1,8 +1,7 @@
 -- Single stores under a limit, one after the other, and the data of an entry in its buffer. Assumes nothing.
-use Rattle.std.specs.Prelude.{◌≡◌, Bool, cond, ◌||◌, List, [], ◌∷◌, ℕ, ◌+◌, ◌-◌, ◌≤◌, length, take, drop, set, leb, eqb}
+use Rattle.std.specs.Prelude.{Bool, cond, ◌||◌, List, [], ◌∷◌, ℕ, ◌+◌, ◌-◌, length, take, drop, set, leb, eqb}
 use Rattle.format.specs.Tag.{removal_size}
 use Rattle.commit_lay.specs.declared.Run.{Run}
-use Rattle.commit_lay.specs.declared.Span.{Span}
 
 -- a run of stores and the block that they go to
 pub record Laid : Type 0 where
@@ -29,9 +28,3 @@ body_of dat off len = cond (eqb len removal_size) [] (take len (drop off dat))
 
 abbrev pub in_buffer_of : List ℕ → ℕ → ℕ → Bool
 in_buffer_of dat off len = eqb len removal_size || leb (off + len) (length dat)
-
--- a part of the buffer that is an entry's data
-pub record Part (dat : List ℕ) (off len : ℕ) (s : Span) : Type 0 where
-  pub order : s.from ≤ s.to
-  pub inside : s.to ≤ length dat
-  pub is : take (s.to - s.from) (drop s.from dat) ≡ body_of dat off len

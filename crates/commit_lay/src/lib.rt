@@ -3,10 +3,10 @@
 // there.
 #![tactic(auto)]
 
-ghost use Rattle.std.specs.Prelude.{◌≡◌, ◌++◌, min};
+ghost use Rattle.std.specs.Prelude.{◌≡◌, ◌++◌};
 ghost use Rattle.format.specs.Word.{to_be32, to_le32};
 ghost use Rattle.format.specs.Crc.{crc};
-ghost use Rattle.commit_lay.specs.Laid.{laid, put_of, puts_of, Part, body_of, in_buffer_of};
+ghost use Rattle.commit_lay.specs.Laid.{laid, put_of, puts_of, body_of, in_buffer_of};
 
 use format::types::REMOVAL;
 
@@ -15,13 +15,6 @@ use format::types::REMOVAL;
 pub struct Run {
     pub at: usize,
     pub left: u32,
-}
-
-// Where the data of an entry begin and end in the buffer.
-#[derive(Clone, Copy)]
-pub struct Span {
-    pub from: usize,
-    pub to: usize,
 }
 
 // One store.
@@ -48,10 +41,8 @@ fn put_all(b: &mut [u8], run: Run, bytes: &[u8]) -> Run
     ensures { laid result b.new ≡ puts_of (laid run b.old) bytes.now }
 {
     let mut w = run;
-    let mut i = 0;
-    while i < bytes.len() {
-        w = put(b, w, bytes[i]);
-        i += 1;
+    for byte in bytes {
+        w = put(b, w, *byte);
     }
     w
 }
@@ -88,26 +79,16 @@ pub fn in_buffer(dat: &[u8], off: u32, len: u32) -> bool
     (len == REMOVAL) | (end <= dat.len())
 }
 
-fn least(a: usize, b: usize) -> usize
-    ensures { result ≡ min a b }
-{
-    if a < b { a } else { b }
-}
-
 // The data of an entry: none for a removal.
-fn body(dat: &[u8], off: u32, len: u32) -> Span
-    ensures { Part dat.now off len result }
+fn body<'a>(dat: &'a [u8], off: u32, len: u32) -> &'a [u8]
+    ensures { result.now ≡ body_of dat.now off len }
 {
     if len == REMOVAL {
-        return Span { from: 0, to: 0 };
+        return &[];
     }
-    let n = dat.len();
-    let from = least(off as usize, n);
-    let size = least(len as usize, n - from);
-    Span {
-        from,
-        to: from + size,
-    }
+    let from = dat.len().min(off as usize);
+    let size = (dat.len() - from).min(len as usize);
+    &dat[from..from + size]
 }
 
 // An entry: its tag as it is stored, and its data.
@@ -115,19 +96,13 @@ pub fn put_entry(b: &mut [u8], run: Run, word: u32, dat: &[u8], off: u32, len: u
     ensures { laid result b.new ≡ puts_of (laid run b.old)
         (to_be32 word ++ body_of dat.now off len) }
 {
-    let s = body(dat, off, len);
-    let from = s.from;
-    let to = s.to;
     let w = put_be32(b, run, word);
-    put_all(b, w, &dat[from..to])
+    put_all(b, w, body(dat, off, len))
 }
 
 // The checksum behind an entry.
 pub fn sum_entry(sum: u32, word: u32, dat: &[u8], off: u32, len: u32) -> u32
     ensures { result ≡ crc sum (to_be32 word ++ body_of dat.now off len) }
 {
-    let s = body(dat, off, len);
-    let from = s.from;
-    let to = s.to;
-    crc::lfs_crc(sum_be32(sum, word), &dat[from..to])
+    crc::lfs_crc(sum_be32(sum, word), body(dat, off, len))
 }

@@ -53,10 +53,8 @@ fn unit_sum(erased: u8, prog: u32) -> u32
     ensures { result ≡ (unit_check erased prog).sum }
 {
     let mut sum = CRC_START;
-    let mut n = 0;
-    while n < prog {
+    for _ in 0..prog {
         sum = crc::lfs_crc_byte(sum, erased);
-        n += 1;
     }
     sum
 }
@@ -81,8 +79,8 @@ pub fn forward(erased: u8, prog: u32, block: usize, at: usize) -> LfsFcrc
     }
 }
 
-// Past erased bytes from the old end on, eight at a step, as far as eight follow: the compiler makes one comparison of
-// the eight, and the room is most of what a commit reads beside its fetch.
+// Past erased bytes from the old end on, eight at a step, as far as eight follow. For speed, since the room is most of
+// what a commit reads beside its fetch: the compiler makes one comparison of the eight, where `all` would stop at each.
 fn past_eights(erased: u8, b: &[u8], end: usize) -> usize
     ensures { first_unerased erased b.now result ≡ first_unerased erased b.now end }
 {
@@ -111,14 +109,13 @@ fn past_eights(erased: u8, b: &[u8], end: usize) -> usize
 fn first_unerased(erased: u8, b: &[u8], end: usize) -> usize
     ensures { result ≡ first_unerased erased b.now end }
 {
-    let mut i = past_eights(erased, b, end);
-    while i < b.len() {
+    let at = past_eights(erased, b, end);
+    for i in at..b.len() {
         if b[i] != erased {
             return i;
         }
-        i += 1;
     }
-    i
+    at.max(b.len())
 }
 
 // "bit 31 of the end tag clear for 0xff, set for 0x00"

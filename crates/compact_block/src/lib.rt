@@ -9,7 +9,6 @@ ghost use Rattle.format.specs.Crc.{crc};
 ghost use Rattle.format.specs.Log.{log};
 ghost use Rattle.format.specs.Regular.{Regular};
 ghost use Rattle.format.specs.declared.Rules.TheVariants.{Littlefs};
-ghost use Rattle.format.specs.Erased.{erased};
 ghost use Rattle.format.specs.Compaction.{compact_stores, compactable, compact_made};
 ghost use Rattle.format.specs.Index.{table_renewed};
 ghost use Rattle.compact_entries.specs.Placed.{Indexes};
@@ -20,17 +19,6 @@ use commit_lay::Run;
 use compact_entries::Emit;
 use format::types::{CRC_START, FIRST_PREV};
 use format::{LfsMdir, Refusal, Rules};
-
-// "erases the block ..", to the erased byte: one store.
-fn erase(b: &mut [u8], byte: u8)
-    ensures { b.new ≡ erased byte (length b.old) }
-{
-    let mut i = 0;
-    while i < b.len() {
-        b[i] = byte;
-        i += 1;
-    }
-}
 
 // The checksum behind the revision's four bytes.
 fn sum_rev(rev: u32) -> u32
@@ -72,7 +60,8 @@ fn write(
     if stores == 0 {
         return 0;
     }
-    erase(new, erased);
+    // "erases the block ..", to the erased byte: one store
+    new.fill(erased);
     let first = Run {
         at: 0,
         left: stores - 1,

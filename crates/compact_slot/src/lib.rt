@@ -9,8 +9,8 @@ ghost use Rattle.theory.specs.Back.BackActs.{seen};
 ghost use Rattle.format.specs.Directory.{seat_class};
 ghost use Rattle.compact_slot.specs.Seat.{hit_at, created_at, id_before, noted, Gatherable, Gathered};
 
-use format::types::*;
 use format::Found;
+use format::types::*;
 
 // A name, a struct, and 256 user attributes.
 pub const CLASSES: usize = 258;
@@ -105,7 +105,7 @@ pub fn gather_into(b: &[u8], end: usize, etag: u32, id: u32, seats: &mut [u32; 5
     ensures { Gathered b.now (map (seen b.now) (back b.now end etag)) id
         seats.new }
 {
-    *seats = [0u32; 516];
+    seats.fill(0);
     let mut off = end;
     let mut tag = etag;
     let mut slot = id as usize;

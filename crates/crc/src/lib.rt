@@ -63,10 +63,8 @@ pub fn lfs_crc(sum: u32, buffer: &[u8]) -> u32
 {
     let table = rtable();
     let mut s = sum;
-    let mut i = 0;
-    while i < buffer.len() {
-        s = byte_by(&table, s, buffer[i]);
-        i += 1;
+    for byte in buffer {
+        s = byte_by(&table, s, *byte);
     }
     s
 }

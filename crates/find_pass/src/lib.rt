@@ -9,7 +9,7 @@ ghost use Rattle.format.specs.Tag.{tag_type3, tag_id, tag_size};
 ghost use Rattle.format.specs.Log.{log};
 ghost use Rattle.format.specs.Walk.{body_of};
 ghost use Rattle.format.specs.Directory.{act};
-ghost use Rattle.format.specs.Find.{same_bytes, is_named, find_in};
+ghost use Rattle.format.specs.Find.{is_named, find_in};
 ghost use Rattle.format.specs.Regular.{count_raised};
 ghost use Rattle.commit_rules.specs.Rules.{rule_as, passed_by};
 ghost use Rattle.commit_regular.specs.Ends.{CommittedTo};
@@ -21,23 +21,6 @@ use fetch_walk::cursor;
 use format::types::*;
 use format::{Refusal, Rules};
 
-// "exactly these bytes"
-fn same_bytes(a: &[u8], b: &[u8]) -> bool
-    ensures { result ≡ same_bytes a.now b.now }
-{
-    if a.len() != b.len() {
-        return false;
-    }
-    let mut i = 0;
-    while i < a.len() {
-        if a[i] != b[i] {
-            return false;
-        }
-        i += 1;
-    }
-    true
-}
-
 // Whether a name's entry, whose data stand at `from`, has "exactly these bytes and this type".
 fn is_named(b: &[u8], from: usize, tag: u32, name: &[u8], kind: u32) -> bool
     requires { from + tag_size tag ≤ length b.now }
@@ -48,7 +31,7 @@ fn is_named(b: &[u8], from: usize, tag: u32, name: &[u8], kind: u32) -> bool
         return false;
     }
     let to = from + tag::lfs_tag_size(tag) as usize;
-    same_bytes(&b[from..to], name)
+    &b[from..to] == name
 }
 
 // A slot is made at `id`. As long as no slot has had the name (`any`), there is nothing to move.
@@ -138,7 +121,13 @@ fn entered(rule: Rule, grows: bool, count: u32, tag: u32) -> Option<u32>
 
 // The pass over the log that ends at `end`, by a rule: the lowest id whose name is the one that is asked for. The rules
 // run against the count as in crate `commit_regular`, and the first bad entry or check ends the pass.
-pub fn find_in(b: &[u8], end: usize, rules: Rules, wanted: &[u8], kind: u32) -> Result<Option<u32>, Refusal>
+pub fn find_in(
+    b: &[u8],
+    end: usize,
+    rules: Rules,
+    wanted: &[u8],
+    kind: u32,
+) -> Result<Option<u32>, Refusal>
     requires { CommittedTo b.now end }
     ensures { result ≡ find_in rules wanted.now kind (log b.now) }
 {

@@ -4,7 +4,6 @@
 pub mod Xor
 pub mod Words
 pub mod Tags
-pub mod Signed
 pub mod Order
 -- The checksum.
 pub mod Linear

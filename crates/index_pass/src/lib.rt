@@ -9,8 +9,8 @@ ghost use Rattle.index_table.specs.Held.{InUse, Goes};
 ghost use Rattle.index_pass.specs.Run.{Startable, Runs, Buildable};
 
 use fetch_walk::cursor;
-use format::types::*;
 use format::Refusal;
+use format::types::*;
 
 // What an entry at `at` does to a table of which `used` places are in use.
 fn follow(table: &mut [u32], used: usize, tag: u32, at: usize) -> Option<usize>
@@ -63,7 +63,7 @@ pub fn run_on(
             at = next;
         } else {
             let Some(now) = follow(table, n, tag, at) else {
-                index_table::clear(table);
+                table.fill(0);
                 return Err(Refusal::TableFull);
             };
             n = now;
@@ -81,6 +81,6 @@ pub fn build(b: &[u8], end: usize, table: &mut [u32]) -> Result<usize, Refusal>
     ensures table_after { table.new ≡ table_as (length table.old)
         (built (length table.old) (log b.now)) }
 {
-    index_table::clear(table);
+    table.fill(0);
     run_on(b, 4, FIRST_PREV, end, table, 0)
 }

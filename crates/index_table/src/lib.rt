@@ -17,25 +17,12 @@ const ONE_DOWN: u32 = 0xffff_fc00;
 
 // ---- words
 
-// All words of a part are zero.
-pub fn clear(part: &mut [u32])
-    ensures { part.new ≡ replicate (length part.old) 0 }
-{
-    let mut i = 0;
-    while i < part.len() {
-        part[i] = 0;
-        i += 1;
-    }
-}
-
 // Each place's id is higher by `by`, counted in a tag's ids.
 fn shift_ids(part: &mut [u32], by: u32)
     ensures { part.new ≡ shifted by part.old }
 {
-    let mut i = 0;
-    while 1 < part.len() - i {
-        part[i] = std::num::wrapping_add_u32(part[i], by);
-        i += 2;
+    for i in 0..part.len() / 2 {
+        part[2 * i] = part[2 * i].wrapping_add(by);
     }
 }
 
@@ -48,17 +35,13 @@ fn put(part: &mut [u32], tag: u32, off: u32)
     part[1] = off;
 }
 
-// A place comes in at the front, and the last one is lost: from the end down, so that each word is read before it is
-// written.
+// A place comes in at the front, and the last one is lost.
 fn open(part: &mut [u32], tag: u32, off: u32)
     requires { 2 ≤ length part.old }
     ensures { part.new ≡ tag ∷ off ∷ take (length part.old - 2) part.old }
 {
-    let mut i = part.len() - 2;
-    while 0 < i {
-        i -= 1;
-        part[i + 2] = part[i];
-    }
+    let left = part.len() - 2;
+    part.copy_within(..left, 2);
     put(part, tag, off);
 }
 
@@ -68,12 +51,8 @@ fn close(part: &mut [u32], n: usize)
     ensures { part.new ≡ drop n part.old ++ replicate n 0 }
 {
     let left = part.len() - n;
-    let mut i = 0;
-    while i < left {
-        part[i] = part[i + n];
-        i += 1;
-    }
-    clear(&mut part[left..]);
+    part.copy_within(n.., 0);
+    part[left..].fill(0);
 }
 
 // ---- finding a place
@@ -96,7 +75,8 @@ pub fn rank_of(tag: u32) -> u32
     rank_at(tag::lfs_tag_id(tag) as u32, compact_slot::class_of(tag))
 }
 
-// The first place, from the place `from` on, that is not before the rank; or the one behind the last.
+// The first place, from the place `from` on, that is not before the rank; or the one behind the last. Halved by hand:
+// the answer is promised of any words, in order or not, and a place is two of them.
 pub fn seek(places: &[u32], rank: u32, from: usize) -> usize
     requires { from ≤ length places.now / 2 }
     ensures { (result ≡ seek_from rank places.now from) × (from ≤ result)
@@ -122,14 +102,12 @@ fn count(table: &[u32]) -> usize
     ensures result_value { 2 * result ≡ length (leading table.now) }
     ensures table_value { take (2 * result) table.now ≡ leading table.now }
 {
-    let mut i = 0;
-    while 1 < table.len() - 2 * i {
+    for i in 0..table.len() / 2 {
         if table[2 * i] == 0 {
             return i;
         }
-        i += 1;
     }
-    i
+    table.len() / 2
 }
 
 // Any table, as one whose places in use are those before the first that is zero: behind them all is zero.
@@ -138,8 +116,7 @@ pub fn trim(table: &mut [u32]) -> usize
         × Holds table.new result (leading table.old) }
 {
     let used = count(table);
-    let behind = 2 * used;
-    clear(&mut table[behind..]);
+    table[2 * used..].fill(0);
     used
 }
 

@@ -1,5 +1,4 @@
 -- What the walk back and the slice rest on.
 pub mod Splice
 pub mod Turn
-pub mod Fill
 pub mod Slices

@@ -35,7 +35,7 @@ fn create_at(key: u32) -> u32
 fn splice_as_ids(tag: u32) -> u32
     ensures { result ≡ as_ids (tag_splice tag) }
 {
-    std::num::wrapping_sub_u32(tag::splice_from_lowest(tag) * 0x400, 0x2_0000)
+    (tag::splice_from_lowest(tag) * 0x400).wrapping_sub(0x2_0000)
 }
 
 // The difference behind a tag: both are there before the choice, so that it compiles to a select. Where the splices of
@@ -43,7 +43,7 @@ fn splice_as_ids(tag: u32) -> u32
 fn diff_after(spliced: bool, tag: u32, gdiff: u32) -> u32
     ensures { result ≡ (if spliced then plus32 gdiff (as_ids (tag_splice tag)) else gdiff) }
 {
-    let next = std::num::wrapping_add_u32(gdiff, splice_as_ids(tag));
+    let next = gdiff.wrapping_add(splice_as_ids(tag));
     if spliced { next } else { gdiff }
 }
 
@@ -51,7 +51,7 @@ fn diff_after(spliced: bool, tag: u32, gdiff: u32) -> u32
 fn key_at(gtag: u32, gdiff: u32) -> u32
     ensures { result ≡ minus32 gtag gdiff }
 {
-    std::num::wrapping_sub_u32(gtag, gdiff)
+    gtag.wrapping_sub(gdiff)
 }
 
 // The entry of a tag that stands at `at`, found with a difference: its length counts the tag, its data begin behind it.
@@ -60,7 +60,7 @@ fn found_at(tag: u32, at: usize, diff: u32) -> Found
     ensures { result ≡ found_at tag at diff }
 {
     Found {
-        tag: std::num::wrapping_add_u32(tag, diff),
+        tag: tag.wrapping_add(diff),
         length: tag::lfs_tag_dsize(tag),
         off: (at + 4) as u32,
     }

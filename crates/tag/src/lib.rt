@@ -69,16 +69,11 @@ pub fn lfs_tag_chunk(tag: u32) -> u8
     (tag / 0x10_0000 % 0x100) as u8
 }
 
-// Per lfs.c lfs_tag_splice: the chunk as signed. A cast would have to fit, so its upper half is counted down from -1.
+// Per lfs.c lfs_tag_splice: the chunk as signed.
 pub fn lfs_tag_splice(tag: u32) -> i8
     ensures { result ≡ tag_splice tag }
 {
-    let chunk = lfs_tag_chunk(tag);
-    if chunk < 128 {
-        chunk as i8
-    } else {
-        -1 - ((255 - chunk) as i8)
-    }
+    lfs_tag_chunk(tag).cast_signed()
 }
 
 // A tag's splice counted from the lowest, -128: what adds a splice to an unsigned number adds this and takes 128 away.

@@ -15,14 +15,14 @@ use format::{LfsPair, Refusal};
 pub fn lfs_max(a: u32, b: u32) -> u32
     ensures { result ≡ max a b }
 {
-    if a > b { a } else { b }
+    a.max(b)
 }
 
 // Per lfs_util.h lfs_min.
 pub fn lfs_min(a: u32, b: u32) -> u32
     ensures { result ≡ min a b }
 {
-    if a < b { a } else { b }
+    a.min(b)
 }
 
 // Per lfs_util.h lfs_aligndown, but alignment 0, at which the Rust panics, is refused.
@@ -40,21 +40,15 @@ pub fn lfs_aligndown(a: u32, alignment: u32) -> Result<u32, Refusal>
 pub fn lfs_alignup(a: u32, alignment: u32) -> Result<u32, Refusal>
     ensures { result ≡ align_up a alignment }
 {
-    let above = std::num::wrapping_add_u32(a, alignment);
-    lfs_aligndown(std::num::wrapping_sub_u32(above, 1), alignment)
+    let above = a.wrapping_add(alignment);
+    lfs_aligndown(above.wrapping_sub(1), alignment)
 }
 
-// Per lfs_util.h lfs_scmp: a - b, wrapping, read as signed. A cast would have to fit, so the upper half is counted down
-// from -1.
+// Per lfs_util.h lfs_scmp: a - b, wrapping, read as signed.
 pub fn lfs_scmp(a: u32, b: u32) -> i32
     ensures { result ≡ scmp a b }
 {
-    let d = std::num::wrapping_sub_u32(a, b);
-    if d < 0x8000_0000 {
-        d as i32
-    } else {
-        -1 - ((0xffff_ffff - d) as i32)
-    }
+    a.wrapping_sub(b).cast_signed()
 }
 
 // Per lfs.c lfs_pair_swap.

@@ -1,11 +1,8 @@
--- Words at an offset: what the test of the offset tells, and four stores in a row. Assumes nothing.
-use mathlib.Core.Path.{◌≡◌, sym, ◌∙◌}
-use mathlib.Core.Bool.{Bool, true, false, cond}
-use mathlib.Core.List.{List, [], ◌∷◌}
-use Prim.Native.Nat.{ℕ, suc, ◌+◌, ◌≤◌}
-use native.Mathlib.Omega.{arith}
-use lib.ListN.{length, get_or, set}
-use lib.Seq.{sets}
+-- Words at an offset: what the test of the offset tells, and what a store leaves. Assumes nothing.
+use Rattle.std.proofs.Common.{◌≡◌, sym, refl, ◌∙◌, Bool, true, false, cond, List, ℕ, ◌+◌, ◌≤◌, length, take, drop, append_assoc}
+use Rattle.std.proofs.lemmas.List.Edits.{sets, sets-eq, paste_all}
+use Rattle.std.proofs.lemmas.Slice.{put_mid-paste}
+use borrow.Rule.Slice.PartMut.{put_mid}
 use borrow.Author.Tests.{leb-true}
 use Rattle.format.specs.Bytes.{inside}
 
@@ -20,17 +17,8 @@ first r test x y e t = rw (sym e ∙ t)
 pub second : {A : Type 0} (r test : Bool) (x y : A) → r ≡ test → r ≡ false → y ≡ cond test x y
 second r test x y e t = rw (sym e ∙ t)
 
--- four stores, as the code counts their places
-pub four : (s : List ℕ) (at : ℕ) (l : List ℕ) → length l ≡ 4
-    → set (set (set (set s at (get_or l 0 0)) (at + 1) (get_or l 1 0)) (at + 2) (get_or l 2 0)) (at + 3) (get_or l 3 0) ≡ sets
-    s at l
-four s at (a ∷ b ∷ c ∷ d ∷ []) h =
-    let e1 : at + 1 ≡ suc at = omega arith in
-    let e2 : at + 2 ≡ suc (suc at) = omega arith in
-    let e3 : at + 3 ≡ suc (suc (suc at)) = omega arith in
-    rw (e1, e2, e3)
-four s at [] h = absurd (omega arith)
-four s at (a ∷ []) h = absurd (omega arith)
-four s at (a ∷ b ∷ []) h = absurd (omega arith)
-four s at (a ∷ b ∷ c ∷ []) h = absurd (omega arith)
-four s at (a ∷ b ∷ c ∷ d ∷ e ∷ l) h = absurd (omega arith)
+-- a part of the slice that is written as a whole: l, which is now m
+pub stored : (s : List ℕ) (at k : ℕ) (l m : List ℕ) → at + length l ≤ length s → k ≡ length l → m ≡ l
+    → put_mid at k s m ≡ sets s at l
+stored s at k l m h n e =
+    put_mid-paste at k s m l (length l) e (sym n) refl ∙ paste_all s at l (length l) refl ∙ sym (sets-eq l s at h ∙ append_assoc (take at s) l (drop (at + length l) s))

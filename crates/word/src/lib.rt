@@ -17,15 +17,10 @@ pub mod within;
 pub fn le_bytes(v: u32) -> [u8; 4]
     ensures { result ≡ to_le32 v }
 {
-    [
-        (v % 0x100) as u8,
-        (v / 0x100 % 0x100) as u8,
-        (v / 0x1_0000 % 0x100) as u8,
-        (v / 0x100_0000) as u8,
-    ]
+    v.to_le_bytes()
 }
 
-// The eight bytes of two words, each lowest first.
+// The eight bytes of two words, each lowest first. Byte by byte: std joins arrays only on the heap.
 pub fn le_pair(a: u32, b: u32) -> [u8; 8]
     ensures { result ≡ to_le32 a ++ to_le32 b }
 {
@@ -38,25 +33,14 @@ pub fn le_pair(a: u32, b: u32) -> [u8; 8]
 pub fn be_bytes(v: u32) -> [u8; 4]
     ensures { result ≡ to_be32 v }
 {
-    [
-        (v / 0x100_0000) as u8,
-        (v / 0x1_0000 % 0x100) as u8,
-        (v / 0x100 % 0x100) as u8,
-        (v % 0x100) as u8,
-    ]
+    v.to_be_bytes()
 }
 
 // Whether four bytes at `at` are inside; `at` may be any number.
 fn has_word(s: &[u8], at: usize) -> bool
     ensures { result ≡ inside s.now at }
 {
-    if s.len() < 4 {
-        return false;
-    }
-    if s.len() - 4 < at {
-        return false;
-    }
-    true
+    4 <= s.len() && at <= s.len() - 4
 }
 
 // The little-endian word at an offset.

@@ -1,8 +1,10 @@
--- `commit_lay::sum_entry` meets its contract: the tag, and behind it the part that is the entry's data. Assumes
--- nothing.
-use Rattle.commit_lay.proofs.Puts.{entry_summed}
+-- `commit_lay::sum_entry` meets its contract: the tag, and behind it the data. Assumes nothing.
+use Rattle.format.specs.Word.{to_be32}
+use Rattle.format.proofs.Checksum.{crc_append}
+use Rattle.commit_lay.specs.Laid.{body_of}
 use Rattle.commit_lay.proofs.sum_entry.Goals as goal
 
 pub returns : goal.returns
-returns c = entry_summed _ _ _ _ _ c.body-s.ensures _ _ _
-    c.sum_be32.ensures c.lfs_crc.ensures
+returns c =
+    let a = c.args in
+    cc (crc_append a.sum (to_be32 a.word) (body_of a.dat.now a.off a.len))

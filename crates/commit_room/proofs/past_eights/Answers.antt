@@ -2,7 +2,6 @@
 -- the rest shrinks. Assumes nothing.
 use mathlib.Core.Path.{refl, sym, ap, ◌∙◌}
 use mathlib.Core.Bool.{not}
-use Prim.Native.Nat.{◌-◌}
 use native.Mathlib.Omega.{arith}
 use Rattle.commit_room.proofs.Cleared.{eight_on}
 use Rattle.commit_room.proofs.past_eights.Goals as goal

@@ -18,7 +18,7 @@ entries-e-requires c =
 pub overflow_cast-result : goal.overflow_cast-result
 overflow_cast-result c =
     let made = pass_made _ _ _ _ _ c.requires.0
-    _ _ _ c.if-stores-eq0.false _ c.erase.ensures _ c.put_le32-run.ensures _ _
+    _ _ _ c.if-stores-eq0.false _ (c.fill.ensures.after (λ y e. e)) _ c.put_le32-run.ensures _ _
     c.begin-begun.ensures _ c.entries-e.ensures _ c.check-last.ensures in
     omega (
       arith,
@@ -29,7 +29,7 @@ overflow_cast-result c =
 pub overflow_add-result : goal.overflow_add-result
 overflow_add-result c =
     let made = pass_made _ _ _ _ _ c.requires.0
-    _ _ _ c.if-stores-eq0.false _ c.erase.ensures _ c.put_le32-run.ensures _ _
+    _ _ _ c.if-stores-eq0.false _ (c.fill.ensures.after (λ y e. e)) _ c.put_le32-run.ensures _ _
     c.begin-begun.ensures _ c.entries-e.ensures _ c.check-last.ensures in
     omega (
       arith,
@@ -40,11 +40,11 @@ overflow_add-result c =
 pub returns : goal.returns
 returns c = record {
   value = pass_made _ _ _ _ _ c.requires.0 _ _ _
-      c.if-stores-eq0.false _ c.erase.ensures _ c.put_le32-run.ensures _
+      c.if-stores-eq0.false _ (c.fill.ensures.after (λ y e. e)) _ c.put_le32-run.ensures _
       _
       c.begin-begun.ensures _ c.entries-e.ensures _ c.check-last.ensures;
   after = pass_block _ _ _ _ _ c.requires.0 _ _ _
-      c.if-stores-eq0.false _ c.erase.ensures _ c.put_le32-run.ensures _
+      c.if-stores-eq0.false _ (c.fill.ensures.after (λ y e. e)) _ c.put_le32-run.ensures _
       _
       c.begin-begun.ensures _ c.entries-e.ensures _ c.check-last.ensures;
 }

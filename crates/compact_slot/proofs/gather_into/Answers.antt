@@ -6,7 +6,9 @@ use Rattle.compact_slot.proofs.Turn.{starts, id_before_most, walk_over, walk_cre
 use Rattle.compact_slot.proofs.gather_into.Goals as goal
 
 pub loop-at-init : goal.loop-at-init
-loop-at-init c = (omega arith, omega arith, starts _ _ _)
+loop-at-init c =
+    let zeros = rw c.told-seats at (c.fill.ensures.after (λ y e. e)) in
+    (omega arith, omega arith, rw zeros (starts _ _ _))
 
 pub returns-in_default : goal.returns-in_default
 returns-in_default c = walk_over _ _ _ _ _ _ _ c.loop-at.invariant.2

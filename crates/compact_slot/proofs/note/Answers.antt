@@ -1,6 +1,5 @@
 -- `compact_slot::note` meets its contract: the seat is taken where the entry is the slot's, has a class, and is the
 -- newest. Assumes nothing.
-use native.Mathlib.Omega.{arith}
 use Rattle.compact_slot.proofs.Leaves.{note_other, note_none, note_taken, note_free}
 use Rattle.compact_slot.proofs.note.Goals as goal
 
@@ -24,42 +23,3 @@ returns c = note_free _ _ _ _ _ _
     c.if-class-ge-CLASSES.false c.if-seats-class-ne0.false _ _ _
     c.lfs_tag_type3.ensures c.lfs_tag_size.ensures c.lfs_mktag.ensures
     c.requires.1
-
-pub overflow_mul-class : goal.overflow_mul-class
-overflow_mul-class c = omega arith
-
-pub overflow_add-class : goal.overflow_add-class
-overflow_add-class c = omega arith
-
-pub offset_bounds-seats-class : goal.offset_bounds-seats-class
-offset_bounds-seats-class c = omega arith
-
-pub bounds-seats-class : goal.bounds-seats-class
-bounds-seats-class c = omega arith
-
-pub overflow_mul-seats : goal.overflow_mul-seats
-overflow_mul-seats c = omega arith
-
-pub offset_bounds-seats-class-2 : goal.offset_bounds-seats-class-2
-offset_bounds-seats-class-2 c = omega arith
-
-pub bounds-seats-class-2 : goal.bounds-seats-class-2
-bounds-seats-class-2 c = omega arith
-
-pub overflow_add-seats : goal.overflow_add-seats
-overflow_add-seats c = omega arith
-
-pub overflow_cast-seats : goal.overflow_cast-seats
-overflow_cast-seats c = omega arith
-
-pub overflow_mul-seats-2 : goal.overflow_mul-seats-2
-overflow_mul-seats-2 c = omega arith
-
-pub overflow_add-seats-2 : goal.overflow_add-seats-2
-overflow_add-seats-2 c = omega arith
-
-pub offset_bounds-seats-class-3 : goal.offset_bounds-seats-class-3
-offset_bounds-seats-class-3 c = omega arith
-
-pub bounds-seats-class-3 : goal.bounds-seats-class-3
-bounds-seats-class-3 c = omega arith

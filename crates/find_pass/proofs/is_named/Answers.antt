@@ -7,4 +7,4 @@ returns-then-lfs_tag_type3-kind c = other_type _ _ _ _ _ c.lfs_tag_type3.ensures
 
 pub returns : goal.returns
 returns c = same_type _ _ _ _ _ _ _ _ c.lfs_tag_type3.ensures
-    c.if-lfs_tag_type3-kind.false c.lfs_tag_size.ensures c.same_bytes.ensures
+    c.if-lfs_tag_type3-kind.false c.lfs_tag_size.ensures c.eq.ensures

@@ -1,12 +1,6 @@
--- `find_set::first` meets its contract. The words before the loop's are zero; the measure is what is left of them.
--- Assumes nothing.
-use mathlib.Core.Path.{◌≡◌}
-use Prim.Native.Nat.{ℕ, ◌-◌, ◌<◌, ◌≤◌}
-use lib.ListN.{get_or}
+-- `find_set::first` meets its contract. The words that the loop has passed are zero. Assumes nothing.
+use Rattle.std.proofs.Common.{◌≡◌, ℕ, ◌<◌, get_or}
 use Rattle.find_set.proofs.first.Given as goal
 
 abbrev pub invariant-loop-i : goal.invariant-loop-i
-invariant-loop-i l = (l.i ≤ 32) × ((j : ℕ) → j < l.i → get_or l.words j 0 ≡ 0)
-
-abbrev pub decreases-loop-i : goal.decreases-loop-i
-decreases-loop-i l = 32 - l.i
+invariant-loop-i l = (j : ℕ) → j < l.i → get_or l.words j 0 ≡ 0

@@ -1,7 +1,6 @@
 -- `index_pass::run_on` meets its contract. The loop keeps the entries that are still to come, run on the places that
 -- stand in the table (`Going`); what is left of the block falls. Assumes nothing.
 use mathlib.Core.Path.{refl, sym}
-use Prim.Native.Nat.{◌-◌}
 use native.Mathlib.Omega.{arith}
 use Rattle.index_pass.proofs.Turn.{starts_going, ends_there, word_inside, used_inside, tag_small, tag_inside}
 use Rattle.index_pass.proofs.Turn.{check_goes, entry_goes, entry_full}
@@ -30,7 +29,7 @@ pub follow-requires : goal.follow-requires
 follow-requires c = let v = c.loop-at.invariant.1 c.requires.onwards in (used_inside _ _ _ _ _ _ _ _ _ _ _ v c.loop-at-test.true, tag_small _ _ _ _ _ _ _ _ _ _ _ v c.loop-at-test.true _ c.be32.ensures, omega (arith, word_inside _ _ _ _ _ _ _ _ _ _ _ v c.loop-at-test.true, c.requires.small))
 
 pub returns-in_default : goal.returns-in_default
-returns-in_default c = λ k. entry_full _ _ _ _ _ _ _ _ _ _ _ (c.loop-at.invariant.1 k) c.loop-at-test.true _ c.be32.ensures _ c.lfs_tag_dsize.ensures _ c.is_check.ensures c.if-is_check.false _ _ c.follow.ensures (sym c.in_default.is) _ c.clear.ensures
+returns-in_default c = λ k. entry_full _ _ _ _ _ _ _ _ _ _ _ (c.loop-at.invariant.1 k) c.loop-at-test.true _ c.be32.ensures _ c.lfs_tag_dsize.ensures _ c.is_check.ensures c.if-is_check.false _ _ c.follow.ensures (sym c.in_default.is) _ (c.fill.ensures.after (λ y e. e))
 
 pub loop-at-smaller : goal.loop-at-smaller
 loop-at-smaller c = let t = tag_inside _ _ _ _ _ _ _ _ _ _ _ (c.loop-at.invariant.1 c.requires.onwards) c.loop-at-test.true _ c.be32.ensures _ c.lfs_tag_dsize.ensures in omega (arith, t.1)
