@@ -16,7 +16,7 @@ use format::types::UNLIMITED;
 use format::{Entry, Fetched, Geometry, Refusal};
 use sizes::Pair;
 
-// The first pass.
+// The first pass: every entry is judged, up to the first bad one.
 fn judge_all(entries: &[Entry], dat: &[u8], begun: Judging) -> Result<Judging, Refusal>
     ensures { result ≡ judged_all entries.now dat.now begun }
 {
@@ -48,7 +48,7 @@ fn decide(
     commit_steps::place(erased, judged, pair.g.prog_size, b, stores)
 }
 
-// The second pass.
+// The second pass: every entry is laid.
 fn lay_all(b: &mut [u8], entries: &[Entry], dat: &[u8], decided: Laying) -> Laying
     ensures { onto result b.new ≡ laid_all entries.now dat.now (onto decided b.old) }
 {
@@ -59,7 +59,7 @@ fn lay_all(b: &mut [u8], entries: &[Entry], dat: &[u8], decided: Laying) -> Layi
     l
 }
 
-// Every entry, and the check.
+// Every entry, and what is behind them.
 #[tactic(auto, unfolding(crate::specs::Passes::written_of))]
 fn write(b: &mut [u8], entries: &[Entry], dat: &[u8], decided: Laying) -> Laying
     ensures { onto result b.new ≡ written_of entries.now dat.now decided b.old }
@@ -68,7 +68,7 @@ fn write(b: &mut [u8], entries: &[Entry], dat: &[u8], decided: Laying) -> Laying
     commit_steps::seal(b, laid)
 }
 
-// Both passes, with a limit of stores.
+// Both passes, with a limit of stores. Which of the two lent images is written is chosen here.
 fn run(
     g: Geometry,
     b0: &mut [u8],

@@ -1,6 +1,7 @@
 -- A commit's steps as the code makes them, each as what it answers: a refusal, or what the next one goes on from.
 -- Assumes nothing.
-use Rattle.std.specs.Prelude.{ℕ, ◌+◌, Bool, false, cond, not, List, ◌++◌, length, nat_lt, Err, Ok, Result, None, Option, Some}
+use Rattle.std.specs.Prelude.{ℕ, ◌+◌, Bool, false, cond, not, List, ◌++◌, length, nat_lt}
+use Rattle.std.specs.Prelude.{Err, Ok, Result, None, Option, Some}
 use Rattle.format.specs.Word.{to_be32, to_le32, xor, all_ones, plus32}
 use Rattle.format.specs.Tag.{tag_length, mk_tag}
 use Rattle.format.specs.Crc.{crc}

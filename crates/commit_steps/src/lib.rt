@@ -1,6 +1,6 @@
-// A commit, step by step: what is done before its entries, with each entry in the pass that judges and in the pass that
-// lays, between the two passes, and behind them. What a pass knows goes in and comes back by value, so no scratch memory
-// is needed; the first refusal ends the commit.
+// A commit, step by step: what is done before its entries, with each entry, between the two passes over them, and
+// behind them. What a pass knows goes in and comes back by value, so no scratch memory is needed. What judges only
+// reads, and answers a refusal or what goes on; what lays is lent the one block that answers, and can't refuse.
 #![tactic(auto)]
 
 ghost use Rattle.std.specs.Prelude.{◌≡◌, ◌-◌, ◌≤◌, length};
@@ -34,8 +34,8 @@ pub struct Judging {
     pub sum: u32,
 }
 
-// The second pass: what fetch found, where the answer goes on; the next store, the tag before it, the forward check
-// that is carried behind the entries, or none, and the check that comes last: its tag as it is stored, and the checksum.
+// The second pass: what fetch found, the next store, the tag before it, the forward check that is carried behind the
+// entries, or none, and the check that comes last: its tag as it is stored, and the checksum.
 #[derive(Clone, Copy)]
 pub struct Laying {
     pub old: Fetched,
@@ -238,7 +238,8 @@ fn lay_check(b: &mut [u8], l: Laying) -> Laying
     Laying { run, ..l }
 }
 
-// "the number made is the answer": what is left of the limit was not made.
+// "the number made is the answer": what is left of the limit was not made. Any laying goes, also one with more left than
+// the limit.
 pub fn made(l: Laying, stores: u32) -> u32
     ensures { result ≡ stores - l.run.left }
 {
