@@ -113,9 +113,9 @@ fn sum_up(j: Judging, count: u32, tag: u32, dat: &[u8], off: u32, len: u32) -> J
 {
     Judging {
         old: j.old,
-        index: std::num::wrapping_add_u32(j.index, 1),
+        index: j.index.wrapping_add(1),
         count,
-        size: std::num::wrapping_add_u32(j.size, tag::lfs_tag_dsize(tag)),
+        size: j.size.wrapping_add(tag::lfs_tag_dsize(tag)),
         prev: tag,
         sum: commit_lay::sum_entry(j.sum, tag ^ j.prev, dat, off, len),
     }

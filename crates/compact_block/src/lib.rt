@@ -91,7 +91,7 @@ fn rewrite(
     ensures after { new.new ≡ renewed_to erased stores new.old
         (anew erased prog old.now) }
 {
-    let rev = std::num::wrapping_add_u32(dir.rev, 1);
+    let rev = dir.rev.wrapping_add(1);
     let begun = begin(rev, Run { at: 0, left: 0 });
     let e = compact_entries::entries(erased, prog, old, new, begun, dir, places);
     if old.len() < commit_room::rounded_end(prog, e.end) {

@@ -1,5 +1,6 @@
 -- `compact_block::rewrite` meets its contract: the first pass finds the verdict, and the second makes its stores.
 -- Assumes nothing.
+use Rattle.std.proofs.Common.{refl}
 use Rattle.compact_block.proofs.Storing.{reads_all}
 use Rattle.compact_block.proofs.Measuring.{rewrite_prog, rewrite_full, rewrite_coincides, rewrite_writes}
 use Rattle.compact_block.proofs.Measuring.{rewrite_made}
@@ -14,36 +15,36 @@ entries-e-requires c =
 pub rounded_end-requires : goal.rounded_end-requires
 rounded_end-requires c =
     let p = c.requires in
-    rewrite_prog _ _ _ _ _ 0 p.0 p.1 _ c.wrapping_add_u32-rev.ensures.value
+    rewrite_prog _ _ _ _ _ 0 p.0 p.1 _ refl
     _ _ c.begin-begun.ensures _ c.entries-e.ensures
 
 pub returns-then-old-rounded_end : goal.returns-then-old-rounded_end
 returns-then-old-rounded_end c =
-    let p = c.requires in let all = rewrite_full _ _ _ _ _ _ p.0 p.1 _ c.wrapping_add_u32-rev.ensures.value _ _ c.begin-begun.ensures _
+    let p = c.requires in let all = rewrite_full _ _ _ _ _ _ p.0 p.1 _ refl _ _ c.begin-begun.ensures _
     c.entries-e.ensures _ c.rounded_end.ensures c.if-old-rounded_end.true in record { value = all.0; after = all.1 }
 
 pub check_tag-tag-requires : goal.check_tag-tag-requires
 check_tag-tag-requires c =
     let p = c.requires in
-    rewrite_prog _ _ _ _ _ 0 p.0 p.1 _ c.wrapping_add_u32-rev.ensures.value _ _ c.begin-begun.ensures _ c.entries-e.ensures
+    rewrite_prog _ _ _ _ _ 0 p.0 p.1 _ refl _ _ c.begin-begun.ensures _ c.entries-e.ensures
 
 pub returns-then-coincides : goal.returns-then-coincides
 returns-then-coincides c =
-    let p = c.requires in let all = rewrite_coincides _ _ _ _ _ _ p.0 p.1 _ c.wrapping_add_u32-rev.ensures.value _ _ c.begin-begun.ensures _
+    let p = c.requires in let all = rewrite_coincides _ _ _ _ _ _ p.0 p.1 _ refl _ _ c.begin-begun.ensures _
     c.entries-e.ensures _ c.rounded_end.ensures c.if-old-rounded_end.false _ c.check_tag-tag.ensures _ c.coincides.ensures
     c.if-coincides.true in record { value = all.0; after = all.1 }
 
 pub write-requires : goal.write-requires
 write-requires c =
     let p = c.requires in (
-      rewrite_writes _ _ _ _ _ 0 p.0 p.1 _ c.wrapping_add_u32-rev.ensures.value _ _ c.begin-begun.ensures _
+      rewrite_writes _ _ _ _ _ 0 p.0 p.1 _ refl _ _ c.begin-begun.ensures _
           c.entries-e.ensures _ c.rounded_end.ensures c.if-old-rounded_end.false _ c.check_tag-tag.ensures _ c.coincides.ensures,
       p.2,
     )
 
 pub returns : goal.returns
 returns c =
-    let p = c.requires in let all = rewrite_made _ _ _ _ _ _ p.0 p.1 _ c.wrapping_add_u32-rev.ensures.value _ _ c.begin-begun.ensures
+    let p = c.requires in let all = rewrite_made _ _ _ _ _ _ p.0 p.1 _ refl _ _ c.begin-begun.ensures
     _
     c.entries-e.ensures _ c.rounded_end.ensures
     c.if-old-rounded_end.false _ c.check_tag-tag.ensures _ c.coincides.ensures
