@@ -1,0 +1,2 @@
+-- What is said of a volume that is lent.
+pub mod Lent
