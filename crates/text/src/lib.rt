@@ -5,7 +5,7 @@
 
 ghost use Rattle.std.specs.Prelude.{◌≡◌, [], ◌∷◌};
 ghost use Rattle.format.specs.Listing.{decimal_in, decimal, hex_digit, hex_byte, hex_bytes, hex_type, is_plain};
-ghost use Rattle.format.specs.Listing.{name_byte, name_bytes, number_line};
+ghost use Rattle.format.specs.Listing.{name_byte, name_bytes, number_line, integer};
 ghost use Rattle.format.specs.RawLog.{hex_word};
 ghost use Rattle.text.specs.Put.{Puts, Starts};
 
@@ -72,6 +72,17 @@ impl<'a> Text<'a> {
         ensures { Puts self.old self.new (decimal n) }
     {
         self.decimal_in(10, n);
+    }
+
+    // A number with its sign in decimal.
+    #[tactic(auto, unfolding(crate::specs::Put::puts_of))]
+    pub fn integer(&mut self, z: i32)
+        ensures { Puts self.old self.new (integer z) }
+    {
+        if z < 0 {
+            self.puts(b"-");
+        }
+        self.decimal(z.unsigned_abs());
     }
 
     // A byte in hex.
