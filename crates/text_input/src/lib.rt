@@ -2,14 +2,15 @@
 // pair begins with. Any bytes may be given.
 #![tactic(auto)]
 
-ghost use Rattle.std.specs.Prelude.{◌≡◌, ℕ, List, IfOk};
+ghost use Rattle.std.specs.Prelude.{◌≡◌, ℕ, List, IfOk, length};
 ghost use Rattle.format.specs.declared.LfsMdir.{LfsMdir};
 ghost use Rattle.format.specs.declared.Rules.{Rules};
 ghost use Rattle.format.specs.Listing.{refused_line, fetch_input};
+ghost use Rattle.format.specs.Look.{bytes_of, FoundIn};
 ghost use Rattle.text.specs.Put.{Puts};
 ghost use Rattle.text_input.specs.Input.{Listable, input_text, answer_text};
 
-use format::{Fetched, Geometry, LfsMdir, LfsPair, Refusal, Rules};
+use format::{Fetched, Found, Geometry, LfsMdir, LfsPair, Refusal, Rules};
 use text::Text;
 
 // Document 01's own input: "program size 16, numbers 0 and 1".
@@ -67,6 +68,16 @@ pub fn ask(
         second
     };
     Ok(Answering { rules, dir, block })
+}
+
+// The data of an entry that was found.
+#[tactic(auto, using(format::proofs::Searched::part_is))]
+pub fn data_of(b: &[u8], e: Found) -> &[u8]
+    requires { FoundIn (length b.now) e }
+    ensures { result.now ≡ bytes_of b.now e }
+{
+    let from = e.off as usize;
+    &b[from..from + (e.length - 4) as usize]
 }
 
 // "A refusal prints `refused` and its number".
