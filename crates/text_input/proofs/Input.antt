@@ -15,15 +15,10 @@ use Rattle.format.specs.declared.Refusal.TheVariants.{Invalid}
 use Rattle.format.specs.declared.Fetched.{Fetched}
 use Rattle.theory.specs.Fetch.FoundBlock.{Sized, found_sized, found_reads}
 use Rattle.theory.proofs.Compact.AcceptedVerdict.{slots_counted}
-use Rattle.commit_regular.specs.Ends.{CommittedTo}
 use Rattle.compact_slot.specs.Slots.{Slots}
 use Rattle.text_input.specs.Input.{Listable}
 
 -- ---- a block and its record
--- what a pass over the log asks
-pub block_ends : (b : List ℕ) (m : LfsMdir) → Listable b m → CommittedTo b m.off
-block_ends b m w = record { word = w.word; ends = w.ends }
-
 -- x is what the test of regularity answers, by the rule q
 pub block_slots : (b : List ℕ) (m : LfsMdir) (q : Rules) (x : Bool) → Listable b m → x ≡ Regular q (log b)
     → x ≡ true → Slots b m.off m.etag m.count
