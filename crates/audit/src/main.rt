@@ -2,7 +2,6 @@
 // program `list` takes them; the text on standard output.
 #![tactic(auto)]
 
-use format::LfsPair;
 use std::io;
 use text_args::Request;
 
@@ -11,31 +10,21 @@ use text_args::Request;
 // can't be read, both, nine bytes at least, and its line at most 35. A byte of a name shows at most four. So a line has
 // at most seven bytes more than four for each byte of its slot, of at most 1,023 slots: a block of 32,768 bytes shows
 // at most 4 * 32,768 + 7 * 1,023, and the three lines behind have at most 89 bytes.
-fn show(
-    rt: &HostRuntime,
-    prog_size: u32,
-    numbers: LfsPair,
-    rules: u32,
-    pair: &[u8],
-) -> io::Result<()> {
+fn show(rt: &HostRuntime, ask: Request, pair: &[u8]) -> io::Result<()> {
     let mut text = [0u8; 138_400];
-    let n = text_audit::lfs_dir_audit_as(prog_size, numbers, rules, pair, &mut text);
+    let n = text_audit::lfs_dir_audit_as(ask.prog_size, ask.numbers, ask.rules, pair, &mut text);
     text_print::whole(&mut rt.stdout(), &mut rt.stderr(), &text, n as usize)?;
     Ok(())
 }
 
 fn main(rt: HostRuntime) -> io::Result<()> {
-    match text_args::asked(&rt, 1, true) {
-        Request::As(prog_size, numbers, rules) => {
-            let mut pair = [0u8; 65_537];
-            let n = text_print::read_full(&mut rt.stdin(), &mut pair)?;
-            show(&rt, prog_size, numbers, rules, &pair[..n])
-        }
-        Request::Unclear => {
-            text_print::usage(
-                &mut rt.stderr(),
-                b"usage: audit [PROG_SIZE A B [RULES]], both images on standard input\n",
-            )
-        }
-    }
+    let Some(ask) = text_args::asked(&rt, 1, true) else {
+        return text_print::usage(
+            &mut rt.stderr(),
+            b"usage: audit [PROG_SIZE A B [RULES]], both images on standard input\n",
+        );
+    };
+    let mut pair = [0u8; 65_537];
+    let n = text_print::read_full(&mut rt.stdin(), &mut pair)?;
+    show(&rt, ask, &pair[..n])
 }

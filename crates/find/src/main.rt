@@ -2,67 +2,54 @@
 // and the name as arguments, and behind them those that the program `list` takes. The text on standard output.
 #![tactic(auto)]
 
-use format::LfsPair;
 use std::env::Env;
 use std::io;
 use text_args::Request;
 
 // The buffer has room for every text, which is a slot's part of a listing. An entry of 4 + n bytes shows at most
 // 4 * (4 + n), as there, and the slot's line of its own 18.
-fn show(
-    rt: &HostRuntime,
-    prog_size: u32,
-    numbers: LfsPair,
-    rules: u32,
-    name: &[u8],
-    kind: u32,
-    pair: &[u8],
-) -> io::Result<()> {
+fn show(rt: &HostRuntime, ask: Request, name: &[u8], kind: u32, pair: &[u8]) -> io::Result<()> {
     let mut text = [0u8; 131_200];
-    let n = text_find::lfs_dir_find_as(prog_size, numbers, rules, name, kind, pair, &mut text);
+    let n = text_find::lfs_dir_find_as(
+        ask.prog_size,
+        ask.numbers,
+        ask.rules,
+        name,
+        kind,
+        pair,
+        &mut text,
+    );
     text_print::whole(&mut rt.stdout(), &mut rt.stderr(), &text, n as usize)?;
     Ok(())
 }
 
 // Of the type and the name that the first two arguments are. No argument of a process is longer than the buffer.
-fn find(
-    rt: &HostRuntime,
-    kind: u32,
-    prog_size: u32,
-    numbers: LfsPair,
-    rules: u32,
-) -> io::Result<()> {
+fn find(rt: &HostRuntime, kind: u32, ask: Request) -> io::Result<()> {
     let mut name = [0u8; 131_072];
     let length = rt.arg(2, &mut name).unwrap_or(0);
     let mut pair = [0u8; 65_537];
     let n = text_print::read_full(&mut rt.stdin(), &mut pair)?;
-    show(
-        rt,
-        prog_size,
-        numbers,
-        rules,
-        &name[..length],
-        kind,
-        &pair[..n],
-    )
+    show(rt, ask, &name[..length], kind, &pair[..n])
 }
 
-fn usage(rt: &HostRuntime) -> io::Result<()> {
-    text_print::usage(
-        &mut rt.stderr(),
-        b"usage: find TYPE NAME [PROG_SIZE A B [RULES]], both images on standard input\n",
-    )
+// The type and what the pair is to be read as; nothing where the arguments are not understood.
+fn asked(rt: &HostRuntime) -> Option<(u32, Request)> {
+    if text_args::count(rt) < 3 {
+        return None;
+    }
+    let kind = text_args::word(rt, 1)?;
+    let ask = text_args::asked(rt, 3, true)?;
+    Some((kind, ask))
 }
 
 fn main(rt: HostRuntime) -> io::Result<()> {
-    if text_args::count(&rt) < 3 {
-        return usage(&rt);
-    }
-    let Some(kind) = text_args::word(&rt, 1) else {
-        return usage(&rt);
-    };
-    match text_args::asked(&rt, 3, true) {
-        Request::As(prog_size, numbers, rules) => find(&rt, kind, prog_size, numbers, rules),
-        Request::Unclear => usage(&rt),
+    match asked(&rt) {
+        Some((kind, ask)) => find(&rt, kind, ask),
+        None => {
+            text_print::usage(
+                &mut rt.stderr(),
+                b"usage: find TYPE NAME [PROG_SIZE A B [RULES]], both images on standard input\n",
+            )
+        }
     }
 }

@@ -3,7 +3,6 @@
 // document 01's are 16, 0, 1 and 0. 65,537 bytes are read, so that a longer input is told from one of 65,536.
 #![tactic(auto)]
 
-use format::LfsPair;
 use std::io;
 use text_args::Request;
 
@@ -11,31 +10,21 @@ use text_args::Request;
 // an empty user attribute of four bytes a line of 16. A slot of its own shows 18, and there are at most 1,023, which by
 // littlefs's rule one name may make. So a block of 32,768 bytes shows less than 4 * 32,768 + 18 * 1,023, and the
 // record's lines have less than 128 bytes.
-fn show(
-    rt: &HostRuntime,
-    prog_size: u32,
-    numbers: LfsPair,
-    rules: u32,
-    pair: &[u8],
-) -> io::Result<()> {
+fn show(rt: &HostRuntime, ask: Request, pair: &[u8]) -> io::Result<()> {
     let mut text = [0u8; 150_000];
-    let n = text_listing::lfs_dir_list_as(prog_size, numbers, rules, pair, &mut text);
+    let n = text_listing::lfs_dir_list_as(ask.prog_size, ask.numbers, ask.rules, pair, &mut text);
     text_print::whole(&mut rt.stdout(), &mut rt.stderr(), &text, n as usize)?;
     Ok(())
 }
 
 fn main(rt: HostRuntime) -> io::Result<()> {
-    match text_args::asked(&rt, 1, true) {
-        Request::As(prog_size, numbers, rules) => {
-            let mut pair = [0u8; 65_537];
-            let n = text_print::read_full(&mut rt.stdin(), &mut pair)?;
-            show(&rt, prog_size, numbers, rules, &pair[..n])
-        }
-        Request::Unclear => {
-            text_print::usage(
-                &mut rt.stderr(),
-                b"usage: list [PROG_SIZE A B [RULES]], both images on standard input\n",
-            )
-        }
-    }
+    let Some(ask) = text_args::asked(&rt, 1, true) else {
+        return text_print::usage(
+            &mut rt.stderr(),
+            b"usage: list [PROG_SIZE A B [RULES]], both images on standard input\n",
+        );
+    };
+    let mut pair = [0u8; 65_537];
+    let n = text_print::read_full(&mut rt.stdin(), &mut pair)?;
+    show(&rt, ask, &pair[..n])
 }

@@ -1,53 +1,41 @@
--- What is put joins: a byte, parts one behind the other, and a loop over bytes of which each is shown in its own way.
--- Assumes nothing.
-use Rattle.std.proofs.Common.{◌≡◌, ℕ, ◌+◌, ◌%◌, ◌^◌, ◌<◌, ◌≤◌, List, [], ◌∷◌, ◌++◌, length, get_or, drop, set, sym}
-use Rattle.std.proofs.Common.{refl, ap, ◌∙◌, add-one, drop_of_length-le, drop-cons}
-use lib.Seq.{set_out}
-use Rattle.text.specs.Put.{Text, text, put_of, puts_of}
+-- What is put joins: parts one behind the other, and a loop over bytes of which each is shown in its own way. Assumes
+-- nothing.
+use Rattle.std.proofs.Common.{◌≡◌, ℕ, zero, suc, ◌+◌, ◌<◌, List, [], ◌∷◌, ◌++◌, length, get_or, take, sym, refl, ap, ◌∙◌}
+use Rattle.std.proofs.Common.{add-one, append_assoc, append-nil, arith}
+use Rattle.text.specs.declared.Text.{Text}
+use Rattle.text.specs.Put.{State, state_of, put_of, puts_of, Puts}
 
--- ---- one byte: n is the length behind it
-pub put_past : (out : List ℕ) (at x n : ℕ) → n ≡ (at + 1) % 2 ^ 32 → length out ≤ at
-    → text n out ≡ put_of (text at out) x
-unfolding put_of
-put_past out at x n en h = rw (en, set_out out at x h)
-
-pub put_stored : (out : List ℕ) (at x n : ℕ) → n ≡ (at + 1) % 2 ^ 32 → text n (set out at x) ≡ put_of (text at out) x
-unfolding put_of
-put_stored out at x n en = rw en
-
--- ---- parts
-pub puts_app : (xs ys : List ℕ) (s : Text) → puts_of (puts_of s xs) ys ≡ puts_of s (xs ++ ys)
+-- ---- parts: nothing, and two one behind the other
+pub puts_nothing : (s : State) → puts_of s [] ≡ s
 unfolding puts_of
-puts_app [] ys s = refl
-puts_app (x ∷ xs) ys s = puts_app xs ys (put_of s x)
+puts_nothing s = refl
 
-pub puts_one : (s r : Text) (x : ℕ) → r ≡ put_of s x → r ≡ puts_of s (x ∷ [])
+pub puts_append : (s : State) (xs ys : List ℕ) → puts_of s (xs ++ ys) ≡ puts_of (puts_of s xs) ys
 unfolding puts_of
-puts_one s r x h = h
+puts_append s [] ys = refl
+puts_append s (x ∷ xs) ys = puts_append (put_of s x) xs ys
 
-pub puts_none : (s : Text) → s ≡ puts_of s []
-unfolding puts_of
-puts_none s = refl
+pub puts_none : (a : Text) → Puts a a []
+puts_none a = record { buffer = refl; behind = sym (puts_nothing (state_of a)) }
 
--- two parts, one behind the other
-pub join : (s t u : Text) (xs ys : List ℕ) → t ≡ puts_of s xs → u ≡ puts_of t ys → u ≡ puts_of s (xs ++ ys)
-join s t u xs ys et eu = eu ∙ ap (λ (z : Text). puts_of z ys) et ∙ puts_app xs ys s
+pub puts_both : (a b c : Text) (xs ys : List ℕ) → Puts a b xs → Puts b c ys → Puts a c (xs ++ ys)
+puts_both a b c xs ys p q = record {
+  buffer = q.buffer ∙ p.buffer;
+  behind = q.behind ∙ ap (λ (z : State). puts_of z ys) p.behind ∙ sym (puts_append (state_of a) xs ys);
+}
 
--- a part by another name
-pub same_part : (s r : Text) (xs ys : List ℕ) → xs ≡ ys → r ≡ puts_of s xs → r ≡ puts_of s ys
-same_part s r xs ys e er = er ∙ ap (puts_of s) e
+-- ---- a loop over bytes: f shows one of them, F all
+module _ (F : List ℕ → List ℕ) (f : ℕ → List ℕ) (none : F [] ≡ []) (law : (b : ℕ) (bs : List ℕ) → F (b ∷ bs) ≡ f b ++ F bs) where
+  one_behind : (bytes : List ℕ) (i : ℕ) → i < length bytes
+      → F (take (suc i) bytes) ≡ F (take i bytes) ++ f (get_or bytes i 0)
+  one_behind [] i h = absurd (omega arith)
+  one_behind (b ∷ bs) zero h = law b [] ∙ rw (none, append-nil)
+  one_behind (b ∷ bs) (suc i) h =
+      law b (take (suc i) bs) ∙ ap (λ (l : List ℕ). f b ++ l) (one_behind bs i (omega arith))
+      ∙ sym (append_assoc (f b) (F (take i bs)) (f (get_or bs i 0)))
+      ∙ ap (λ (l : List ℕ). l ++ f (get_or bs i 0)) (sym (law b (take i bs)))
 
--- ---- a loop over bytes: f shows one of them, F all; a is where all of them end
-module _ (F : List ℕ → List ℕ) (f : ℕ → List ℕ) (bytes : List ℕ) where
-  pub each_more : ((b : ℕ) (bs : List ℕ) → F (b ∷ bs) ≡ f b ++ F bs) → (i : ℕ) (a s r : Text) → i < length bytes
-      → a ≡ puts_of s (F (drop i bytes)) → r ≡ puts_of s (f (get_or bytes i 0))
-      → a ≡ puts_of r (F (drop (i + 1) bytes))
-  each_more law i a s r h ea er =
-      ea ∙ ap (λ (l : List ℕ). puts_of s (F l)) (drop-cons bytes i 0 h ∙ rw (add-one i))
-      ∙ ap (puts_of s) (law (get_or bytes i 0) (drop (i + 1) bytes))
-      ∙ sym (puts_app (f (get_or bytes i 0)) (F (drop (i + 1) bytes)) s)
-      ∙ ap (λ (z : Text). puts_of z (F (drop (i + 1) bytes))) (sym er)
-
-  pub each_done : F [] ≡ [] → (i : ℕ) (a s : Text) → length bytes ≤ i → a ≡ puts_of s (F (drop i bytes)) → s ≡ a
-  each_done law i a s h ea = puts_none s ∙ ap (puts_of s) (sym law ∙ ap F (sym (drop_of_length-le bytes {i = i} h)))
-      ∙ sym ea
+  pub puts_each : (a b c : Text) (bytes : List ℕ) (i : ℕ) → i < length bytes → Puts a b (F (take i bytes))
+      → Puts b c (f (get_or bytes i 0)) → Puts a c (F (take (i + 1) bytes))
+  puts_each a b c bytes i h p q =
+      rw (add-one i, one_behind bytes i h) (puts_both a b c (F (take i bytes)) (f (get_or bytes i 0)) p q)

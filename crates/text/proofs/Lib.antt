@@ -1,4 +1,3 @@
--- How what is put joins, and what each function of the code adds.
+-- How what is put joins, and what a whole text leaves.
 pub mod Joined
-pub mod Shown
 pub mod Written

@@ -10,6 +10,9 @@ use lib.Dec.{leb, ltb}
 use lib.Seq.{drop-cons}
 use borrow.Author.Tests.{eq-eqb, ne_eqb, lt-ltb, le-ltb, le-leb, lt-leb, ltb-true, ltb-false}
 use Rattle.text_args.specs.Number.{is_digit, all_digits, value_from, number_from, digit_behind, number_of}
+use Rattle.std.proofs.Common.{inl, inr}
+use Rattle.std.specs.Option.{SomeIff}
+use Rattle.std.specs.Char.{IsNotAsciiDigit}
 use Rattle.std.specs.Prelude.{None, Option, Some}
 
 abbrev step : ℕ → ℕ → ℕ
@@ -17,26 +20,29 @@ step v b = v * 10 + (b - 0x30)
 
 -- ---- one digit
 module _ (v b : ℕ) where
-  pub below_digits : b < 0x30 → None ≡ digit_behind v b
-  unfolding number_from all_digits
-  below_digits h = rw (lt-leb 0x30 b h)
-
-  pub above_digits : 0x39 < b → None ≡ digit_behind v b
+  pub not_digit : IsNotAsciiDigit b → None ≡ digit_behind v b
   unfolding number_from all_digits value_from
-  above_digits h = go (leb 0x30 b)
+  not_digit (inl h) = rw (lt-leb 0x30 b h)
+  not_digit (inr h) = go (leb 0x30 b)
     where
       go : (x : Bool) → None ≡ cond (((x && leb b 0x39) && true) && ltb (step v b) (2 ^ 32)) (Some (step v b)) None
       go true = rw (lt-leb b 0x39 h)
       go false = refl
 
   module _ (low : 0x30 ≤ b) (high : b ≤ 0x39) where
-    pub too_great : 0xffff_ffff < step v b → None ≡ digit_behind v b
+    -- x and y are what the product and the sum are, if they are words
+    pub too_great : ¬ (v * 10 < 2 ^ 32) → None ≡ digit_behind v b
     unfolding number_from all_digits value_from
     too_great h = rw (le-leb 0x30 b low, le-leb b 0x39 high, le-ltb (step v b) (2 ^ 32) (omega (arith, h)))
 
-    pub one_more : step v b ≤ 0xffff_ffff → Some (step v b) ≡ digit_behind v b
+    pub one_more : (x : ℕ) → x ≡ v * 10 → (r : Option ℕ) → SomeIff r (x + (b - 0x30) < 2 ^ 32) (x + (b - 0x30))
+        → r ≡ digit_behind v b
     unfolding number_from all_digits value_from
-    one_more h = rw (le-leb 0x30 b low, le-leb b 0x39 high, lt-ltb (step v b) (2 ^ 32) (omega (arith, h)))
+    one_more x ex None h =
+        rw (le-leb 0x30 b low, le-leb b 0x39 high, le-ltb (step v b) (2 ^ 32) (omega (arith, h, ex)))
+    one_more x ex (Some y) h =
+        let e : y ≡ step v b = omega (arith, h.1, ex) in
+        rw (le-leb 0x30 b low, le-leb b 0x39 high, lt-ltb (step v b) (2 ^ 32) (omega (arith, h.0, ex)), e)
 
   -- what has one more digit is a word
   pub more_fits : (w : ℕ) → Some w ≡ digit_behind v b → w < 2 ^ 32

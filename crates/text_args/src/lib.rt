@@ -9,46 +9,34 @@ use format::LfsPair;
 use std::env::{Env, FillError};
 use text_input::{INPUT_PAIR, INPUT_PROG_SIZE, INPUT_RULES};
 
-// The program size and the block numbers of the pair to be shown, and the rule by which its log must be regular; or
-// arguments that are not understood.
+// The program size and the block numbers of the pair to be shown, and the rule by which its log must be regular.
 #[derive(Clone, Copy)]
-pub enum Request {
-    As(u32, LfsPair, u32),
-    Unclear,
+pub struct Request {
+    pub prog_size: u32,
+    pub numbers: LfsPair,
+    pub rules: u32,
 }
 
 // A number with one digit more behind it.
 fn digit_behind(value: u32, digit: u8) -> Option<u32>
     ensures { result ≡ digit_behind value digit }
 {
-    if digit < b'0' {
+    if !digit.is_ascii_digit() {
         return None;
     }
-    if b'9' < digit {
-        return None;
-    }
-    let longer = value as u64 * 10 + (digit - b'0') as u64;
-    if 0xffff_ffff < longer {
-        return None;
-    }
-    Some(longer as u32)
+    value.checked_mul(10)?.checked_add((digit - b'0') as u32)
 }
 
 // The number that a text is in decimal: some digits and nothing else, and less than 2^32.
 pub fn number(text: &[u8]) -> Option<u32>
     ensures { result ≡ number_of text.now }
 {
-    if text.len() == 0 {
+    if text.is_empty() {
         return None;
     }
     let mut value = 0;
-    let mut i = 0;
-    while i < text.len() {
-        let Some(longer) = digit_behind(value, text[i]) else {
-            return None;
-        };
-        value = longer;
-        i += 1;
+    for digit in text {
+        value = digit_behind(value, *digit)?;
     }
     Some(value)
 }
@@ -64,45 +52,38 @@ pub fn count<E: Env>(env: &E) -> usize {
 }
 
 // An argument as a number. One that is longer than the buffer counts as empty, and so as none.
-pub fn word<E: Env>(env: &E, i: usize) -> Decimal {
+pub fn word<E: Env>(env: &E, i: usize) -> Option<u32> {
     let mut text = [0u8; 32];
-    match env.arg(i, &mut text) {
-        Ok(n) => number(&text[..n]),
-        Err(_) => None,
-    }
+    let n = env.arg(i, &mut text).ok()?;
+    number(&text[..n])
 }
 
 // What the arguments from number `from` on ask for: document 01's own where there are none, else three numbers; and, of
-// a program that goes by a rule, a fourth, without which it is document 01's.
-pub fn asked<E: Env>(env: &E, from: usize, ruled: bool) -> Request {
-    let count = count(env);
-    if count <= from {
-        return Request::As(INPUT_PROG_SIZE, INPUT_PAIR, INPUT_RULES);
+// a program that goes by a rule, a fourth, without which it is document 01's. Nothing where they are not understood.
+pub fn asked<E: Env>(env: &E, from: usize, ruled: bool) -> Option<Request> {
+    let words = count(env).saturating_sub(from);
+    if words == 0 {
+        return Some(Request {
+            prog_size: INPUT_PROG_SIZE,
+            numbers: INPUT_PAIR,
+            rules: INPUT_RULES,
+        });
     }
-    let words = count - from;
-    if words < 3 {
-        return Request::Unclear;
+    let most = if ruled { 4 } else { 3 };
+    if (words < 3) | (most < words) {
+        return None;
     }
-    if 4 < words {
-        return Request::Unclear;
-    }
-    let Some(prog_size) = word(env, from) else {
-        return Request::Unclear;
+    let prog_size = word(env, from)?;
+    let n0 = word(env, from + 1)?;
+    let n1 = word(env, from + 2)?;
+    let rules = if words == 4 {
+        word(env, from + 3)?
+    } else {
+        INPUT_RULES
     };
-    let Some(n0) = word(env, from + 1) else {
-        return Request::Unclear;
-    };
-    let Some(n1) = word(env, from + 2) else {
-        return Request::Unclear;
-    };
-    if words == 3 {
-        return Request::As(prog_size, LfsPair { n0, n1 }, INPUT_RULES);
-    }
-    if !ruled {
-        return Request::Unclear;
-    }
-    let Some(rules) = word(env, from + 3) else {
-        return Request::Unclear;
-    };
-    Request::As(prog_size, LfsPair { n0, n1 }, rules)
+    Some(Request {
+        prog_size,
+        numbers: LfsPair { n0, n1 },
+        rules,
+    })
 }

@@ -1,4 +1,3 @@
--- What each function of the audit tells and adds, how its loop goes on, and that the whole is short.
-pub mod Told
+-- What each question is answered by, how the loop goes on, and that the whole is short.
 pub mod Steps
 pub mod Fits

@@ -2,7 +2,8 @@
 use Rattle.std.specs.Prelude.{◌≡◌, Bool, cond, List, ℕ, ◌+◌, ◌^◌, ◌<◌, length, Option}
 use Rattle.format.specs.Directory.{Load, Slot}
 use Rattle.format.specs.Audit.{lacks_deadline, lacks_payload, audit_line, audit_lines, tally}
-use Rattle.text.specs.Put.{text, puts_of}
+use Rattle.text.specs.Put.{Puts}
+use Rattle.text.specs.declared.Text.{Text}
 use Rattle.format.specs.Look.{HitIn}
 use Rattle.theory.specs.Lookup.ByMask.{holds}
 use Rattle.text_audit.specs.declared.Audit.{Audit}
@@ -18,13 +19,13 @@ pub record Few (a : Audit) : Type 0 where
   pub payload : a.no_payload < 2 ^ 16
 
 -- a slot's line is behind the text, and what it lacks is counted
-pub record SlotAudited (a : Audit) (out : List ℕ) (r : Audit) (out' : List ℕ) (id : ℕ) (s : Slot) : Type 0 where
-  pub line : text r.at out' ≡ puts_of (text a.at out) (audit_line id s)
-  pub deadline : r.no_deadline ≡ a.no_deadline + cond (lacks_deadline s) 1 0
-  pub payload : r.no_payload ≡ a.no_payload + cond (lacks_payload s) 1 0
+pub record SlotAudited (s t : Text) (a r : Audit) (id : ℕ) (slot : Slot) : Type 0 where
+  pub line : Puts s t (audit_line id slot)
+  pub deadline : r.no_deadline ≡ a.no_deadline + cond (lacks_deadline slot) 1 0
+  pub payload : r.no_payload ≡ a.no_payload + cond (lacks_payload slot) 1 0
 
 -- the lines of all slots, and what they lack
-pub record SlotsAudited (out : List ℕ) (r : Audit) (out' : List ℕ) (D : List Slot) : Type 0 where
-  pub lines : text r.at out' ≡ puts_of (text 0 out) (audit_lines 0 D)
+pub record SlotsAudited (s t : Text) (r : Audit) (D : List Slot) : Type 0 where
+  pub lines : Puts s t (audit_lines 0 D)
   pub deadline : r.no_deadline ≡ tally lacks_deadline D
   pub payload : r.no_payload ≡ tally lacks_payload D

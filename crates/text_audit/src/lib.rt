@@ -5,35 +5,34 @@
 
 ghost use Rattle.std.specs.Prelude.{◌≡◌, ◌<◌, length};
 ghost use Rattle.format.specs.Log.{log};
-ghost use Rattle.format.specs.Regular.{rules_of};
 ghost use Rattle.format.specs.Directory.{dir_of};
 ghost use Rattle.format.specs.Listing.{written_to};
-ghost use Rattle.format.specs.Audit.{is_instruction, is_payload, is_deadline, is_there, name_or_dash, lack_line};
+ghost use Rattle.format.specs.Audit.{is_instruction, is_payload, is_deadline, name_or_dash, lack_line};
 ghost use Rattle.format.specs.Audit.{deadline_line, total_lines, block_audit, audit_as, audit_of};
 ghost use Rattle.format.specs.Look.{HitIn};
 ghost use Rattle.theory.specs.Lookup.ByMask.{holds};
-ghost use Rattle.text.specs.Put.{text, puts_of};
+ghost use Rattle.text.specs.Put.{Puts};
 ghost use Rattle.compact_slot.specs.Slots.{Slots, slot_in, AllInside};
 ghost use Rattle.text_input.specs.Input.{Listable};
 ghost use Rattle.text_audit.specs.Audited.{Told, Few, SlotAudited, SlotsAudited};
 
 use format::types::*;
-use format::{Fetched, LfsMdir, LfsPair, Refusal};
+use format::{Found, LfsMdir, LfsPair, Refusal, Rules};
+use text::Text;
 use text_input::{INPUT_PAIR, INPUT_PROG_SIZE, INPUT_RULES};
 
 // The class of the deadline, the user attribute 0x74: a name and a struct come before.
 const DEADLINE: usize = 2 + 0x74;
 
-// How far the audit is: the length of the text so far, and how many instructions lack a deadline and how many a
-// payload.
+// How many instructions lack a deadline, and how many a payload.
 #[derive(Clone, Copy)]
 pub struct Audit {
-    pub at: u32,
     pub no_deadline: u32,
     pub no_payload: u32,
 }
 
 // "A slot is an instruction unless its name says directory or superblock": with no name it is one.
+#[tactic(auto, unfolding(format::specs::Audit::is_instruction, theory::specs::Lookup::ByMask::holds))]
 fn is_instruction(name: Option<Found>) -> bool
     ensures { Told is_instruction name result }
 {
@@ -45,6 +44,7 @@ fn is_instruction(name: Option<Found>) -> bool
 }
 
 // "It has a payload if its struct is CTZ, or inline of one byte or more."
+#[tactic(auto, unfolding(format::specs::Audit::is_payload, theory::specs::Lookup::ByMask::holds))]
 fn is_payload(content: Option<Found>) -> bool
     ensures { Told is_payload content result }
 {
@@ -56,6 +56,7 @@ fn is_payload(content: Option<Found>) -> bool
 }
 
 // "Its deadline is the user attribute 0x74, of four bytes."
+#[tactic(auto, unfolding(format::specs::Audit::is_deadline, theory::specs::Lookup::ByMask::holds))]
 fn is_deadline(attribute: Option<Found>) -> bool
     ensures { Told is_deadline attribute result }
 {
@@ -65,131 +66,108 @@ fn is_deadline(attribute: Option<Found>) -> bool
     }
 }
 
-// "Of any other length it can't be read: it is there": a removed one isn't.
-fn is_there(attribute: Option<Found>) -> bool
-    ensures { Told is_there attribute result }
+// "The name as in the listing; `-` where there is none."
+#[tactic(auto, unfolding(format::specs::Audit::name_or_dash, theory::specs::Lookup::ByMask::holds))]
+fn name_or_dash(text: &mut Text, b: &[u8], name: Option<Found>)
+    requires { HitIn (length b.now) name }
+    ensures { Puts text.old text.new (name_or_dash (holds b.now name)) }
 {
-    match attribute {
-        None => false,
-        Some(_) => true,
+    match name {
+        None => text.puts(b"-"),
+        Some(e) => text.name_bytes(text_input::data_of(b, e)),
     }
 }
 
-// "The name as in the listing; `-` where there is none."
-fn name_or_dash(out: &mut [u8], at: u32, b: &[u8], name: Option<Found>) -> u32
-    requires { HitIn (length b.now) name }
-    ensures { text result out.new ≡ puts_of (text at out.old)
-        (name_or_dash (holds b.now name)) }
-{
-    let Some(e) = name else {
-        return text::puts(out, at, b"-");
-    };
-    let from = e.off as usize;
-    let to = from + (e.length - 4) as usize;
-    text::name_bytes(out, at, &b[from..to])
-}
-
 // The line of a slot: its id, its name, and what it lacks.
-fn lack_line(out: &mut [u8], at: u32, b: &[u8], id: u32, name: Option<Found>, what: &[u8]) -> u32
+#[tactic(auto, unfolding(format::specs::Audit::lack_line, text::specs::Put::puts_of), using(text::proofs::Joined::puts_append))]
+fn lack_line(text: &mut Text, b: &[u8], id: u32, name: Option<Found>, what: &[u8])
     requires { HitIn (length b.now) name }
-    ensures { text result out.new ≡ puts_of (text at out.old)
-        (lack_line id (holds b.now name) what.now) }
+    ensures { Puts text.old text.new (lack_line id (holds b.now name) what.now) }
 {
-    let n = text::puts(out, at, b"slot ");
-    let n = text::decimal(out, n, id);
-    let n = text::puts(out, n, b" ");
-    let n = name_or_dash(out, n, b, name);
-    text::puts(out, n, what)
+    text.puts(b"slot ");
+    text.decimal(id);
+    text.puts(b" ");
+    name_or_dash(text, b, name);
+    text.puts(what);
 }
 
 // "A deadline that can't be read is told apart from a missing one": by its length.
-fn deadline_line(out: &mut [u8], at: u32, b: &[u8], id: u32, name: Option<Found>, attribute: Option<Found>) -> u32
+#[tactic(auto, unfolding(format::specs::Audit::deadline_line, theory::specs::Lookup::ByMask::holds))]
+fn deadline_line(text: &mut Text, b: &[u8], id: u32, name: Option<Found>, attribute: Option<Found>)
     requires name_in { HitIn (length b.now) name }
     requires attribute_in { HitIn (length b.now) attribute }
-    ensures { text result out.new ≡ puts_of (text at out.old)
+    ensures { Puts text.old text.new
         (deadline_line id (holds b.now name) (holds b.now attribute)) }
 {
     let Some(e) = attribute else {
-        return lack_line(out, at, b, id, name, b" no deadline\n");
+        return lack_line(text, b, id, name, b" no deadline\n");
     };
-    let n = lack_line(out, at, b, id, name, b" deadline of ");
-    let n = text::decimal(out, n, e.length - 4);
-    text::puts(out, n, b" bytes\n")
+    lack_line(text, b, id, name, b" deadline of ");
+    text.decimal(e.length - 4);
+    text.puts(b" bytes\n");
 }
 
-// A slot: one of the lines, or none, and the count that goes with it.
-fn slot_audit(out: &mut [u8], a: Audit, b: &[u8], id: u32, seats: &[u32; 516]) -> Audit
+// A slot: one of the lines, or none, and the count that goes with it. "Of any other length it can't be read: it is
+// there": a removed one isn't.
+fn slot_audit(text: &mut Text, a: &mut Audit, b: &[u8], id: u32, seats: &[u32; 516])
     requires all_inside { AllInside b.now seats.now }
-    requires few { Few a }
-    ensures { SlotAudited a out.old result out.new id
-        (slot_in b.now seats.now) }
+    requires few { Few a.old }
+    ensures { SlotAudited text.old text.new a.old a.new id (slot_in b.now seats.now) }
 {
-    let at = a.at;
-    let no_deadline = a.no_deadline;
-    let no_payload = a.no_payload;
     let name = compact_slot::found(seats, 0);
     let attribute = compact_slot::found(seats, DEADLINE);
     let instruction = is_instruction(name);
     let payload = is_payload(compact_slot::found(seats, 1));
     if instruction & (payload & !is_deadline(attribute)) {
-        let n = deadline_line(out, at, b, id, name, attribute);
-        return Audit {
-            at: n,
-            no_deadline: no_deadline + 1,
-            no_payload,
-        };
+        deadline_line(text, b, id, name, attribute);
+        a.no_deadline += 1;
+        return;
     }
-    if instruction & (is_there(attribute) & !payload) {
-        let n = lack_line(out, at, b, id, name, b" no payload\n");
-        return Audit {
-            at: n,
-            no_deadline,
-            no_payload: no_payload + 1,
-        };
+    if instruction & (attribute.is_some() & !payload) {
+        lack_line(text, b, id, name, b" no payload\n");
+        a.no_payload += 1;
+        return;
     }
-    a
 }
 
 // All slots of the log that ends at `end` with the tag `etag`, by rising id.
-fn slot_audits(out: &mut [u8], b: &[u8], end: usize, etag: u32, count: u32) -> Audit
+fn slot_audits(text: &mut Text, b: &[u8], end: usize, etag: u32, count: u32) -> Audit
     requires { Slots b.now end etag count }
-    ensures { SlotsAudited out.old result out.new (dir_of (log b.now)) }
+    ensures { SlotsAudited text.old text.new result (dir_of (log b.now)) }
 {
     let mut a = Audit {
-        at: 0,
         no_deadline: 0,
         no_payload: 0,
     };
-    let mut id: u32 = 0;
-    while id < count {
+    for id in 0..count {
         let seats = compact_slot::gather(b, end, etag, id);
-        a = slot_audit(out, a, b, id, &seats);
-        id += 1;
+        slot_audit(text, &mut a, b, id, &seats);
     }
     a
 }
 
 // "Behind them three lines": the two counts, and the number of slots.
-fn total_lines(out: &mut [u8], a: Audit, count: u32) -> u32
-    ensures { text result out.new ≡ puts_of (text a.at out.old)
-        (total_lines a.no_deadline a.no_payload count) }
+fn total_lines(text: &mut Text, a: Audit, count: u32)
+    ensures { Puts text.old text.new (total_lines a.no_deadline a.no_payload count) }
 {
-    let n = text::number_line(out, a.at, b"payload without deadline ", a.no_deadline);
-    let n = text::number_line(out, n, b"deadline without payload ", a.no_payload);
-    text::number_line(out, n, b"slots ", count)
+    text.number_line(b"payload without deadline ", a.no_deadline);
+    text.number_line(b"deadline without payload ", a.no_payload);
+    text.number_line(b"slots ", count);
 }
 
 // "A log that isn't regular has no directory: -202, and nothing else."
-fn block_audit(out: &mut [u8], b: &[u8], m: LfsMdir, rules: u32) -> u32
+#[tactic(auto, unfolding(format::specs::Audit::block_audit))]
+fn block_audit(text: &mut Text, b: &[u8], m: LfsMdir, rules: Rules)
     requires { Listable b.now m }
-    ensures { text result out.new ≡ puts_of (text 0 out.old)
-        (block_audit (rules_of rules) m b.now) }
+    ensures { Puts text.old text.new (block_audit rules m b.now) }
 {
-    if !commit_regular::log_regular(b, m.off as usize, commit_regular::rules_of(rules)) {
-        return text_input::refused(out, 0, Refusal::Irregular);
+    let end = m.off as usize;
+    if !commit_regular::log_regular(b, end, rules) {
+        return text_input::refused(text, Refusal::Irregular);
     }
-    let a = slot_audits(out, b, m.off as usize, m.etag, m.count as u32);
-    total_lines(out, a, m.count as u32)
+    let count = m.count as u32;
+    let a = slot_audits(text, b, end, m.etag, count);
+    total_lines(text, a, count);
 }
 
 // Both images, one behind the other, the program size, the numbers of the two blocks and the rule, as the listing takes
@@ -205,21 +183,12 @@ pub fn lfs_dir_audit_as(
     ensures out_after { out.new
         ≡ written_to out.old (audit_as prog_size numbers rules input.now) }
 {
-    if 1 < rules {
-        return text_input::refused(out, 0, Refusal::Invalid);
+    let mut text = Text::new(out);
+    match text_input::ask(prog_size, numbers, rules, input) {
+        Ok(a) => block_audit(&mut text, a.block, a.dir, a.rules),
+        Err(r) => text_input::refused(&mut text, r),
     }
-    let half = input.len() / 2;
-    match text_input::fetch_input(prog_size, numbers, input) {
-        Err(r) => text_input::refused(out, 0, r),
-        Fetched::Found(m, _) => {
-            let pair = m.pair;
-            if pair.n0 == numbers.n0 {
-                block_audit(out, &input[0..half], m, rules)
-            } else {
-                block_audit(out, &input[half..], m, rules)
-            }
-        }
-    }
+    text.len()
 }
 
 // The audit of document 01's own input: "program size 16, numbers 0 and 1", by its own rule.

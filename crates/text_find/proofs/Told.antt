@@ -1,6 +1,6 @@
 -- What is shown of a block, by what the pass over it answered. Assumes nothing.
-use mathlib.Core.Path.{◌≡◌, refl, sym, ap, ◌∙◌}
-use mathlib.Core.Bool.{Bool, true, false, cond}
+use mathlib.Core.Path.{◌≡◌, refl, sym}
+use mathlib.Core.Bool.{Bool, true, false, not, cond}
 use mathlib.Core.List.{List, [], ◌∷◌, map}
 use Prim.Native.Nat.{ℕ, suc, ◌+◌, ◌≤◌, ◌<◌}
 use native.Mathlib.Omega.{arith}
@@ -9,25 +9,23 @@ use borrow.Author.Tests.{eq-eqb, ne_eqb}
 use Rattle.format.specs.Log.{log}
 use Rattle.format.specs.Walk.{Event}
 use Rattle.format.specs.Back.{back}
-use Rattle.format.specs.Regular.{Regular, rules_of}
+use Rattle.format.specs.Regular.{Regular, rules_fit}
 use Rattle.format.specs.Directory.{Slot, empty, dir_of}
 use Rattle.format.specs.Find.{is_named, first_named, find_in}
-use Rattle.format.specs.Listing.{ascii, slot_text, refused_line, fetch_input, fetched_text}
-use Rattle.format.specs.FindText.{named_text, found_text, named_by}
+use Rattle.format.specs.Listing.{slot_text, refused_line}
+use Rattle.format.specs.FindText.{found_text, find_text_as}
 use Rattle.format.specs.declared.Rules.{Rules}
 use Rattle.format.specs.declared.LfsPair.{LfsPair}
 use Rattle.format.specs.declared.LfsMdir.{LfsMdir}
-use Rattle.format.specs.declared.Refusal.{Refusal}
 use Rattle.format.specs.declared.Refusal.TheVariants.{Invalid, Irregular}
 use Rattle.theory.specs.Back.BackActs.{seen}
 use Rattle.compact_slot.specs.Seat.{Gatherable, Gathered}
 use Rattle.compact_slot.specs.Slots.{Slots, slot_in}
 use Rattle.compact_slot.proofs.Slots.{slot_gathers, slot_holds}
-use Rattle.text.specs.Put.{Text, puts_of}
-use Rattle.text_input.specs.Input.{Listable}
+use Rattle.text_input.specs.Input.{Listable, input_text}
 use Rattle.text_input.proofs.Input.{block_slots}
 use Rattle.text_listing.proofs.Loops.{slots_shown}
-use Rattle.std.specs.Prelude.{Err, None, Ok, Option, Result, Some}
+use Rattle.std.specs.Prelude.{Err, Ok, Some}
 
 -- ---- a slot that is found is there
 never : {A : Type 0} → ◌≡◌ {A = ℕ} 0 1 → A
@@ -59,56 +57,35 @@ found_there r name kind es id e = go (Regular r es) refl e
     go true x e = record { regular = x; inside = omega (arith, (first_there name kind 0 (dir_of es) id e).1) }
     go false x e = never (cc)
 
--- ---- a block and its record; q is the rule that was asked for
-module _ (b : List ℕ) (m : LfsMdir) (w : Listable b m) where
-  module _ (name : List ℕ) (kind rules : ℕ) (q : Rules) (asked : q ≡ rules_of rules) where
-    -- x is what `find_in` answers
-    shown : (x : Result (Option ℕ) Refusal) → x ≡ find_in q name kind (log b) → (s r : Text) → r ≡ puts_of s (named_text (dir_of (log b)) x)
-        → r ≡ puts_of s (found_text (rules_of rules) name kind m b)
-    unfolding found_text
-    shown x ex s r er = er ∙ ap (λ (y : Result (Option ℕ) Refusal). puts_of s (named_text (dir_of (log b)) y))
-        (ex ∙ ap (λ (k : Rules). find_in k name kind (log b)) asked)
+-- ---- a slot that is found in a block has seats, which tell what the directory has there
+module _ (b : List ℕ) (m : LfsMdir) (w : Listable b m) (q : Rules) (name : List ℕ) (kind id : ℕ)
+    (e : Ok (Some id) ≡ find_in q name kind (log b)) where
+  there : There q (log b) id
+  there = found_there q name kind (log b) id e
 
-    pub shown_none : (Ok None) ≡ find_in q name kind (log b) → (s r : Text) → r ≡ puts_of s (ascii "none\n")
-        → r ≡ puts_of s (found_text (rules_of rules) name kind m b)
-    unfolding named_text
-    shown_none e s r er = shown (Ok None) e s r er
+  slots : Slots b m.off m.etag m.count
+  slots = block_slots b m q true w (sym there.regular) refl
 
-    pub shown_refused : (y : Refusal) → Err y ≡ find_in q name kind (log b) → (s r : Text)
-        → r ≡ puts_of s (refused_line y) → r ≡ puts_of s (found_text (rules_of rules) name kind m b)
-    unfolding named_text
-    shown_refused y e s r er = shown (Err y) e s r er
+  low : id < m.count
+  low = rw slots.count' there.inside
 
-    module _ (id : ℕ) (e : Ok (Some id) ≡ find_in q name kind (log b)) where
-      there : There q (log b) id
-      there = found_there q name kind (log b) id e
+  pub found_gathers : Gatherable b m.off id
+  found_gathers = slot_gathers b m.off m.etag m.count slots id (omega (arith, low))
 
-      slots : Slots b m.off m.etag m.count
-      slots = block_slots b m q true w (sym there.regular) refl
-
-      low : id < m.count
-      low = rw slots.count' there.inside
-
-      pub found_gathers : Gatherable b m.off id
-      found_gathers = slot_gathers b m.off m.etag m.count slots id (omega (arith, low))
-
-      pub shown_slot : (seats : List ℕ) → Gathered b (map (seen b) (back b m.off m.etag)) id seats → (s r : Text)
-          → r ≡ puts_of s (slot_text id (slot_in b seats)) → r ≡ puts_of s (found_text (rules_of rules) name kind m b)
-      unfolding named_text
-      shown_slot seats g s r er = shown (Ok (Some id)) e s r
-          (er ∙ ap (puts_of s) (slots_shown.same id (slot_in b seats) (get_or (dir_of (log b)) id empty)
-          (slot_holds b m.off m.etag m.count slots id seats low g)))
+  pub found_same : (seats : List ℕ) → Gathered b (map (seen b) (back b m.off m.etag)) id seats
+      → slot_text id (slot_in b seats) ≡ slot_text id (get_or (dir_of (log b)) id empty)
+  found_same seats g = slots_shown.same id (slot_in b seats) (get_or (dir_of (log b)) id empty)
+      (slot_holds b m.off m.etag m.count slots id seats low g)
 
 -- ---- the name
--- the text of a name that is not empty, by a rule that is one
-abbrev pub found_as : ℕ → LfsPair → ℕ → List ℕ → ℕ → List ℕ → List ℕ
-found_as prog p rules name kind input =
-    fetched_text (found_text (rules_of rules) name kind) p input (fetch_input prog p input)
+module _ (prog : ℕ) (p : LfsPair) (rules : ℕ) (name : List ℕ) (kind : ℕ) (input : List ℕ) where
+  pub name_refused : length name ≡ 0 → refused_line Invalid ≡ find_text_as prog p rules name kind input
+  name_refused h = rw (eq-eqb (length name) 0 h) (go (not (rules_fit rules)))
+    where
+      go : (x : Bool) → refused_line Invalid ≡ cond x (refused_line Invalid) (refused_line Invalid)
+      go true = refl
+      go false = refl
 
-pub name_refused : (name text : List ℕ) (s r : Text) → length name ≡ 0 → r ≡ puts_of s (refused_line Invalid)
-    → r ≡ puts_of s (named_by name text)
-name_refused name text s r h er = rw (eq-eqb (length name) 0 h) er
-
-pub name_fits : (name text : List ℕ) (s r : Text) → (length name ≡ 0 → ⊥) → r ≡ puts_of s text
-    → r ≡ puts_of s (named_by name text)
-name_fits name text s r h er = rw (ne_eqb (length name) 0 h) er
+  pub name_fits : (length name ≡ 0 → ⊥) → input_text (λ r m b. found_text r name kind m b) prog p rules input
+      ≡ find_text_as prog p rules name kind input
+  name_fits h = rw (ne_eqb (length name) 0 h)

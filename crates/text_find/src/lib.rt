@@ -3,29 +3,29 @@
 #![tactic(auto)]
 
 ghost use Rattle.std.specs.Prelude.{◌≡◌, length};
-ghost use Rattle.format.specs.Regular.{rules_of};
 ghost use Rattle.format.specs.Listing.{written_to};
 ghost use Rattle.format.specs.FindText.{found_text, find_text_as};
-ghost use Rattle.text.specs.Put.{text, puts_of};
+ghost use Rattle.text.specs.Put.{Puts};
 ghost use Rattle.text_input.specs.Input.{Listable};
 
-use format::{Fetched, LfsMdir, LfsPair, Refusal};
+use format::{LfsMdir, LfsPair, Refusal, Rules};
+use text::Text;
 
 // Of the block that fetch answers from: "the slot's line and its attributes as the listing does, or .. that there is
 // none".
-fn found_text(out: &mut [u8], b: &[u8], m: LfsMdir, rules: u32, name: &[u8], kind: u32) -> u32
+#[tactic(auto, unfolding(format::specs::FindText::found_text, format::specs::FindText::named_text))]
+fn found_text(text: &mut Text, b: &[u8], m: LfsMdir, rules: Rules, name: &[u8], kind: u32)
     requires { Listable b.now m }
-    ensures { text result out.new ≡ puts_of (text 0 out.old)
-        (found_text (rules_of rules) name.now kind m b.now) }
+    ensures { Puts text.old text.new (found_text rules name.now kind m b.now) }
 {
     let end = m.off as usize;
-    match find_pass::find_in(b, end, commit_regular::rules_of(rules), name, kind) {
+    match find_pass::find_in(b, end, rules, name, kind) {
         Ok(Some(id)) => {
             let seats = compact_slot::gather(b, end, m.etag, id);
-            text_listing::slot_text(out, 0, b, id, &seats)
+            text_listing::slot_text(text, b, id, &seats);
         }
-        Ok(None) => text::puts(out, 0, b"none\n"),
-        Err(r) => text_input::refused(out, 0, r),
+        Ok(None) => text.puts(b"none\n"),
+        Err(r) => text_input::refused(text, r),
     }
 }
 
@@ -45,22 +45,14 @@ pub fn lfs_dir_find_as(
     ensures out_after { out.new ≡ written_to out.old
         (find_text_as prog_size numbers rules name.now kind input.now) }
 {
-    if 1 < rules {
-        return text_input::refused(out, 0, Refusal::Invalid);
+    let mut text = Text::new(out);
+    if name.is_empty() {
+        text_input::refused(&mut text, Refusal::Invalid);
+        return text.len();
     }
-    if name.len() == 0 {
-        return text_input::refused(out, 0, Refusal::Invalid);
+    match text_input::ask(prog_size, numbers, rules, input) {
+        Ok(a) => found_text(&mut text, a.block, a.dir, a.rules, name, kind),
+        Err(r) => text_input::refused(&mut text, r),
     }
-    let half = input.len() / 2;
-    match text_input::fetch_input(prog_size, numbers, input) {
-        Err(r) => text_input::refused(out, 0, r),
-        Fetched::Found(m, _) => {
-            let pair = m.pair;
-            if pair.n0 == numbers.n0 {
-                found_text(out, &input[0..half], m, rules, name, kind)
-            } else {
-                found_text(out, &input[half..], m, rules, name, kind)
-            }
-        }
-    }
+    text.len()
 }

@@ -1,13 +1,15 @@
--- The loop over slots: what is left to show, from where the text stands. Assumes nothing.
+-- The loop over slots: one more is shown behind those before it. Assumes nothing.
 use mathlib.Core.Path.{◌≡◌, sym, ap, ◌∙◌}
 use mathlib.Core.List.{List, [], ◌∷◌, ◌++◌}
-use Prim.Native.Nat.{ℕ, suc, ◌+◌, ◌≤◌, ◌<◌}
+use Prim.Native.Nat.{ℕ, zero, suc, ◌+◌, ◌<◌}
 use native.Mathlib.Numerals.{add-one}
-use lib.ListN.{length, drop, get_or, drop_of_length-le}
-use lib.Seq.{drop-cons}
+use native.Mathlib.Omega.{arith}
+use lib.ListN.{length, take, get_or}
+use Rattle.std.proofs.Common.{append_assoc, append-nil, add-zero, zero-add}
 use Rattle.format.specs.Directory.{classes, Slot, empty}
-use Rattle.text.specs.Put.{Text, puts_of}
-use Rattle.text.proofs.Joined.{puts_app, puts_none}
+use Rattle.text.specs.declared.Text.{Text}
+use Rattle.text.specs.Put.{Puts}
+use Rattle.text.proofs.Joined.{puts_both}
 
 -- ---- a loop over slots: f shows one of them, F all from an id on
 pub record Shown (F : ℕ → List Slot → List ℕ) (f : ℕ → Slot → List ℕ) : Type 0 where
@@ -16,18 +18,23 @@ pub record Shown (F : ℕ → List Slot → List ℕ) (f : ℕ → Slot → List
   pub same : (id : ℕ) (s t : Slot) → ((k : ℕ) → k < classes → s k ≡ t k) → f id s ≡ f id t
 
 module _ (F : ℕ → List Slot → List ℕ) (f : ℕ → Slot → List ℕ) (law : Shown F f) where
-  -- one slot more: a is where all slots end, r stands behind the slot id, whose seats hold what the directory has there
-  pub slots_next : (a s r : Text) (D : List Slot) (id : ℕ) (slot : Slot) → id < length D
-      → ((k : ℕ) → k < classes → slot k ≡ get_or D id empty k)
-      → a ≡ puts_of s (F id (drop id D)) → r ≡ puts_of s (f id slot) → a ≡ puts_of r (F (id + 1) (drop (id + 1) D))
-  slots_next a s r D id slot h same ea er =
-      let R : List ℕ = F (id + 1) (drop (id + 1) D) in
-      let held : Slot = get_or D id empty in
-      let e : F id (drop id D) ≡ f id slot ++ R =
-      ap (F id) (drop-cons D id empty h) ∙ law.next id held (drop (suc id) D)
-      ∙ rw (add-one id) (ap (λ (l : List ℕ). l ++ F (suc id) (drop (suc id) D)) (sym (law.same id slot held same))) in
-      ea ∙ ap (puts_of s) e ∙ sym (puts_app (f id slot) R s) ∙ ap (λ (z : Text). puts_of z R) (sym er)
+  one_more : (D : List Slot) (i j : ℕ) → i < length D
+      → F j (take (suc i) D) ≡ F j (take i D) ++ f (i + j) (get_or D i empty)
+  one_more [] i j h = absurd (omega arith)
+  one_more (s ∷ D) zero j h =
+      rw zero-add (law.next j s [] ∙ ap (λ (l : List ℕ). f j s ++ l) (law.none (suc j)) ∙ append-nil (f j s)
+      ∙ ap (λ (l : List ℕ). l ++ f j s) (sym (law.none j)))
+  one_more (s ∷ D) (suc i) j h =
+      let e : i + suc j ≡ suc i + j = omega arith in
+      law.next j s (take (suc i) D) ∙ ap (λ (l : List ℕ). f j s ++ l) (one_more D i (suc j) (omega arith))
+      ∙ sym (append_assoc (f j s) (F (suc j) (take i D)) (f (i + suc j) (get_or D i empty)))
+      ∙ ap (λ (l : List ℕ). l ++ f (i + suc j) (get_or D i empty)) (sym (law.next j s (take i D)))
+      ∙ ap (λ (n : ℕ). F j (s ∷ take i D) ++ f n (get_or D i empty)) e
 
-  pub slots_done : (a s : Text) (D : List Slot) (id : ℕ) → length D ≤ id → a ≡ puts_of s (F id (drop id D)) → s ≡ a
-  slots_done a s D id h ea = puts_none s
-      ∙ sym (ea ∙ ap (puts_of s) (ap (F id) (drop_of_length-le D {i = id} h) ∙ law.none id))
+  -- one slot more, whose seats hold what the directory has there
+  pub slots_each : (a b c : Text) (D : List Slot) (id : ℕ) (slot : Slot) → id < length D
+      → ((k : ℕ) → k < classes → slot k ≡ get_or D id empty k)
+      → Puts a b (F 0 (take id D)) → Puts b c (f id slot) → Puts a c (F 0 (take (id + 1) D))
+  slots_each a b c D id slot h same p q =
+      rw (add-one id, one_more D id 0 h, add-zero id, ← law.same id slot (get_or D id empty) same)
+      (puts_both a b c (F 0 (take id D)) (f id slot) p q)

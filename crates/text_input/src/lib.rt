@@ -2,12 +2,16 @@
 // pair begins with. Any bytes may be given.
 #![tactic(auto)]
 
-ghost use Rattle.std.specs.Prelude.{◌≡◌};
+ghost use Rattle.std.specs.Prelude.{◌≡◌, ℕ, List, IfOk, length};
+ghost use Rattle.format.specs.declared.LfsMdir.{LfsMdir};
+ghost use Rattle.format.specs.declared.Rules.{Rules};
 ghost use Rattle.format.specs.Listing.{refused_line, fetch_input};
-ghost use Rattle.text.specs.Put.{text, puts_of};
-ghost use Rattle.text_input.specs.Input.{Numbers};
+ghost use Rattle.format.specs.Look.{bytes_of, FoundIn};
+ghost use Rattle.text.specs.Put.{Puts};
+ghost use Rattle.text_input.specs.Input.{Listable, input_text, answer_text};
 
-use format::{Fetched, Geometry, LfsPair, Refusal};
+use format::{Fetched, Found, Geometry, LfsMdir, LfsPair, Refusal, Rules};
+use text::Text;
 
 // Document 01's own input: "program size 16, numbers 0 and 1".
 pub const INPUT_PROG_SIZE: u32 = 16;
@@ -19,58 +23,69 @@ pub const INPUT_RULES: u32 = 0;
 
 // What fetch answers for both images, one behind the other: "block size is half the length, .. block count 0, seed 0;
 // an odd length or one above 65,536 is -22". The program size and the two block numbers are given.
+#[tactic(auto, unfolding(format::specs::Listing::fetch_input))]
 pub fn fetch_input(prog_size: u32, numbers: LfsPair, input: &[u8]) -> Result<Fetched, Refusal>
     ensures { result ≡ fetch_input prog_size numbers input.now }
 {
     let n = input.len();
-    if n % 2 == 1 {
+    if (n % 2 == 1) | (65_536 < n) {
         return Err(Refusal::Invalid);
     }
-    if 65_536 < n {
-        return Err(Refusal::Invalid);
-    }
-    let half = n / 2;
+    let (first, second) = input.split_at(n / 2);
     let g = Geometry {
-        block_size: half as u32,
-        prog_size: prog_size,
+        block_size: (n / 2) as u32,
+        prog_size,
     };
-    fetch::lfs_dir_fetch(
-        g,
-        &input[0..half],
-        &input[half..],
-        numbers.n0,
-        numbers.n1,
-        0,
-        0,
-    )
+    fetch::lfs_dir_fetch(g, first, second, numbers.n0, numbers.n1, 0, 0)
 }
 
-// The number of a refusal, without its sign.
-fn number_of(r: Refusal) -> u32
-    ensures { Numbers r result }
-{
-    match r {
-        Refusal::Invalid => 22,
-        Refusal::Corrupt => 84,
-        Refusal::NoEntry => 2,
-        Refusal::TooMany(_, _) => 2,
-        Refusal::BadEntry(_) => 201,
-        Refusal::Irregular => 202,
-        Refusal::NoSpace => 28,
-        Refusal::Misaligned => 211,
-        Refusal::WrongValidity => 212,
-        Refusal::NotErased(_) => 213,
-        Refusal::Coincidence => 204,
-        Refusal::TableFull => 221,
-        Refusal::Spent => 231,
-        Refusal::TooDeep => 232,
-    }
+// The block that answers, its record, and the rule by which its log is to be regular.
+#[derive(Drop)]
+pub struct Answering<'a> {
+    pub rules: Rules,
+    pub dir: LfsMdir,
+    pub block: &'a [u8],
 }
 
-// "A refusal prints `refused` and its number": all of them are below 0.
-pub fn refused(out: &mut [u8], at: u32, r: Refusal) -> u32
-    ensures { text result out.new ≡ puts_of (text at out.old) (refused_line r) }
+// What there is to show of an input: the rule is 0 or 1, "any other -22". Fetch refuses two equal numbers, so the first
+// number of the record says which half answers.
+pub fn ask(
+    prog_size: u32,
+    numbers: LfsPair,
+    rules: u32,
+    input: &[u8],
+) -> Result<Answering<'_>, Refusal>
+    ensures listable { IfOk result (λ a. Listable a.block.now a.dir) }
+    ensures shown { (shows : Rules → LfsMdir → List ℕ → List ℕ)
+        → answer_text shows result ≡ input_text shows prog_size numbers rules input.now }
 {
-    let number = number_of(r);
-    text::number_line(out, at, b"refused -", number)
+    let rules = Rules::try_from(rules)?;
+    let dir = fetch_input(prog_size, numbers, input)?.dir;
+    let (first, second) = input.split_at(input.len() / 2);
+    let block = if dir.pair.n0 == numbers.n0 {
+        first
+    } else {
+        second
+    };
+    Ok(Answering { rules, dir, block })
+}
+
+// The data of an entry that was found.
+#[tactic(auto, using(format::proofs::Searched::part_is))]
+pub fn data_of(b: &[u8], e: Found) -> &[u8]
+    requires { FoundIn (length b.now) e }
+    ensures { result.now ≡ bytes_of b.now e }
+{
+    let from = e.off as usize;
+    &b[from..from + (e.length - 4) as usize]
+}
+
+// "A refusal prints `refused` and its number".
+#[tactic(auto, unfolding(format::specs::Listing::refused_line, text::specs::Put::puts_of), using(text::proofs::Joined::puts_append))]
+pub fn refused(text: &mut Text, r: Refusal)
+    ensures { Puts text.old text.new (refused_line r) }
+{
+    text.puts(b"refused ");
+    text.integer(r.number());
+    text.puts(b"\n");
 }

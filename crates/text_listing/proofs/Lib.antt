@@ -1,5 +1,3 @@
--- What each function of the listing adds, how its loops go on, and what the whole leaves.
-pub mod Fields
+-- How the loops of the listing go on, and how long the whole is.
 pub mod Loops
-pub mod Whole
 pub mod Fits

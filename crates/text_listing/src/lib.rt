@@ -5,194 +5,169 @@
 
 ghost use Rattle.std.specs.Prelude.{◌≡◌, ◌^◌, length};
 ghost use Rattle.format.specs.Log.{log};
-ghost use Rattle.format.specs.Regular.{rules_of};
 ghost use Rattle.format.specs.Directory.{dir_of};
-ghost use Rattle.format.specs.Listing.{tail_kind, tail_line, erased_line, record_lines, name_fields, struct_fields};
+ghost use Rattle.format.specs.Listing.{tail_line, erased_line, record_lines, name_fields, struct_fields};
 ghost use Rattle.format.specs.Listing.{attr_data, attr_line, attr_lines, slot_text, slot_lines, block_text, listing_of};
 ghost use Rattle.format.specs.Listing.{listing_as, written_to};
-ghost use Rattle.text.specs.Put.{text, puts_of};
+ghost use Rattle.text.specs.Put.{Puts};
 ghost use Rattle.format.specs.Look.{HitIn};
 ghost use Rattle.theory.specs.Lookup.ByMask.{holds};
 ghost use Rattle.compact_slot.specs.Slots.{Slots, slot_in, AllInside};
 ghost use Rattle.text_input.specs.Input.{Listable};
 
 use format::types::LFS_BLOCK_NULL;
-use format::{Fetched, LfsMdir, LfsPair, Refusal};
+use format::{Found, LfsMdir, LfsPair, Refusal, Rules};
+use text::Text;
 use text_input::{INPUT_PAIR, INPUT_PROG_SIZE, INPUT_RULES};
 
 // The class of the first user attribute: a name and a struct come before.
 const ATTRIBUTES: usize = 2;
 
 // "id, name type, name, ..; a missing part prints `-` per field"
-pub fn name_fields(out: &mut [u8], at: u32, b: &[u8], name: Option<Found>) -> u32
+#[tactic(auto, unfolding(format::specs::Listing::name_fields, theory::specs::Lookup::ByMask::holds, text::specs::Put::puts_of), using(text::proofs::Joined::puts_append))]
+pub fn name_fields(text: &mut Text, b: &[u8], name: Option<Found>)
     requires { HitIn (length b.now) name }
-    ensures { text result out.new ≡ puts_of (text at out.old)
-        (name_fields (holds b.now name)) }
+    ensures { Puts text.old text.new (name_fields (holds b.now name)) }
 {
     let Some(e) = name else {
-        return text::puts(out, at, b" - -");
+        return text.puts(b" - -");
     };
-    let from = e.off as usize;
-    let to = from + (e.length - 4) as usize;
-    let n = text::puts(out, at, b" ");
-    let n = text::hex_type(out, n, tag::lfs_tag_type3(e.tag) as u32);
-    let n = text::puts(out, n, b" ");
-    text::name_bytes(out, n, &b[from..to])
+    text.puts(b" ");
+    text.hex_type(tag::lfs_tag_type3(e.tag) as u32);
+    text.puts(b" ");
+    text.name_bytes(text_input::data_of(b, e));
 }
 
 // ".. struct type, struct length"
-fn struct_fields(out: &mut [u8], at: u32, b: &[u8], content: Option<Found>) -> u32
+#[tactic(auto, unfolding(format::specs::Listing::struct_fields, theory::specs::Lookup::ByMask::holds, text::specs::Put::puts_of), using(text::proofs::Joined::puts_append, format::proofs::Searched::bytes_length))]
+fn struct_fields(text: &mut Text, b: &[u8], content: Option<Found>)
     requires { HitIn (length b.now) content }
-    ensures { text result out.new ≡ puts_of (text at out.old)
-        (struct_fields (holds b.now content)) }
+    ensures { Puts text.old text.new (struct_fields (holds b.now content)) }
 {
     let Some(e) = content else {
-        return text::puts(out, at, b" - -\n");
+        return text.puts(b" - -\n");
     };
-    let n = text::puts(out, at, b" ");
-    let n = text::hex_type(out, n, tag::lfs_tag_type3(e.tag) as u32);
-    text::number_line(out, n, b" ", e.length - 4)
+    text.puts(b" ");
+    text.hex_type(tag::lfs_tag_type3(e.tag) as u32);
+    text.number_line(b" ", e.length - 4);
 }
 
 // ".. data hex, ..; an empty one prints `-`"
-fn attr_data(out: &mut [u8], at: u32, bytes: &[u8]) -> u32
-    ensures { text result out.new ≡ puts_of (text at out.old) (attr_data bytes.now) }
+fn attr_data(text: &mut Text, bytes: &[u8])
+    ensures { Puts text.old text.new (attr_data bytes.now) }
 {
-    if bytes.len() == 0 {
-        return text::puts(out, at, b"-");
+    if bytes.is_empty() {
+        return text.puts(b"-");
     }
-    text::hex_bytes(out, at, bytes)
+    text.hex_bytes(bytes);
 }
 
 // "Attr, behind its slot: id, type, data hex"; nothing where nothing was found.
-fn attr_line(out: &mut [u8], at: u32, b: &[u8], id: u32, attribute: Option<Found>) -> u32
+#[tactic(auto, unfolding(format::specs::Listing::attr_line, theory::specs::Lookup::ByMask::holds, text::specs::Put::puts_of), using(text::proofs::Joined::puts_append))]
+fn attr_line(text: &mut Text, b: &[u8], id: u32, attribute: Option<Found>)
     requires { HitIn (length b.now) attribute }
-    ensures { text result out.new ≡ puts_of (text at out.old)
-        (attr_line id (holds b.now attribute)) }
+    ensures { Puts text.old text.new (attr_line id (holds b.now attribute)) }
 {
     let Some(e) = attribute else {
-        return at;
+        return;
     };
-    let from = e.off as usize;
-    let to = from + (e.length - 4) as usize;
-    let n = text::puts(out, at, b"attr ");
-    let n = text::decimal(out, n, id);
-    let n = text::puts(out, n, b" ");
-    let n = text::hex_type(out, n, tag::lfs_tag_type3(e.tag) as u32);
-    let n = text::puts(out, n, b" ");
-    let n = attr_data(out, n, &b[from..to]);
-    text::puts(out, n, b"\n")
+    text.puts(b"attr ");
+    text.decimal(id);
+    text.puts(b" ");
+    text.hex_type(tag::lfs_tag_type3(e.tag) as u32);
+    text.puts(b" ");
+    attr_data(text, text_input::data_of(b, e));
+    text.puts(b"\n");
 }
 
 // The user attributes of a slot, ".. rising".
-fn attr_lines(out: &mut [u8], at: u32, b: &[u8], id: u32, seats: &[u32; 516]) -> u32
+fn attr_lines(text: &mut Text, b: &[u8], id: u32, seats: &[u32; 516])
     requires { AllInside b.now seats.now }
-    ensures { text result out.new ≡ puts_of (text at out.old)
-        (attr_lines (2 ^ 8) 2 id (slot_in b.now seats.now)) }
+    ensures { Puts text.old text.new (attr_lines (2 ^ 8) 2 id (slot_in b.now seats.now)) }
 {
-    let mut n = at;
-    let mut class = ATTRIBUTES;
-    while class < compact_slot::CLASSES {
-        n = attr_line(out, n, b, id, compact_slot::found(seats, class));
-        class += 1;
+    for class in ATTRIBUTES..compact_slot::CLASSES {
+        attr_line(text, b, id, compact_slot::found(seats, class));
     }
-    n
 }
 
 // A slot: its line, and its user attributes behind it.
-pub fn slot_text(out: &mut [u8], at: u32, b: &[u8], id: u32, seats: &[u32; 516]) -> u32
+#[tactic(auto, unfolding(format::specs::Listing::slot_line, text::specs::Put::puts_of), using(text::proofs::Joined::puts_append))]
+pub fn slot_text(text: &mut Text, b: &[u8], id: u32, seats: &[u32; 516])
     requires { AllInside b.now seats.now }
-    ensures { text result out.new ≡ puts_of (text at out.old)
-        (slot_text id (slot_in b.now seats.now)) }
+    ensures { Puts text.old text.new (slot_text id (slot_in b.now seats.now)) }
 {
-    let n = text::puts(out, at, b"slot ");
-    let n = text::decimal(out, n, id);
-    let n = name_fields(out, n, b, compact_slot::found(seats, 0));
-    let n = struct_fields(out, n, b, compact_slot::found(seats, 1));
-    attr_lines(out, n, b, id, seats)
+    text.puts(b"slot ");
+    text.decimal(id);
+    name_fields(text, b, compact_slot::found(seats, 0));
+    struct_fields(text, b, compact_slot::found(seats, 1));
+    attr_lines(text, b, id, seats);
 }
 
 // All slots of the log that ends at `end` with the tag `etag`.
-fn slot_lines(out: &mut [u8], at: u32, b: &[u8], end: usize, etag: u32, count: u32) -> u32
+fn slot_lines(text: &mut Text, b: &[u8], end: usize, etag: u32, count: u32)
     requires { Slots b.now end etag count }
-    ensures { text result out.new ≡ puts_of (text at out.old)
-        (slot_lines 0 (dir_of (log b.now))) }
+    ensures { Puts text.old text.new (slot_lines 0 (dir_of (log b.now))) }
 {
-    let mut n = at;
-    let mut id: u32 = 0;
-    while id < count {
+    for id in 0..count {
         let seats = compact_slot::gather(b, end, etag, id);
-        n = slot_text(out, n, b, id, &seats);
-        id += 1;
+        slot_text(text, b, id, &seats);
     }
-    n
 }
 
-// "A tail prints `soft` or `hard` .."
-fn tail_kind(out: &mut [u8], at: u32, split: bool) -> u32
-    ensures { text result out.new ≡ puts_of (text at out.old) (tail_kind split) }
+// "A tail prints `soft` or `hard` and two decimals; `none` is soft, both 0xffffffff."
+#[tactic(auto, unfolding(format::specs::Listing::tail_line), using(text::proofs::Joined::puts_append))]
+fn tail_line(text: &mut Text, split: bool, pair: LfsPair)
+    ensures { Puts text.old text.new (tail_line split pair) }
 {
-    if split {
-        return text::puts(out, at, b"tail hard ");
+    if !split & (pair.n0 == LFS_BLOCK_NULL) & (pair.n1 == LFS_BLOCK_NULL) {
+        return text.puts(b"tail none\n");
     }
-    text::puts(out, at, b"tail soft ")
+    text.puts(if split { b"tail hard " } else { b"tail soft " });
+    text.decimal(pair.n0);
+    text.number_line(b" ", pair.n1);
 }
 
-// ".. and two decimals; `none` is soft, both 0xffffffff."
-fn tail_line(out: &mut [u8], at: u32, split: bool, pair: LfsPair) -> u32
-    ensures { text result out.new ≡ puts_of (text at out.old) (tail_line split pair) }
-{
-    let n0 = pair.n0;
-    let n1 = pair.n1;
-    if !split & (n0 == LFS_BLOCK_NULL) & (n1 == LFS_BLOCK_NULL) {
-        return text::puts(out, at, b"tail none\n");
-    }
-    let n = tail_kind(out, at, split);
-    let n = text::decimal(out, n, n0);
-    text::number_line(out, n, b" ", n1)
-}
-
-fn erased_line(out: &mut [u8], at: u32, erased: bool) -> u32
-    ensures { text result out.new ≡ puts_of (text at out.old) (erased_line erased) }
+#[tactic(auto, unfolding(format::specs::Listing::erased_line))]
+fn erased_line(text: &mut Text, erased: bool)
+    ensures { Puts text.old text.new (erased_line erased) }
 {
     if erased {
-        return text::puts(out, at, b"erased yes\n");
+        return text.puts(b"erased yes\n");
     }
-    text::puts(out, at, b"erased no\n")
+    text.puts(b"erased no\n");
 }
 
 // The six lines of a record.
-fn record_lines(out: &mut [u8], at: u32, m: LfsMdir) -> u32
-    ensures { text result out.new ≡ puts_of (text at out.old) (record_lines m) }
+#[tactic(auto, unfolding(format::specs::Listing::record_lines), using(text::proofs::Joined::puts_append))]
+fn record_lines(text: &mut Text, m: LfsMdir)
+    ensures { Puts text.old text.new (record_lines m) }
 {
-    let pair = m.pair;
-    let tail = m.tail;
-    let n = text::number_line(out, at, b"rev ", m.rev);
-    let n = text::number_line(out, n, b"block ", pair.n0);
-    let n = text::number_line(out, n, b"end ", m.off);
-    let n = text::number_line(out, n, b"count ", m.count as u32);
-    let n = tail_line(out, n, m.split, tail);
-    erased_line(out, n, m.erased)
+    text.number_line(b"rev ", m.rev);
+    text.number_line(b"block ", m.pair.n0);
+    text.number_line(b"end ", m.off);
+    text.number_line(b"count ", m.count as u32);
+    tail_line(text, m.split, m.tail);
+    erased_line(text, m.erased);
 }
 
 // "for -202 after the erased line"
-fn block_text(out: &mut [u8], b: &[u8], m: LfsMdir, rules: u32) -> u32
+#[tactic(auto, unfolding(format::specs::Listing::block_text, format::specs::Listing::dir_lines), using(text::proofs::Joined::puts_append))]
+fn block_text(text: &mut Text, b: &[u8], m: LfsMdir, rules: Rules)
     requires { Listable b.now m }
-    ensures { text result out.new ≡ puts_of (text 0 out.old)
-        (block_text (rules_of rules) m b.now) }
+    ensures { Puts text.old text.new (block_text rules m b.now) }
 {
-    let n = record_lines(out, 0, m);
-    if !commit_regular::log_regular(b, m.off as usize, commit_regular::rules_of(rules)) {
-        return text_input::refused(out, n, Refusal::Irregular);
+    record_lines(text, m);
+    let end = m.off as usize;
+    if !commit_regular::log_regular(b, end, rules) {
+        return text_input::refused(text, Refusal::Irregular);
     }
-    slot_lines(out, n, b, m.off as usize, m.etag, m.count as u32)
+    slot_lines(text, b, end, m.etag, m.count as u32);
 }
 
 // The listing of both images, one behind the other, as far as `out` has room; the program size, the numbers of the two
 // blocks and the rule by which the log must be regular are given: 0 or 1, "any other -22". The answer is the length of
-// the whole text, so a caller whose buffer was too short knows how long a one to lend. Fetch refuses two equal numbers,
-// so the first number of the record says which half is listed. No listing reaches 2^32 bytes, where `text`'s count
-// would wrap.
+// the whole text, so a caller whose buffer was too short knows how long a one to lend. No listing reaches 2^32 bytes,
+// where `text`'s count would wrap.
 pub fn lfs_dir_list_as(
     prog_size: u32,
     numbers: LfsPair,
@@ -204,21 +179,12 @@ pub fn lfs_dir_list_as(
     ensures out_after { out.new
         ≡ written_to out.old (listing_as prog_size numbers rules input.now) }
 {
-    if 1 < rules {
-        return text_input::refused(out, 0, Refusal::Invalid);
+    let mut text = Text::new(out);
+    match text_input::ask(prog_size, numbers, rules, input) {
+        Ok(a) => block_text(&mut text, a.block, a.dir, a.rules),
+        Err(r) => text_input::refused(&mut text, r),
     }
-    let half = input.len() / 2;
-    match text_input::fetch_input(prog_size, numbers, input) {
-        Err(r) => text_input::refused(out, 0, r),
-        Fetched::Found(m, _) => {
-            let pair = m.pair;
-            if pair.n0 == numbers.n0 {
-                block_text(out, &input[0..half], m, rules)
-            } else {
-                block_text(out, &input[half..], m, rules)
-            }
-        }
-    }
+    text.len()
 }
 
 // The listing of document 01's own input: "program size 16, numbers 0 and 1", by its own rule.

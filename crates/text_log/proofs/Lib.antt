@@ -1,6 +1,5 @@
--- What each function of the raw log adds: the columns of a tag, its data, why a walk stops, the turns of the loop over
--- a walk, both blocks; and that no text is too long.
-pub mod TagShown
+-- What each function of the raw log adds: data in hex, why a walk stops, the turns of the loop over a walk, both blocks;
+-- and that no text is too long.
 pub mod DataShown
 pub mod StopShown
 pub mod WalkShown

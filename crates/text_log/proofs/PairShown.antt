@@ -1,37 +1,22 @@
--- A block, both blocks, the whole text. Assumes nothing.
-use mathlib.Core.Path.{◌≡◌, refl, sym, ap, ◌∙◌}
-use mathlib.Core.Bool.{Bool, true, false, cond, ◌&&◌}
-use mathlib.Core.List.{List, [], ◌++◌}
-use Prim.Native.Nat.{ℕ, ◌-◌, ◌/◌, ◌%◌, ◌≤◌}
+-- A block, and both blocks of an input. Assumes nothing.
+use mathlib.Core.Path.{◌≡◌, refl, ap}
+use mathlib.Core.Bool.{Bool, true, false, ◌&&◌}
+use mathlib.Core.List.{List}
+use Prim.Native.Nat.{ℕ, ◌/◌, ◌%◌, ◌≤◌}
 use native.Mathlib.Omega.{arith}
 use lib.Dec.{eqb, leb}
 use lib.ListN.{length, take, drop, length-take, length-drop}
-use borrow.Author.Tests.{eq-eqb, ne_eqb, leb-true}
+use borrow.Author.Tests.{leb-true}
 use Rattle.format.specs.Log.{log, log_end}
-use Rattle.format.specs.Listing.{ascii}
-use Rattle.format.specs.RawLog.{hex_word, committed_line, block_log, is_shown, block_logs}
-use Rattle.format.specs.declared.LfsPair.{LfsPair}
+use Rattle.format.specs.RawLog.{is_shown}
 use Rattle.fetch_walk.specs.Block.{walked_of}
 use Rattle.fetch_walk.specs.Next.{start_of}
 use Rattle.fetch_walk.specs.declared.cursor.Cursor.{Cursor}
 use Rattle.fetch_walk.specs.declared.Walked.{Walked}
 use Rattle.fetch_walk.proofs.Folds.{log_within}
-use Rattle.text.specs.Put.{Text, puts_of}
-use Rattle.text.proofs.Joined.{puts_none, join}
-use Rattle.text_input.proofs.Input.{cut_front, cut_back}
 use Rattle.text_log.specs.Part.{Reached}
 
--- ---- where a log ends
-pub committed_none : (s r : Text) (end : ℕ) → end ≡ 4 → r ≡ puts_of s (ascii "nothing is committed\n\n")
-    → r ≡ puts_of s (committed_line end)
-unfolding committed_line
-committed_none s r end h er = rw (eq-eqb end 4 h) er
-
-pub committed_some : (s r : Text) (end : ℕ) → (end ≡ 4 → ⊥)
-    → r ≡ puts_of s (ascii "committed up to " ++ (hex_word end ++ ascii "\n\n")) → r ≡ puts_of s (committed_line end)
-unfolding committed_line
-committed_some s r end h er = rw (ne_eqb end 4 h) er
-
+-- ---- a block
 -- w is what `walk_block` answers
 module _ (b : List ℕ) (w : Walked) (ew : w ≡ walked_of b 0) where
   pub taken_end : w.taken.off ≡ log_end (log b)
@@ -59,43 +44,16 @@ shown_long n h = go (eqb (n % 2) 0) (leb 256 n) (leb n 65_536) h (leb-true 256 n
     go true false w e f g = apart e
     go false v w e f g = apart e
 
-module _ (input : List ℕ) (x : Bool) (ex : x ≡ is_shown (length input)) where
-  pub shown_none : (full : Bool) (p : LfsPair) (s : Text) → x ≡ false
-      → s ≡ puts_of s (cond (is_shown (length input)) (block_logs full p input) [])
-  shown_none full p s h = rw (sym ex ∙ h) (puts_none s)
-
-  module _ (h : x ≡ true) where
-    shown : is_shown (length input) ≡ true
-    shown = sym ex ∙ h
-
-    long : (256 ≤ length input) × (length input ≤ 65_536)
-    long = shown_long (length input) shown
-
-    pub front_reached : Reached (take (length input / 2 - 0) (drop 0 input)) 4 0
-    front_reached =
-        let l = long in
-        record {
-          most = omega (arith, l.0, l.1, length-take (length input / 2 - 0) (drop 0 input));
-          reach = omega (arith, l.0, l.1, length-take (length input / 2 - 0) (drop 0 input));
-        }
-
-    pub back_reached : Reached (take (length input - length input / 2) (drop (length input / 2) input)) 4 0
-    back_reached =
-        let l = long in
-        let e = cut_back (length input / 2) input in
-        record {
-          most = omega (arith, l.0, l.1, ap length e, length-drop (length input / 2) input);
-          reach = omega (arith, l.0, l.1, ap length e, length-drop (length input / 2) input);
-        }
-
-    pub shown_both : (full : Bool) (p : LfsPair) (s t r : Text)
-        → t ≡ puts_of s (block_log full p.n0 (take (length input / 2 - 0) (drop 0 input)))
-        → r ≡ puts_of t (block_log full p.n1 (take (length input - length input / 2) (drop (length input / 2) input)))
-        → r ≡ puts_of s (cond (is_shown (length input)) (block_logs full p input) [])
-    unfolding block_logs
-    shown_both full p s t r et er =
-        rw shown
-        (join s t r (block_log full p.n0 (take (length input / 2) input))
-        (block_log full p.n1 (drop (length input / 2) input))
-        (et ∙ ap (λ (l : List ℕ). puts_of s (block_log full p.n0 l)) (cut_front (length input / 2) input))
-        (er ∙ ap (λ (l : List ℕ). puts_of t (block_log full p.n1 l)) (cut_back (length input / 2) input)))
+pub halves_reached : (input : List ℕ) → is_shown (length input) ≡ true
+    → Reached (take (length input / 2) input) 4 0 × Reached (drop (length input / 2) input) 4 0
+halves_reached input h =
+    let l = shown_long (length input) h in (
+      record {
+        most = omega (arith, l.0, l.1, length-take (length input / 2) input);
+        reach = omega (arith, l.0, l.1, length-take (length input / 2) input);
+      },
+      record {
+        most = omega (arith, l.0, l.1, length-drop (length input / 2) input);
+        reach = omega (arith, l.0, l.1, length-drop (length input / 2) input);
+      },
+    )

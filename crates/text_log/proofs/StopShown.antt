@@ -19,20 +19,13 @@ use Rattle.format.specs.RawLog.{hex_word, stop_line, invalid_stop, check_stop, p
 use Rattle.format.proofs.Classes.{class_short, class_invalid, class_check, behind_check}
 use Rattle.fetch_walk.specs.Next.{tag_at}
 use Rattle.fetch_walk.specs.declared.cursor.Cursor.{Cursor}
-use Rattle.text.specs.Put.{Text, puts_of}
-use Rattle.text.proofs.Joined.{join}
 use Rattle.text_log.specs.Part.{Reached, check_whole}
 
 -- what is put behind a stop's line is a part of its reason
-pub stop_more : (s t u : Text) (place : ℕ) (why more : List ℕ) → t ≡ puts_of s (stop_line place why)
-    → u ≡ puts_of t more
-    → u ≡ puts_of s (stop_line place (why ++ more))
+pub stop_more : (place : ℕ) (why more : List ℕ) → stop_line place why ++ more ≡ stop_line place (why ++ more)
 unfolding stop_line
-stop_more s t u place why more et eu =
-    let a : (ascii "stops at " ++ (hex_word place ++ (ascii ": " ++ why))) ++ more ≡ ascii "stops at "
-    ++ (hex_word place ++ (ascii ": " ++ (why ++ more))) =
-    ap (λ (l : List ℕ). ascii "stops at " ++ l) (append_assoc (hex_word place) (ascii ": " ++ why) more) in
-    join s t u (ascii "stops at " ++ (hex_word place ++ (ascii ": " ++ why))) more et eu ∙ ap (puts_of s) a
+stop_more place why more =
+    ap (λ (l : List ℕ). ascii "stops at " ++ l) (append_assoc (hex_word place) (ascii ": " ++ why) more)
 
 -- ---- a check's two checksums, as the code reads them
 module _ (b : List ℕ) (place : ℕ) where
@@ -45,11 +38,7 @@ module _ (b : List ℕ) (place : ℕ) where
       let f : place + 4 - place ≡ 4 = omega arith in
       e ∙ ap (λ (n : ℕ). crc sum (take n (drop place b))) f
 
--- ---- a check in so many bytes; x and n are what the leaves answer
-pub whole_is : (t left n : ℕ) (x : Bool) → x ≡ is_check t → n ≡ tag_length t → x && leb n left && leb 8 left
-    ≡ check_whole t left
-whole_is t left n x ex en = λ i. ex i && leb (en i) left && leb 8 left
-
+-- ---- a check in so many bytes
 module _ (t left : ℕ) where
   pub whole_says : check_whole t left ≡ true → (is_check t ≡ true) × (tag_length t ≤ left) × (8 ≤ left)
   whole_says h = go (is_check t) (leb (tag_length t) left) (leb 8 left) h (leb-true (tag_length t) left)
@@ -92,13 +81,12 @@ module _ (b : List ℕ) (c : Cursor) (reached : Reached b c.at 0) where
   left_is : length b - c.at ≡ length (drop c.at b)
   left_is = omega (arith, length-drop c.at b, reached.reach)
 
-  pub stop_ends : (s r : Text) → length b - c.at < 4
-      → r ≡ puts_of s (stop_line c.at (ascii "the block ends\n"))
-      → r ≡ puts_of s (stop_behind c.at c.prev c.sum (drop c.at b))
+  pub stop_ends : length b - c.at < 4
+      → stop_line c.at (ascii "the block ends\n") ≡ stop_behind c.at c.prev c.sum (drop c.at b)
   unfolding stop_text
-  stop_ends s r h er =
+  stop_ends h =
       let l : length (drop c.at b) < 4 = omega (arith, left_is) in
-      rw (class_short (tag_at b c) (length (drop c.at b)) l, lt-ltb (length (drop c.at b)) 4 l) er
+      rw (class_short (tag_at b c) (length (drop c.at b)) l, lt-ltb (length (drop c.at b)) 4 l)
 
   -- w is what `be32` answers
   module _ (room : 4 ≤ length b - c.at) (w : ℕ) (ew : w ≡ be32 (drop c.at b)) where
@@ -109,10 +97,10 @@ module _ (b : List ℕ) (c : Cursor) (reached : Reached b c.at 0) where
     four : 4 ≤ length (drop c.at b)
     four = omega (arith, left_is)
 
-    pub stop_invalid : (s r : Text) → 2 ^ 31 ≤ bit_xor w c.prev → r ≡ puts_of s (invalid_stop c.at (drop c.at b))
-        → r ≡ puts_of s (stop_behind c.at c.prev c.sum (drop c.at b))
+    pub stop_invalid : 2 ^ 31 ≤ bit_xor w c.prev
+        → invalid_stop c.at (drop c.at b) ≡ stop_behind c.at c.prev c.sum (drop c.at b)
     unfolding stop_text
-    stop_invalid s r h er = rw (class_invalid (tag_at b c) (length (drop c.at b)) four (omega (arith, t_is))) er
+    stop_invalid h = rw (class_invalid (tag_at b c) (length (drop c.at b)) four (omega (arith, t_is)))
 
     -- x is what `check_whole` answers
     module _ (valid : bit_xor w c.prev < 2 ^ 31) (x : Bool)
@@ -128,20 +116,16 @@ module _ (b : List ℕ) (c : Cursor) (reached : Reached b c.at 0) where
           let f = whole_says (tag_at b c) (length (drop c.at b)) (whole_same ∙ h) in
           record { most = reached.most; reach = omega (arith, reached.reach, left_is, f.2) }
 
-      pub stop_check : (s r : Text) → x ≡ true
-          → r ≡ puts_of s (check_stop c.at (bit_xor w c.prev) c.sum (drop c.at b))
-          → r ≡ puts_of s (stop_behind c.at c.prev c.sum (drop c.at b))
+      pub stop_check : x ≡ true → check_stop c.at (bit_xor w c.prev) c.sum (drop c.at b)
+          ≡ stop_behind c.at c.prev c.sum (drop c.at b)
       unfolding stop_text
-      stop_check s r h er =
+      stop_check h =
           let f = whole_says (tag_at b c) (length (drop c.at b)) (whole_same ∙ h) in
           rw (class_check (tag_at b c) (length (drop c.at b)) four small f.1
           (omega (arith, behind_check (tag_at b c) f.0, f.2)) f.0)
-          (er ∙ ap (λ (t : ℕ). puts_of s (check_stop c.at t c.sum (drop c.at b))) t_is)
+          (ap (λ (t : ℕ). check_stop c.at t c.sum (drop c.at b)) t_is)
 
-      pub stop_past : (s r : Text) → x ≡ false → r ≡ puts_of s (past_stop c.at (bit_xor w c.prev))
-          → r ≡ puts_of s (stop_behind c.at c.prev c.sum (drop c.at b))
-      stop_past s r h er =
-          er ∙ ap (λ (t : ℕ). puts_of s (past_stop c.at t)) t_is
-          ∙ ap (puts_of s)
-          (whole_not (tag_at b c) (length (drop c.at b)) four small (whole_same ∙ h) c.at c.sum (drop c.at b)
-          refl)
+      pub stop_past : x ≡ false → past_stop c.at (bit_xor w c.prev) ≡ stop_behind c.at c.prev c.sum (drop c.at b)
+      stop_past h =
+          ap (past_stop c.at) t_is
+          ∙ whole_not (tag_at b c) (length (drop c.at b)) four small (whole_same ∙ h) c.at c.sum (drop c.at b) refl

@@ -17,27 +17,25 @@ use Rattle.format.proofs.Words.{tag_length_ge}
 use Rattle.fetch_walk.specs.Next.{next_of, start_of, tag_at}
 use Rattle.fetch_walk.specs.State.{from}
 use Rattle.fetch_walk.specs.declared.cursor.Cursor.{Cursor}
+use Rattle.std.proofs.Common.{◌⊎◌, inl, inr}
+use Rattle.fetch_walk.specs.declared.cursor.Seen.{Seen}
 use Rattle.fetch_walk.specs.declared.cursor.Seen.TheVariants.{Entry, Check, Invalid, Past}
 use Rattle.fetch_walk.proofs.Seen.{length_most, follow, from_next, entry_seen, check_seen_lem}
-use Rattle.text.specs.Put.{Text, puts_of}
-use Rattle.text.proofs.Joined.{puts_app}
+use Rattle.text.specs.declared.Text.{Text}
+use Rattle.text.specs.Put.{Puts}
+use Rattle.text.proofs.Joined.{puts_both}
 use Rattle.text_log.specs.Part.{Placed}
 use Rattle.text_log.specs.Events.{texts_from}
 
 -- ---- the data behind a tag; n is what `lfs_tag_dsize` answers
-module _ (b : List ℕ) (place t n : ℕ) (en : n ≡ tag_length t) where
-  pub data_cut : take (place + n - (place + 4)) (drop (place + 4) b) ≡ data_of t (drop place b)
-  data_cut =
-      let e : place + n - (place + 4) ≡ tag_length t - 4 = omega (arith, en) in
-      ap (λ (k : ℕ). take k (drop (place + 4) b)) e ∙ ap (take (tag_length t - 4)) (sym (drop-drop 4 place b))
+pub data_cut : (b : List ℕ) (place t n : ℕ) → n ≡ tag_length t
+    → take (place + n - (place + 4)) (drop (place + 4) b) ≡ data_of t (drop place b)
+data_cut b place t n en =
+    let e : place + n - (place + 4) ≡ tag_length t - 4 = omega (arith, en) in
+    ap (λ (k : ℕ). take k (drop (place + 4) b)) e ∙ ap (take (tag_length t - 4)) (sym (drop-drop 4 place b))
 
-  pub data_short : length (take (place + n - (place + 4)) (drop (place + 4) b)) ≤ 1_022
-  data_short = omega (
-    arith,
-    length-take (place + n - (place + 4)) (drop (place + 4) b),
-    length_most t,
-    en,
-  )
+pub data_short : (t : ℕ) (l : List ℕ) → length (data_of t l) ≤ 1_022
+data_short t l = omega (arith, length-take (tag_length t - 4) (drop 4 l), length_most t)
 
 -- ---- the start
 pub texts_start : (full : Bool) (b : List ℕ) (c : Cursor) → c ≡ start_of b
@@ -69,35 +67,29 @@ module _ (full : Bool) (b : List ℕ) (c : Cursor) where
       rw f (λ i. check_text full c.at (tag_at b c) x (drop c.at b) ++ event_texts full (sym s.end i)
       (sym s.prev i) (sym s.sum i) (g i) (from b d))
 
-  module _ (a s : Text) (so_far : a ≡ puts_of s (texts_from full b c)) where
-    on : (xs : List ℕ) (d : Cursor) (r : Text) → texts_from full b c ≡ xs ++ texts_from full b d → r ≡ puts_of s xs
-        → a ≡ puts_of r (texts_from full b d)
-    on xs d r e er = so_far ∙ ap (puts_of s) e ∙ sym (puts_app xs (texts_from full b d) s)
-        ∙ ap (λ (z : Text). puts_of z (texts_from full b d)) (sym er)
-
-    pub turn_entry : {t : ℕ} {d : Cursor} (r : Text) → next_of b c ≡ Entry t d
-        → r ≡ puts_of s (entry_text full c.at t (drop c.at b)) → a ≡ puts_of r (texts_from full b d)
-    turn_entry {t} {d} r e er = on (entry_text full c.at t (drop c.at b)) d r (entry_step e) er
+  -- s is where the text stands, r behind what is shown of the turn, u at the end of all
+  module _ (s r u : Text) where
+    pub turn_entry : {t : ℕ} {d : Cursor} → next_of b c ≡ Entry t d → Puts s r (entry_text full c.at t (drop c.at b))
+        → Puts r u (texts_from full b d) → Puts s u (texts_from full b c)
+    turn_entry {t} {d} e p q =
+        rw (entry_step e) (puts_both s r u (entry_text full c.at t (drop c.at b)) (texts_from full b d) p q)
 
     -- w is what `be32` answers
-    pub turn_check : {x : ℕ} {d : Cursor} (w : ℕ) (r : Text) → next_of b c ≡ Check x d → w ≡ be32 (drop c.at b)
-        → r ≡ puts_of s (check_text full c.at (bit_xor w c.prev) x (drop c.at b)) → a ≡ puts_of r (texts_from full
-        b d)
+    pub turn_check : {x : ℕ} {d : Cursor} (w : ℕ) → next_of b c ≡ Check x d → w ≡ be32 (drop c.at b)
+        → Puts s r (check_text full c.at (bit_xor w c.prev) x (drop c.at b)) → Puts r u (texts_from full b d)
+        → Puts s u (texts_from full b c)
     unfolding xor
-    turn_check {x} {d} w r e ew er =
+    turn_check {x} {d} w e ew p q =
         let t : bit_xor w c.prev ≡ tag_at b c = ap (λ (y : ℕ). xor y c.prev) ew in
-        on (check_text full c.at (tag_at b c) x (drop c.at b)) d r (check_step e)
-        (er ∙ ap (λ (y : ℕ). puts_of s (check_text full c.at y x (drop c.at b))) t)
+        rw (check_step e, ← t)
+        (puts_both s r u (check_text full c.at (bit_xor w c.prev) x (drop c.at b)) (texts_from full b d) p q)
 
-    pub turn_invalid : (r : Text) → next_of b c ≡ Invalid
-        → r ≡ puts_of s (stop_behind c.at c.prev c.sum (drop c.at b)) → r ≡ a
-    unfolding texts_from event_texts
-    turn_invalid r e er = er ∙ sym (so_far ∙ rw (from_next b c ∙ ap (follow b c) e))
-
-    pub turn_past : (r : Text) → next_of b c ≡ Past
-        → r ≡ puts_of s (stop_behind c.at c.prev c.sum (drop c.at b)) → r ≡ a
-    unfolding texts_from event_texts
-    turn_past r e er = er ∙ sym (so_far ∙ rw (from_next b c ∙ ap (follow b c) e))
+  -- x is what `next` answers
+  pub turn_stops : (x : Seen) → x ≡ next_of b c → (x ≡ Invalid) ⊎ (x ≡ Past)
+      → stop_behind c.at c.prev c.sum (drop c.at b) ≡ texts_from full b c
+  unfolding texts_from event_texts
+  turn_stops x ex (inl e) = rw (from_next b c ∙ ap (follow b c) (sym ex ∙ e))
+  turn_stops x ex (inr e) = rw (from_next b c ∙ ap (follow b c) (sym ex ∙ e))
 
 -- ---- what the loop's needs want of what was seen
 module _ (b : List ℕ) (c : Cursor) where

@@ -1,13 +1,7 @@
 -- What the functions over parts of a block ask and leave. Assumes nothing.
-use Rattle.std.specs.Prelude.{◌≡◌, Bool, ◌&&◌, List, ℕ, ◌+◌, ◌-◌, ◌^◌, ◌≤◌, length, take, drop, leb}
+use Rattle.std.specs.Prelude.{Bool, ◌&&◌, List, ℕ, ◌+◌, ◌^◌, ◌≤◌, length, leb}
 use Rattle.format.specs.Tag.{tag_length}
 use Rattle.format.specs.Kind.{is_check}
-
--- r is where a part of at most `most` bytes from `from` on ends, in len bytes
-pub record PartEnds (len from most r : ℕ) : Type 0 where
-  pub low : from ≤ r
-  pub high : r ≤ len
-  pub cut : (d : List ℕ) → length d ≡ len → take (r - from) (drop from d) ≡ take most (drop from d)
 
 -- a tag at a place in a block, wholly in it with what stands behind it
 pub record Placed (b : List ℕ) (place t : ℕ) : Type 0 where

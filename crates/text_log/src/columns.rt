@@ -2,57 +2,62 @@
 ghost use Rattle.std.specs.Prelude.{◌≡◌};
 ghost use Rattle.format.specs.RawLog.{margin, column, id_column, size_column, name_in, type_names, class_name};
 ghost use Rattle.format.specs.RawLog.{tag_name, type_columns, tag_columns};
-ghost use Rattle.text.specs.Put.{text, puts_of};
+ghost use Rattle.text.specs.Put.{Puts};
 
 use format::types::*;
+use text::Text;
 
 // What stands before a number of less than four digits.
-fn margin(out: &mut [u8], at: u32, n: u32) -> u32
-    ensures { text result out.new ≡ puts_of (text at out.old) (margin n) }
+#[tactic(auto, unfolding(format::specs::RawLog::margin, text::specs::Put::puts_of))]
+fn margin(text: &mut Text, n: u32)
+    ensures { Puts text.old text.new (margin n) }
 {
     if n < 10 {
-        return text::puts(out, at, b"   ");
+        return text.puts(b"   ");
     }
     if n < 100 {
-        return text::puts(out, at, b"  ");
+        return text.puts(b"  ");
     }
     if n < 1_000 {
-        return text::puts(out, at, b" ");
+        return text.puts(b" ");
     }
-    at
 }
 
 // A number in four columns.
-fn column(out: &mut [u8], at: u32, n: u32) -> u32
-    ensures { text result out.new ≡ puts_of (text at out.old) (column n) }
+#[tactic(auto, unfolding(format::specs::RawLog::column), using(text::proofs::Joined::puts_append))]
+fn column(text: &mut Text, n: u32)
+    ensures { Puts text.old text.new (column n) }
 {
-    let start = margin(out, at, n);
-    text::decimal(out, start, n)
+    margin(text, n);
+    text.decimal(n);
 }
 
 // "a dot for what belongs to no slot"
-fn id_column(out: &mut [u8], at: u32, tag: u32) -> u32
-    ensures { text result out.new ≡ puts_of (text at out.old) (id_column tag) }
+#[tactic(auto, unfolding(format::specs::RawLog::id_column))]
+fn id_column(text: &mut Text, tag: u32)
+    ensures { Puts text.old text.new (id_column tag) }
 {
     let id = tag::lfs_tag_id(tag) as u32;
     if id == NO_SLOT {
-        return text::puts(out, at, b"   .");
+        return text.puts(b"   .");
     }
-    column(out, at, id)
+    column(text, id);
 }
 
 // "an x for a removal"
-fn size_column(out: &mut [u8], at: u32, tag: u32) -> u32
-    ensures { text result out.new ≡ puts_of (text at out.old) (size_column tag) }
+#[tactic(auto, unfolding(format::specs::RawLog::size_column))]
+fn size_column(text: &mut Text, tag: u32)
+    ensures { Puts text.old text.new (size_column tag) }
 {
     let size = tag::lfs_tag_size(tag);
     if size == REMOVAL {
-        return text::puts(out, at, b"   x");
+        return text.puts(b"   x");
     }
-    column(out, at, size)
+    column(text, size);
 }
 
 // The name of a type's upper three bits.
+#[tactic(auto, unfolding(format::specs::RawLog::class_name, format::specs::RawLog::name_in))]
 fn class_name(type1: u16) -> [u8; 12]
     ensures { result ≡ class_name type1 }
 {
@@ -69,6 +74,7 @@ fn class_name(type1: u16) -> [u8; 12]
 }
 
 // The name of a type that has one of its own, or of its upper three bits.
+#[tactic(auto, unfolding(format::specs::RawLog::name_in))]
 fn type_name(type3: u16, type1: u16) -> [u8; 12]
     ensures { result ≡ name_in type_names type3 (class_name type1) }
 {
@@ -90,6 +96,7 @@ fn type_name(type3: u16, type1: u16) -> [u8; 12]
 }
 
 // "a commit check goes by type2"
+#[tactic(auto, unfolding(format::specs::RawLog::tag_name))]
 fn tag_name(tag: u32) -> [u8; 12]
     ensures { result ≡ tag_name tag }
 {
@@ -100,25 +107,26 @@ fn tag_name(tag: u32) -> [u8; 12]
 }
 
 // The type, its name, id and size.
-fn type_columns(out: &mut [u8], at: u32, tag: u32) -> u32
-    ensures { text result out.new ≡ puts_of (text at out.old) (type_columns tag) }
+#[tactic(auto, unfolding(format::specs::RawLog::type_columns, text::specs::Put::puts_of), using(text::proofs::Joined::puts_append))]
+fn type_columns(text: &mut Text, tag: u32)
+    ensures { Puts text.old text.new (type_columns tag) }
 {
-    let name = tag_name(tag);
-    let n = text::hex_type(out, at, tag::lfs_tag_type3(tag) as u32);
-    let n = text::puts(out, n, b"  ");
-    let n = text::puts(out, n, &name);
-    let n = id_column(out, n, tag);
-    let n = text::puts(out, n, b" ");
-    size_column(out, n, tag)
+    text.hex_type(tag::lfs_tag_type3(tag) as u32);
+    text.puts(b"  ");
+    text.puts(&tag_name(tag));
+    id_column(text, tag);
+    text.puts(b" ");
+    size_column(text, tag);
 }
 
 // All columns of the tag at an offset.
-pub fn tag_columns(out: &mut [u8], at: u32, place: u32, tag: u32) -> u32
-    ensures { text result out.new ≡ puts_of (text at out.old) (tag_columns place tag) }
+#[tactic(auto, unfolding(format::specs::RawLog::tag_columns, text::specs::Put::puts_of), using(text::proofs::Joined::puts_append))]
+pub fn tag_columns(text: &mut Text, place: u32, tag: u32)
+    ensures { Puts text.old text.new (tag_columns place tag) }
 {
-    let n = text::hex_word(out, at, place);
-    let n = text::puts(out, n, b": ");
-    let n = text::hex_word(out, n, tag);
-    let n = text::puts(out, n, b"  ");
-    type_columns(out, n, tag)
+    text.hex_word(place);
+    text.puts(b": ");
+    text.hex_word(tag);
+    text.puts(b"  ");
+    type_columns(text, tag);
 }

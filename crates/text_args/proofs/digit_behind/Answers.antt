@@ -1,15 +1,16 @@
--- `text_args::digit_behind` meets its contract: no digit, a number that is too great, or the number. Assumes nothing.
-use Rattle.text_args.proofs.Digits.{below_digits, above_digits, too_great, one_more}
+-- No digit, a number that is too great, or the number. Assumes nothing.
+use Rattle.text_args.proofs.Digits.{not_digit, too_great, one_more}
 use Rattle.text_args.proofs.digit_behind.Goals as goal
 
-pub returns-then-digit-lt48 : goal.returns-then-digit-lt48
-returns-then-digit-lt48 c = below_digits _ _ c.if-digit-lt48.true
+pub returns-then-not-is_ascii_digit : goal.returns-then-not-is_ascii_digit
+returns-then-not-is_ascii_digit c = not_digit _ _ c.if-not-is_ascii_digit.ensures.cases
 
-pub returns-then-digit-gt57 : goal.returns-then-digit-gt57
-returns-then-digit-gt57 c = above_digits _ _ c.if-digit-gt57.true
-
-pub returns-then-longer-gt4294967295 : goal.returns-then-longer-gt4294967295
-returns-then-longer-gt4294967295 c = too_great _ _ c.if-digit-lt48.false c.if-digit-gt57.false c.if-longer-gt4294967295.true
+pub returns-in_err-checked_mul : goal.returns-in_err-checked_mul
+returns-in_err-checked_mul c =
+    let d = c.if-not-is_ascii_digit.ensures.cases in
+    rw c.from_residual.ensures (too_great _ _ d.0 d.1 c.in_err-checked_mul.ensures)
 
 pub returns : goal.returns
-returns c = one_more _ _ c.if-digit-lt48.false c.if-digit-gt57.false c.if-longer-gt4294967295.false
+returns c =
+    let d = c.if-not-is_ascii_digit.ensures.cases in
+    one_more _ _ d.0 d.1 _ c.in_ok-checked_mul.ensures.1 _ c.checked_add.ensures

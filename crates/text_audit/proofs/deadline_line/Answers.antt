@@ -1,15 +1,12 @@
--- `text_audit::deadline_line` meets its contract: none, or its length. Assumes nothing.
-use Rattle.format.proofs.Searched.{hit_in}
-use Rattle.text_audit.proofs.Told.{deadline_none, deadline_unread}
+-- A deadline that can't be read is of as many bytes as stand behind its tag. Assumes nothing.
+use Rattle.format.proofs.Searched.{hit_in, bytes_length}
+use Rattle.format.specs.Audit.{deadline_line}
+use Rattle.theory.specs.Lookup.ByMask.{holds}
+use Rattle.text.proofs.Joined.{puts_both}
 use Rattle.text_audit.proofs.deadline_line.Goals as goal
 
-pub returns-in_default : goal.returns-in_default
-returns-in_default c = deadline_none _ _ _ _ _ c.in_default.is _ c.lack_line.ensures
-
-pub overflow_sub-e : goal.overflow_sub-e
-overflow_sub-e c = (hit_in _ _ c.requires.attribute_in c.in-Some.is).counted
-
 pub returns : goal.returns
-returns c = deadline_unread _ _ _ _ _ c.in-Some.is c.requires.attribute_in _ _ _ c.lack_line-n.ensures
-    c.decimal-n.ensures
-    c.puts.ensures
+unfolding deadline_line holds
+returns c =
+    rw (c.in-Some.is, bytes_length _ _ (hit_in _ _ c.requires.attribute_in c.in-Some.is))
+    (puts_both _ _ _ _ _ c.lack_line-2.ensures (puts_both _ _ _ _ _ c.decimal.ensures c.puts.ensures))

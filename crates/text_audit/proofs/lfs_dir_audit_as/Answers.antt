@@ -1,52 +1,16 @@
--- `text_audit::lfs_dir_audit_as` meets its contract: the text is put from the start, and is shorter than 2^32. Assumes
--- nothing.
-use mathlib.Core.Path.{sym, ◌∙◌}
-use Rattle.format.specs.Audit.{block_audit}
-use Rattle.format.specs.Regular.{rules_of}
-use Rattle.text.proofs.Written.{puts_written}
-use Rattle.text_input.proofs.Input.{rule_refused, rule_fits, shown_refused, first_listable, shown_first}
-use Rattle.text_input.proofs.Input.{second_listable, shown_second}
+-- The text is put from the start, and is shorter than 2^32. Assumes nothing.
+use Rattle.std.proofs.Common.{rules, ◌∙◌}
+use Rattle.format.specs.Audit.{block_audit, audit_as}
+use Rattle.text.specs.Put.{Puts}
+use Rattle.text.proofs.Written.{all_written}
 use Rattle.text_audit.proofs.Fits.{audit_short}
+use Rattle.text_audit.proofs.lfs_dir_audit_as.Goals.{in-Ok, in-Err}
 use Rattle.text_audit.proofs.lfs_dir_audit_as.Goals as goal
 
-pub block_audit-requires : goal.block_audit-requires
-block_audit-requires c =
-    first_listable _ _ _ _ _ (sym c.in-Ok.is
-    ∙ c.fetch_input.ensures)
-    c.if-pair-numbers.true
-
-pub block_audit-requires-else-pair-numbers : goal.block_audit-requires-else-pair-numbers
-block_audit-requires-else-pair-numbers c =
-    second_listable _ _ _ _ _ (sym c.in-Ok.is
-    ∙ c.fetch_input.ensures)
-    c.if-pair-numbers.false
-
-pub returns-then-rules-gt1 : goal.returns-then-rules-gt1
-returns-then-rules-gt1 c =
-    let a = c.args in let all = puts_written _ _ _ _ (audit_short a.prog_size a.numbers a.rules a.input.now)
-    (rule_refused _ _ _ _ c.if-rules-gt1.true c.refused.ensures) in record { value = all.0; out_after = all.1 }
-
-pub returns-in-Err : goal.returns-in-Err
-returns-in-Err c =
-    let a = c.args in let all = puts_written _ _ _ _ (audit_short a.prog_size a.numbers a.rules a.input.now)
-    (rule_fits _ _ _ _ c.if-rules-gt1.false (shown_refused _ _
-    _ (block_audit (rules_of a.rules)) _ _ _
-    (sym c.in-Err.is
-    ∙ c.fetch_input.ensures)
-    c.refused-in-Err.ensures)) in record { value = all.0; out_after = all.1 }
-
-pub returns-then-pair-numbers : goal.returns-then-pair-numbers
-returns-then-pair-numbers c =
-    let a = c.args in let all = puts_written _ _ _ _ (audit_short a.prog_size a.numbers a.rules a.input.now)
-    (rule_fits _ _ _ _ c.if-rules-gt1.false (shown_first _ _ _ _ _
-    (sym c.in-Ok.is
-    ∙ c.fetch_input.ensures) c.if-pair-numbers.true (block_audit (rules_of a.rules)) _ _
-    c.block_audit.ensures)) in record { value = all.0; out_after = all.1 }
-
-pub returns-else-pair-numbers : goal.returns-else-pair-numbers
-returns-else-pair-numbers c =
-    let a = c.args in let all = puts_written _ _ _ _ (audit_short a.prog_size a.numbers a.rules a.input.now)
-    (rule_fits _ _ _ _ c.if-rules-gt1.false (shown_second _ _ _ _ _
-    (sym c.in-Ok.is
-    ∙ c.fetch_input.ensures) c.if-pair-numbers.false (block_audit (rules_of a.rules)) _ _
-    c.block_audit-else-pair-numbers.ensures)) in record { value = all.0; out_after = all.1 }
+pub returns : goal.returns
+returns c =
+    let a = c.args in
+    let put : Puts c.new-text.result c.match-ask.text (audit_as a.prog_size a.numbers a.rules a.input.now) =
+    rw (← c.ask.ensures.shown block_audit) (elim c.match-ask.branch [ in-Ok w ↦ search rules | in-Err w ↦ search rules ]) in
+    let all = all_written _ _ _ _ (audit_short a.prog_size a.numbers a.rules a.input.now) c.new-text.ensures put in
+    record { value = c.len.ensures ∙ all.0; out_after = rw (← all.1) (search rules) }

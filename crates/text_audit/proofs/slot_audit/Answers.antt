@@ -1,70 +1,34 @@
--- `text_audit::slot_audit` meets its contract: either line and its count, or nothing. Assumes nothing.
-use mathlib.Core.Path.{ap}
-use native.Mathlib.Omega.{arith}
+-- Either line and its count, or nothing. Assumes nothing.
+use Rattle.std.proofs.Common.{ap, arith}
 use Rattle.format.specs.Audit.{deadline_class}
 use Rattle.theory.specs.Lookup.ByMask.{holds}
-use Rattle.text_audit.proofs.Steps.{Asked, tells_deadline, tells_payload, slot_no_deadline, slot_no_payload, slot_whole}
+use Rattle.text_audit.proofs.Steps.{asked, told_there, tells_deadline, tells_payload, slot_no_deadline}
+use Rattle.text_audit.proofs.Steps.{slot_no_payload, slot_whole}
 use Rattle.text_audit.proofs.slot_audit.Goals as goal
 
-pub deadline_line-n-requires : goal.deadline_line-n-requires
-deadline_line-n-requires c = record {
-  name_in = rw c.found-name.ensures
-      (c.requires.all_inside 0 (omega arith));
-  attribute_in = rw c.found-attribute.ensures
-      (c.requires.all_inside deadline_class (omega arith));
-}
-
-pub overflow_add-result : goal.overflow_add-result
-overflow_add-result c = omega (arith, c.requires.few.deadline)
+pub deadline_line-requires-clause-attribute_in : goal.deadline_line-requires-clause-attribute_in
+deadline_line-requires-clause-attribute_in c =
+    rw c.found-attribute.ensures (c.requires.all_inside deadline_class (omega arith))
 
 pub returns-then-instruction-payload : goal.returns-then-instruction-payload
 returns-then-instruction-payload c =
-    let a = c.args in
-    let k : Asked a.b.now a.seats.now _ _ _ _ _ = record {
-      inside = c.requires.all_inside;
-      name = c.found-name.ensures;
-      struct = c.found.ensures;
-      attribute = c.found-attribute.ensures;
-      instruction = c.is_instruction-instruction.ensures;
-      payload = c.is_payload-payload.ensures;
-    } in
-    slot_no_deadline a.a _ _ _ _ _ _ (ap (holds a.b.now) k.name) _
-    (tells_deadline _ _ _ _ _ _ _ k _ c.is_deadline.ensures)
-    c.if-instruction-payload.true _ (ap (holds a.b.now) k.attribute) c.deadline_line-n.ensures
+    let k = asked _ _ _ _ _ _ _ c.requires.all_inside c.found-name.ensures c.found.ensures c.found-attribute.ensures
+    c.is_instruction-instruction.ensures c.is_payload-payload.ensures in
+    slot_no_deadline _ _ _ _ _ _ (ap (holds _) k.name) _ (tells_deadline _ _ _ _ _ _ _ k _ c.is_deadline.ensures)
+    c.if-instruction-payload.true _ (ap (holds _) k.attribute) c.deadline_line.ensures
 
-pub lack_line-n-requires : goal.lack_line-n-requires
-lack_line-n-requires c = rw c.found-name.ensures (c.requires.all_inside 0 (omega arith))
-
-pub overflow_add-result-then-instruction-is_there : goal.overflow_add-result-then-instruction-is_there
-overflow_add-result-then-instruction-is_there c = omega (arith, c.requires.few.payload)
-
-pub returns-then-instruction-is_there : goal.returns-then-instruction-is_there
-returns-then-instruction-is_there c =
-    let a = c.args in
-    let k : Asked a.b.now a.seats.now _ _ _ _ _ = record {
-      inside = c.requires.all_inside;
-      name = c.found-name.ensures;
-      struct = c.found.ensures;
-      attribute = c.found-attribute.ensures;
-      instruction = c.is_instruction-instruction.ensures;
-      payload = c.is_payload-payload.ensures;
-    } in
-    slot_no_payload a.a _ _ _ _ _ _ (ap (holds a.b.now) k.name) _
-    (tells_deadline _ _ _ _ _ _ _ k _ c.is_deadline.ensures) _
-    (tells_payload _ _ _ _ _ _ _ k _ c.is_there.ensures) c.if-instruction-payload.false c.if-instruction-is_there.true
-    c.lack_line-n.ensures
+pub returns-then-instruction-is_some : goal.returns-then-instruction-is_some
+returns-then-instruction-is_some c =
+    let k = asked _ _ _ _ _ _ _ c.requires.all_inside c.found-name.ensures c.found.ensures c.found-attribute.ensures
+    c.is_instruction-instruction.ensures c.is_payload-payload.ensures in
+    slot_no_payload _ _ _ _ _ _ (ap (holds _) k.name) _ (tells_deadline _ _ _ _ _ _ _ k _ c.is_deadline.ensures) _
+    (tells_payload _ _ _ _ _ _ _ k _ (told_there _ _ c.is_some.ensures)) c.if-instruction-payload.false
+    c.if-instruction-is_some.true c.lack_line.ensures
 
 pub returns : goal.returns
 returns c =
-    let a = c.args in
-    let k : Asked a.b.now a.seats.now _ _ _ _ _ = record {
-      inside = c.requires.all_inside;
-      name = c.found-name.ensures;
-      struct = c.found.ensures;
-      attribute = c.found-attribute.ensures;
-      instruction = c.is_instruction-instruction.ensures;
-      payload = c.is_payload-payload.ensures;
-    } in
-    slot_whole a.a _ a.out.now 0 _ _ _ (ap (holds a.b.now) k.name) _
-    (tells_deadline _ _ _ _ _ _ _ k _ c.is_deadline.ensures) _
-    (tells_payload _ _ _ _ _ _ _ k _ c.is_there.ensures) c.if-instruction-payload.false c.if-instruction-is_there.false
+    let k = asked _ _ _ _ _ _ _ c.requires.all_inside c.found-name.ensures c.found.ensures c.found-attribute.ensures
+    c.is_instruction-instruction.ensures c.is_payload-payload.ensures in
+    slot_whole _ c.args.text.now _ _ _ _ (ap (holds _) k.name) _ (tells_deadline _ _ _ _ _ _ _ k _ c.is_deadline.ensures) _
+    (tells_payload _ _ _ _ _ _ _ k _ (told_there _ _ c.is_some.ensures)) c.if-instruction-payload.false
+    c.if-instruction-is_some.false

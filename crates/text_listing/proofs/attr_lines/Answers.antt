@@ -1,35 +1,16 @@
--- `text_listing::attr_lines` meets its contract. The loop keeps where all classes end, from here; the classes that are
--- left fall. Assumes nothing.
-use mathlib.Core.Path.{refl, ap}
-use native.Mathlib.Omega.{arith}
-use borrow.Author.Rules.{rules}
-use Rattle.theory.specs.Lookup.ByMask.{holds}
-use Rattle.text_listing.proofs.Loops.{attrs_more, attrs_done}
+-- Each class is shown behind those before it. Assumes nothing.
+use Rattle.std.proofs.Common.{◌≡◌, ◌+◌, ◌-◌, suc, arith}
+use Rattle.format.specs.Listing.{attr_lines}
+use Rattle.text.proofs.Joined.{puts_none, puts_both}
+use Rattle.text_listing.proofs.Loops.{class_behind}
 use Rattle.text_listing.proofs.attr_lines.Goals as goal
 
 pub loop-class-init : goal.loop-class-init
-loop-class-init c = (omega arith, refl, refl)
-
-pub attr_line-n-requires : goal.attr_line-n-requires
-attr_line-n-requires c = rw c.found.ensures (c.requires
-    c.loop-class.class c.loop-class-test.true)
+unfolding attr_lines
+loop-class-init c = puts_none _
 
 pub loop-class-preserved : goal.loop-class-preserved
-loop-class-preserved c = (
-  omega arith,
-  search rules,
-  attrs_more _ _ _ _ _ _ c.loop-class-test.true c.loop-class.invariant.2 _
-      (ap (holds _) c.found.ensures) c.attr_line-n.ensures,
-)
-
-pub shape_of-out : goal.shape_of-out
-shape_of-out c = c.loop-class.invariant.1
-
-pub returns : goal.returns
-returns c = attrs_done _ _ _ _ _ c.loop-class-test.false c.loop-class.invariant.2
-
-pub overflow_add-class : goal.overflow_add-class
-overflow_add-class c = omega arith
-
-pub loop-class-smaller : goal.loop-class-smaller
-loop-class-smaller c = omega arith
+loop-class-preserved c =
+    let more : c.loop-class.class + 1 - 2 ≡ suc (c.loop-class.class - 2) = omega arith in
+    let here : c.loop-class.class - 2 + 2 ≡ c.loop-class.class = omega arith in
+    rw (more, class_behind, here, ← c.found.ensures) (puts_both _ _ _ _ _ c.loop-class.invariant c.attr_line.ensures)

@@ -1,16 +1,23 @@
--- `text_log::block_logs` meets its contract: nothing, or both blocks. Assumes nothing.
-use Rattle.text_log.proofs.PairShown.{shown_none, front_reached, back_reached, shown_both}
+-- Nothing, or both blocks. Assumes nothing.
+use Rattle.std.proofs.Common.{sym, ◌∙◌}
+use Rattle.format.specs.RawLog.{block_logs}
+use Rattle.text.proofs.Joined.{puts_none, puts_both}
+use Rattle.text_log.proofs.PairShown.{halves_reached}
 use Rattle.text_log.proofs.block_logs.Goals as goal
 
 pub returns-then-not-is_shown : goal.returns-then-not-is_shown
-returns-then-not-is_shown c = shown_none c.args.input.now _ c.is_shown.ensures _ _ _ c.if-not-is_shown.true
-
-pub block_log-n-requires : goal.block_log-n-requires
-block_log-n-requires c = front_reached c.args.input.now _ c.is_shown.ensures c.if-not-is_shown.false
+returns-then-not-is_shown c = rw (sym c.is_shown.ensures ∙ c.if-not-is_shown.true) (puts_none _)
 
 pub block_log-requires : goal.block_log-requires
-block_log-requires c = back_reached c.args.input.now _ c.is_shown.ensures c.if-not-is_shown.false
+block_log-requires c =
+    rw c.split_at.ensures.front (halves_reached _ (sym c.is_shown.ensures ∙ c.if-not-is_shown.false)).0
+
+pub block_log-requires-2 : goal.block_log-requires-2
+block_log-requires-2 c =
+    rw c.split_at.ensures.back (halves_reached _ (sym c.is_shown.ensures ∙ c.if-not-is_shown.false)).1
 
 pub returns : goal.returns
-returns c = shown_both c.args.input.now _ c.is_shown.ensures c.if-not-is_shown.false _ _ _ _ _ c.block_log-n.ensures
-    c.block_log.ensures
+unfolding block_logs
+returns c =
+    rw (sym c.is_shown.ensures ∙ c.if-not-is_shown.false, ← c.split_at.ensures.front, ← c.split_at.ensures.back)
+    (puts_both _ _ _ _ _ c.block_log.ensures c.block_log-2.ensures)

@@ -1,33 +1,12 @@
--- `text_log::check_text` meets its contract: its parts, one behind the other. Assumes nothing.
-use Rattle.format.specs.RawLog.{full_data, check_text}
-use mathlib.Core.Path.{ap}
-use native.Mathlib.Omega.{arith}
+-- The data are as few as a tag can say. Assumes nothing.
+use Rattle.std.proofs.Common.{arith, drop}
 use Rattle.format.proofs.Words.{tag_length_ge}
-use Rattle.text.proofs.Joined.{join, same_part}
-use Rattle.text_log.proofs.WalkShown.{data_cut, data_short}
+use Rattle.text_log.proofs.WalkShown.{data_short}
 use Rattle.text_log.proofs.check_text.Goals as goal
 
-pub slice_bounds-full_data-count : goal.slice_bounds-full_data-count
-slice_bounds-full_data-count c = omega (arith, tag_length_ge c.args.tag, c.lfs_tag_dsize.ensures)
+pub full_data-requires-clause-place_bound : goal.full_data-requires-clause-place_bound
+full_data-requires-clause-place_bound c =
+    omega (arith, c.requires.most, c.requires.whole, tag_length_ge c.args.tag)
 
-pub slice_bounds-full_data-start : goal.slice_bounds-full_data-start
-slice_bounds-full_data-start c = omega (arith, tag_length_ge c.args.tag, c.lfs_tag_dsize.ensures)
-
-pub full_data-requires : goal.full_data-requires
-full_data-requires c = record {
-  place_bound = omega (
-    arith,
-    c.requires.most,
-    c.requires.whole,
-    tag_length_ge
-        c.args.tag,
-  );
-  bytes_len_bound = data_short _ _ _ _ c.lfs_tag_dsize.ensures;
-}
-
-pub returns : goal.returns
-unfolding check_text
-returns c = join _ _ _ _ _ c.tag_columns-n.ensures (join _ _ _
-    _ _ c.puts-n.ensures (join _ _ _ _ _ c.hex_word-n.ensures
-    (join _ _ _ _ _ c.puts-n-2.ensures (same_part _ _ _ _
-    (ap (full_data _ _) (data_cut _ _ _ _ c.lfs_tag_dsize.ensures)) c.full_data.ensures))))
+pub full_data-requires-clause-bytes_len_bound : goal.full_data-requires-clause-bytes_len_bound
+full_data-requires-clause-bytes_len_bound c = rw c.data_of.ensures (data_short c.args.tag (drop c.args.place c.args.b.now))

@@ -1,11 +1,10 @@
--- `text_log::committed_line` meets its contract: nothing, or the end. Assumes nothing.
-use Rattle.text_log.proofs.PairShown.{committed_none, committed_some}
-use Rattle.text.proofs.Joined.{join}
+-- The end, in three parts. Assumes nothing.
+use borrow.Author.Tests.{ne_eqb}
+use Rattle.format.specs.RawLog.{committed_line}
+use Rattle.text.proofs.Joined.{puts_both}
 use Rattle.text_log.proofs.committed_line.Goals as goal
 
-pub returns-then-end-eq4 : goal.returns-then-end-eq4
-returns-then-end-eq4 c = committed_none _ _ _ c.if-end-eq4.true c.puts.ensures
-
 pub returns : goal.returns
-returns c = committed_some _ _ _ c.if-end-eq4.false (join _ _ _ _ _ c.puts-n.ensures
-    (join _ _ _ _ _ c.hex_word-n.ensures c.puts-2.ensures))
+unfolding committed_line
+returns c = rw (ne_eqb c.args.end 4 c.if-end-eq4.false)
+    (puts_both _ _ _ _ _ c.puts-2.ensures (puts_both _ _ _ _ _ c.hex_word.ensures c.puts-3.ensures))

@@ -1,37 +1,14 @@
--- `text_log::rows::letters` meets its contract. The loop keeps where all bytes end, from here. Assumes nothing.
-use mathlib.Core.Path.{refl, ap, ◌∙◌}
-use mathlib.Core.List.{[], ◌∷◌}
-use native.Mathlib.Omega.{arith}
-use borrow.Author.Rules.{rules}
+-- Each letter stands behind those before it. Assumes nothing.
+use Rattle.std.proofs.Common.{[], ◌∷◌, refl}
 use Rattle.format.specs.RawLog.{letter, letters}
-use Rattle.text.specs.Put.{put_of}
-use Rattle.text.proofs.Joined.{puts_one, each_more, each_done}
-use Rattle.text_log.proofs.DataShown.{letters_each, letters_no}
+use Rattle.text.proofs.Joined.{puts_none, puts_each}
 use Rattle.text_log.proofs.rows.letters.Goals as goal
 
-pub loop-i-init : goal.loop-i-init
-loop-i-init c = (omega arith, refl, refl)
+pub loop-b-init : goal.loop-b-init
+unfolding letters
+loop-b-init c = puts_none _
 
-pub bounds-bytes-i : goal.bounds-bytes-i
-bounds-bytes-i c = c.loop-i-test.true
-
-pub loop-i-preserved : goal.loop-i-preserved
-loop-i-preserved c = (
-  omega arith,
-  search rules,
-  each_more letters (λ b. letter b ∷ []) _ letters_each _ _ _ _ c.loop-i-test.true c.loop-i.invariant.2
-      (puts_one _ _ _ (c.put-n.ensures ∙ ap (put_of _) c.letter.ensures)),
-)
-
-pub shape_of-out : goal.shape_of-out
-shape_of-out c = c.loop-i.invariant.1
-
-pub returns : goal.returns
-returns c = each_done letters (λ b. letter b ∷ []) _ letters_no _ _ _ c.loop-i-test.false c.loop-i.invariant.2
-
-pub overflow_add-i : goal.overflow_add-i
-overflow_add-i c =
-    omega arith
-
-pub loop-i-smaller : goal.loop-i-smaller
-loop-i-smaller c = omega arith
+pub loop-b-preserved : goal.loop-b-preserved
+unfolding letters
+loop-b-preserved c = puts_each letters (λ b. letter b ∷ []) refl (λ b bs. refl) _ _ _ _ _ c.loop-b-test.true
+    c.loop-b.invariant (rw (← c.letter.ensures) c.put.ensures)

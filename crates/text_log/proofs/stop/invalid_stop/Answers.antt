@@ -1,11 +1,12 @@
--- `text_log::stop::invalid_stop` meets its contract: the word is a part of the reason. Assumes nothing.
-use mathlib.Core.Path.{ap}
+-- The word is a part of the reason. Assumes nothing.
 use Rattle.format.specs.RawLog.{hex_word, invalid_stop}
-use Rattle.text.proofs.Joined.{join, same_part}
+use Rattle.std.proofs.Common.{◌++◌}
+use Rattle.format.specs.Listing.{ascii}
+use Rattle.text.proofs.Joined.{puts_both}
 use Rattle.text_log.proofs.StopShown.{stop_more}
 use Rattle.text_log.proofs.stop.invalid_stop.Goals as goal
 
 pub returns : goal.returns
 unfolding invalid_stop
-returns c = stop_more _ _ _ _ _ _ c.stop_line-n.ensures (join _ _ _ _ _
-    (same_part _ _ _ _ (ap hex_word c.be32-word.ensures) c.hex_word-n.ensures) c.puts.ensures)
+returns c = rw (← c.be32-word.ensures, ← stop_more c.args.place (ascii "no valid tag, the word there is ") (hex_word c.be32-word.result ++ ascii "\n")) (puts_both _ _ _ _ _ c.stop_line.ensures
+    (puts_both _ _ _ _ _ c.hex_word.ensures c.puts.ensures))

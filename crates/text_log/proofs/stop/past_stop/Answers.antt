@@ -1,8 +1,8 @@
--- `text_log::stop::past_stop` meets its contract: its parts, one behind the other. Assumes nothing.
+-- Its parts, one behind the other. Assumes nothing.
 use Rattle.format.specs.RawLog.{past_stop}
-use Rattle.text.proofs.Joined.{join}
+use Rattle.text.proofs.Joined.{puts_both}
 use Rattle.text_log.proofs.stop.past_stop.Goals as goal
 
 pub returns : goal.returns
 unfolding past_stop
-returns c = join _ _ _ _ _ c.tag_columns-n.ensures (join _ _ _ _ _ c.puts-n.ensures c.stop_line.ensures)
+returns c = puts_both _ _ _ _ _ c.tag_columns.ensures (puts_both _ _ _ _ _ c.puts.ensures c.stop_line.ensures)
