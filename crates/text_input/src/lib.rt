@@ -11,6 +11,7 @@ ghost use Rattle.text.specs.Put.{Puts};
 ghost use Rattle.text_input.specs.Input.{Listable, input_text, answer_text};
 
 use format::{Fetched, Found, Geometry, LfsMdir, LfsPair, Refusal, Rules};
+use sizes::Pair;
 use text::Text;
 
 // Document 01's own input: "program size 16, numbers 0 and 1".
@@ -31,12 +32,13 @@ pub fn fetch_input(prog_size: u32, numbers: LfsPair, input: &[u8]) -> Result<Fet
     if (n % 2 == 1) | (65_536 < n) {
         return Err(Refusal::Invalid);
     }
-    let (first, second) = input.split_at(n / 2);
+    let (b0, b1) = input.split_at(n / 2);
     let g = Geometry {
         block_size: (n / 2) as u32,
         prog_size,
     };
-    fetch::lfs_dir_fetch(g, first, second, numbers.n0, numbers.n1, 0, 0)
+    let LfsPair { n0, n1 } = numbers;
+    fetch::lfs_dir_fetch(Pair { g, b0, b1, n0, n1 }, 0, 0)
 }
 
 // The block that answers, its record, and the rule by which its log is to be regular.
