@@ -3,8 +3,9 @@
 // them. A refusal is shown as the listing shows one, behind the lines that were given before it.
 #![tactic(auto)]
 
-use format::{Geometry, LfsPair, Refusal};
+use format::{Geometry, Refusal};
 use std::io;
+use text::Text;
 use text_args::Request;
 
 // "at most 4,096": all that a call takes.
@@ -13,7 +14,9 @@ const ALLOWANCE: u32 = 4_096;
 // "A refusal prints `refused` and its number".
 fn show_refusal(rt: &HostRuntime, r: Refusal) -> io::Result<()> {
     let mut line = [0u8; 32];
-    let n = text_input::refused(&mut line, 0, r);
+    let mut text = Text::new(&mut line);
+    text_input::refused(&mut text, r);
+    let n = text.len();
     text_print::whole(&mut rt.stdout(), &mut rt.stderr(), &line, n as usize)?;
     Ok(())
 }
@@ -28,56 +31,51 @@ fn volume_room() -> [u8; 524_289] {
     [0u8; 524_289]
 }
 
-fn show(
-    rt: &HostRuntime,
-    g: Geometry,
-    numbers: LfsPair,
-    rules: u32,
-    volume: &[u8],
-) -> io::Result<()> {
+fn show(rt: &HostRuntime, block_size: u32, ask: Request, volume: &[u8]) -> io::Result<()> {
+    let g = Geometry {
+        block_size,
+        prog_size: ask.prog_size,
+    };
     let mut text = text_room();
     let tree = tree_walk::lfs_dir_tree(
-        g, volume, numbers.n0, numbers.n1, rules, ALLOWANCE, &mut text,
+        g,
+        volume,
+        ask.numbers.n0,
+        ask.numbers.n1,
+        ask.rules,
+        ALLOWANCE,
+        &mut text,
     );
-    let answer = tree.answer;
     let length = tree.length as usize;
     if text_print::whole(&mut rt.stdout(), &mut rt.stderr(), &text, length)? {
-        if let Err(r) = answer {
+        if let Err(r) = tree.answer {
             show_refusal(rt, r)?;
         }
     }
     Ok(())
 }
 
-fn tree(
-    rt: &HostRuntime,
-    block_size: u32,
-    prog_size: u32,
-    numbers: LfsPair,
-    rules: u32,
-) -> io::Result<()> {
+fn tree(rt: &HostRuntime, block_size: u32, ask: Request) -> io::Result<()> {
     let mut volume = volume_room();
     let n = text_print::read_full(&mut rt.stdin(), &mut volume)?;
-    let g = Geometry {
-        block_size,
-        prog_size,
-    };
-    show(rt, g, numbers, rules, &volume[..n])
+    show(rt, block_size, ask, &volume[..n])
 }
 
-fn usage(rt: &HostRuntime) -> io::Result<()> {
-    text_print::usage(
-        &mut rt.stderr(),
-        b"usage: tree BLOCK_SIZE [PROG_SIZE A B [RULES]], the volume on standard input\n",
-    )
+// The block size and what the volume is to be read as; nothing where the arguments are not understood.
+fn asked(rt: &HostRuntime) -> Option<(u32, Request)> {
+    let block_size = text_args::word(rt, 1)?;
+    let ask = text_args::asked(rt, 2, true)?;
+    Some((block_size, ask))
 }
 
 fn main(rt: HostRuntime) -> io::Result<()> {
-    let Some(block_size) = text_args::word(&rt, 1) else {
-        return usage(&rt);
-    };
-    match text_args::asked(&rt, 2, true) {
-        Request::As(prog_size, numbers, rules) => tree(&rt, block_size, prog_size, numbers, rules),
-        Request::Unclear => usage(&rt),
+    match asked(&rt) {
+        Some((block_size, ask)) => tree(&rt, block_size, ask),
+        None => {
+            text_print::usage(
+                &mut rt.stderr(),
+                b"usage: tree BLOCK_SIZE [PROG_SIZE A B [RULES]], the volume on standard input\n",
+            )
+        }
     }
 }

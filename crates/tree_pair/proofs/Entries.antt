@@ -3,7 +3,7 @@
 use mathlib.Core.Path.{◌≡◌, refl, sym, ap, ◌∙◌}
 use mathlib.Core.Logic.{inl, inr}
 use mathlib.Core.Bool.{Bool, true, false, ◌&&◌}
-use mathlib.Core.List.{List, [], ◌∷◌, ◌++◌}
+use mathlib.Core.List.{List, [], ◌∷◌}
 use Prim.Native.Nat.{ℕ, ◌≤◌, ◌<◌}
 use native.Mathlib.Omega.{arith}
 use lib.ListN.{length, drop}
@@ -17,24 +17,17 @@ use Rattle.format.specs.Look.{mask_type1, bytes_of, FoundIn, wlook}
 use Rattle.format.specs.Lookup.{name_mask, name_key, struct_key, slice_buffer, blank_buffer, info_size, info_of}
 use Rattle.format.specs.Lookup.{read_answer, read_buffer}
 use Rattle.format.specs.Directory.{Load}
-use Rattle.format.specs.Listing.{ascii, decimal, number_line, name_fields}
-use Rattle.format.specs.Tree.{node_of, into_of, line_text}
+use Rattle.format.specs.Tree.{node_of, into_of}
 use Rattle.format.specs.TreeMachine.{hidden}
-use Rattle.format.specs.declared.LfsPair.{LfsPair}
 use Rattle.format.specs.declared.Found.{Found}
 use Rattle.format.proofs.Searched.{hit_in}
 use Rattle.theory.specs.Lookup.ByMask.{holds, holds_as, Answers, missing, there}
 use Rattle.theory.proofs.Compact.AcceptedVerdict.{slots_few}
 use Rattle.lookup.proofs.Moves.{tag_made}
-use Rattle.text.specs.Put.{Text, puts_of}
-use Rattle.text.proofs.Joined.{join, puts_none}
 use Rattle.tree_theory.specs.Nodes.{padded_word, eight_bytes, read_found, node_both}
 use Rattle.tree_theory.specs.OnBlock.{newest_hit, named_hit, struct_hit, slot_at, end_inside, hit_inside}
 use Rattle.tree_theory.specs.OnBlock.{newest_held, struct_held, named_newest}
-use Rattle.tree_pair.specs.Pair.{Slotted, load_at, Sees, NameSeen, node_at, line_of, Shows, EntryIn}
-use Rattle.tree_pair.specs.Pair.{entry_text}
-use Rattle.tree_pair.specs.declared.Entry.{Entry}
-use Rattle.tree_pair.specs.declared.Entry.TheVariants as entry
+use Rattle.tree_pair.specs.Pair.{Slotted, load_at, Sees, NameSeen, node_at, Shows}
 use Rattle.std.specs.Prelude.{None, Option, Some}
 
 pub hidden_is : (t k : ℕ) → k ≡ tag_type3 t → leb 0x080 k && ltb k 0x100 ≡ hidden (tag_type3 t)
@@ -183,33 +176,3 @@ module _ (b : List ℕ) (end etag id : ℕ) (s : Slotted b end etag id) where
                 inside = seen.inside;
                 is = both ∙ rw (sym kind ∙ is, ex ∙ word_read 0 (omega arith), ey ∙ word_read 4 (omega arith));
               }
-
--- ---- the line, part by part
-pub line_done : (b : List ℕ) (depth : ℕ) (name : Found) (size : ℕ) (s t1 t2 r : Text) → t1 ≡ puts_of s (decimal depth)
-    → t2 ≡ puts_of t1 (name_fields (holds b (Some name))) → r ≡ puts_of t2 (number_line (ascii " ") size)
-    → r ≡ puts_of s (line_text (line_of depth (load_at b name) size))
-unfolding line_text holds
-line_done b depth name size s t1 t2 r e1 e2 er =
-    join s t1 r (decimal depth) (name_fields (Some (load_at b name)) ++ number_line (ascii " ") size) e1
-    (join t1 t2 r (name_fields (Some (load_at b name))) (number_line (ascii " ") size) e2 er)
-
--- ---- the line of an entry x, by what it is
-module _ (b : List ℕ) (depth : ℕ) (x : Entry) where
-  module _ (e : Found) (size : ℕ) (q : x ≡ entry.File e size) where
-    pub file_inside : EntryIn (length b) x → FoundIn (length b) e
-    file_inside h = rw q at h
-
-    pub file_line : (s r : Text) → r ≡ puts_of s (line_text (line_of depth (load_at b e) size))
-        → r ≡ puts_of s (entry_text b depth x)
-    file_line s r er = rw q er
-
-  module _ (e : Found) (p : LfsPair) (q : x ≡ entry.Dir e p) where
-    pub dir_inside : EntryIn (length b) x → FoundIn (length b) e
-    dir_inside h = rw q at h
-
-    pub dir_line : (s r : Text) → r ≡ puts_of s (line_text (line_of depth (load_at b e) 0))
-        → r ≡ puts_of s (entry_text b depth x)
-    dir_line s r er = rw q er
-
-  pub no_line : x ≡ entry.Nothing → (s : Text) → s ≡ puts_of s (entry_text b depth x)
-  no_line q s = rw q (puts_none s)

@@ -5,7 +5,7 @@ use mathlib.Core.List.{List}
 use Prim.Native.Nat.{ℕ, ◌<◌}
 use native.Mathlib.Omega.{arith}
 use Rattle.format.specs.Log.{log}
-use Rattle.format.specs.Regular.{Regular, rules_of}
+use Rattle.format.specs.Regular.{Regular}
 use Rattle.format.specs.Volume.{blocks_in, block_in, fetch_in}
 use Rattle.format.specs.Tree.{refused, open_in}
 use Rattle.format.specs.declared.Geometry.{Geometry}
@@ -24,8 +24,8 @@ use Rattle.tree_pair.specs.declared.Dir.{Dir}
 use Rattle.std.specs.Prelude.{Err, Ok}
 use Rattle.format.specs.Record.{fetched}
 
-module _ (g : Geometry) (vol : List ℕ) (rules : ℕ) (p : LfsPair) where
-  pub open_refused : (r : Refusal) → Err r ≡ fetch_in g vol p → open_in (rules_of rules) g vol p ≡ refused r
+module _ (g : Geometry) (vol : List ℕ) (q : Rules) (p : LfsPair) where
+  pub open_refused : (r : Refusal) → Err r ≡ fetch_in g vol p → open_in q g vol p ≡ refused r
   unfolding open_in
   open_refused r f = rw (← f)
 
@@ -41,13 +41,12 @@ module _ (g : Geometry) (vol : List ℕ) (rules : ℕ) (p : LfsPair) where
           let t = there g vol p m s (sym f) in
           rw eb (record { word = omega (arith, t.least); ends = t.ends })
 
-      -- q is the rule that was asked for, x what the test of regularity answers
-      module _ (q : Rules) (asked : q ≡ rules_of rules) (x : Bool) (ex : x ≡ Regular q (log b)) where
-        ruled : Regular (rules_of rules) (log (block_in g vol m.pair.n0)) ≡ x
-        ruled = ap (λ (z : Rules). Regular z (log (block_in g vol m.pair.n0))) (sym asked)
-            ∙ ap (λ (z : List ℕ). Regular q (log z)) (sym eb) ∙ sym ex
+      -- x is what the test of regularity answers
+      module _ (x : Bool) (ex : x ≡ Regular q (log b)) where
+        ruled : Regular q (log (block_in g vol m.pair.n0)) ≡ x
+        ruled = ap (λ (z : List ℕ). Regular q (log z)) (sym eb) ∙ sym ex
 
-        pub open_irregular : x ≡ false → open_in (rules_of rules) g vol p ≡ refused Irregular
+        pub open_irregular : x ≡ false → open_in q g vol p ≡ refused Irregular
         unfolding open_in
         open_irregular h = rw (← f, ruled ∙ h)
 
@@ -62,11 +61,11 @@ module _ (g : Geometry) (vol : List ℕ) (rules : ℕ) (p : LfsPair) where
           tail = m.tail;
         }
 
-        pub open_regular : x ≡ true → Opens g vol (open_in (rules_of rules) g vol p) (Ok dir)
+        pub open_regular : x ≡ true → Opens g vol (open_in q g vol p) (Ok dir)
         unfolding open_in
         open_regular h =
-            let is : Regular (rules_of rules) (log (block_in g vol m.pair.n0)) ≡ true = ruled ∙ h in
-            let wide : Regular Littlefs (log (block_in g vol m.pair.n0)) ≡ true = widest (rules_of rules) _ is in (
+            let is : Regular q (log (block_in g vol m.pair.n0)) ≡ true = ruled ∙ h in
+            let wide : Regular Littlefs (log (block_in g vol m.pair.n0)) ≡ true = widest q _ is in (
               rw (← f, is, nodes_there g vol p m s (sym f) wide),
               record {
                 inside = answers_inside;

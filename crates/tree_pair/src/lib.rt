@@ -5,18 +5,18 @@
 
 ghost use Rattle.std.specs.Prelude.{◌≡◌, true, length};
 ghost use Rattle.format.specs.Look.{FoundIn};
-ghost use Rattle.format.specs.Regular.{rules_of};
 ghost use Rattle.format.specs.Volume.{volume_fits};
 ghost use Rattle.format.specs.Tree.{open_in, line_text};
 ghost use Rattle.format.specs.TreeMachine.{hidden};
 ghost use Rattle.format.specs.Tag.{tag_type3};
-ghost use Rattle.text.specs.Put.{text, puts_of};
+ghost use Rattle.text.specs.Put.{Puts};
 ghost use Rattle.tree_theory.specs.OnBlock.{named_hit, slot_at};
 ghost use Rattle.tree_pair.specs.Pair.{Opens, Slotted, NameSeen, node_at, EntryIs, load_at, line_of, EntryIn};
 ghost use Rattle.tree_pair.specs.Pair.{entry_text};
 
 use format::types::*;
-use format::{Fetched, Found, Geometry, LfsMdir, LfsPair, Refusal};
+use format::{Found, Geometry, LfsPair, Refusal, Rules};
+use text::Text;
 
 // A pair that was opened: its block that answers, where the log ends, how many slots it has, and its tail.
 #[derive(Clone, Copy)]
@@ -45,27 +45,22 @@ const NEWEST: u32 = 0x700f_fc00;
 const SEEN: u32 = 0x780f_fc00;
 
 // "the fetch's own, -202": what stands at a pair.
-pub fn open_in(g: Geometry, vol: &[u8], rules: u32, pair: LfsPair) -> Result<Dir, Refusal>
+pub fn open_in(g: Geometry, vol: &[u8], rules: Rules, pair: LfsPair) -> Result<Dir, Refusal>
     requires { volume_fits g vol.now ≡ true }
-    ensures { Opens g vol.now (open_in (rules_of rules) g vol.now pair) result }
+    ensures { Opens g vol.now (open_in rules g vol.now pair) result }
 {
-    let m = match volume::fetch_in(g, vol, pair) {
-        Err(r) => return Err(r),
-        Fetched::Found(m, _) => m,
-    };
-    let numbers = m.pair;
-    let tail = m.tail;
-    let b = volume::block(g, vol, numbers.n0);
-    if !commit_regular::log_regular(b, m.off as usize, commit_regular::rules_of(rules)) {
+    let m = volume::fetch_in(g, vol, pair)?.dir;
+    let b = volume::block(g, vol, m.pair.n0);
+    if !commit_regular::log_regular(b, m.off as usize, rules) {
         return Err(Refusal::Irregular);
     }
     Ok(Dir {
-        block: numbers.n0,
+        block: m.pair.n0,
         end: m.off,
         etag: m.etag,
         count: m.count as u32,
         split: m.split,
-        tail,
+        tail: m.tail,
     })
 }
 
@@ -85,15 +80,10 @@ fn name_seen(b: &[u8], end: u32, etag: u32, id: u32) -> Option<Found>
         result }
 {
     let key = tag::lfs_mktag(LFS_TYPE_NAME as u32, id, 256);
-    let Some(name) = lookup_search::find_back(b, end, etag, NEWEST, key, 0) else {
-        return None;
-    };
-    if !is_hidden(name.tag) {
-        return Some(name);
+    let name = lookup_search::find_back(b, end, etag, NEWEST, key, 0)?;
+    if is_hidden(name.tag) {
+        lookup_search::find_back(b, end, etag, SEEN, key, 0)?;
     }
-    let Some(_) = lookup_search::find_back(b, end, etag, SEEN, key, 0) else {
-        return None;
-    };
     Some(name)
 }
 
@@ -111,7 +101,7 @@ pub fn entry_of(b: &[u8], end: u32, etag: u32, id: u32) -> Entry
         return Entry::Nothing;
     };
     let mut s = [0u8; 8];
-    lookup_search::slice::read_at(b, content, 0, &mut s);
+    let _ = lookup_search::slice::read_at(b, content, 0, &mut s);
     if tag::lfs_tag_type3(content.tag) == LFS_TYPE_DIRSTRUCT {
         return Entry::Dir(
             name,
@@ -125,25 +115,25 @@ pub fn entry_of(b: &[u8], end: u32, etag: u32, id: u32) -> Entry
 }
 
 // A line: "depth, type, name as the listing prints it, and `lfs_dir_getinfo`'s size". It shows no pair.
-fn line(out: &mut [u8], at: u32, b: &[u8], depth: u32, name: Found, size: u32) -> u32
+#[tactic(auto, unfolding(format::specs::Tree::line_text, theory::specs::Lookup::ByMask::holds, text::specs::Put::puts_of), using(text::proofs::Joined::puts_append))]
+fn line(text: &mut Text, b: &[u8], depth: u32, name: Found, size: u32)
     requires { FoundIn (length b.now) name }
-    ensures { text result out.new ≡ puts_of (text at out.old)
-        (line_text (line_of depth (load_at b.now name) size)) }
+    ensures { Puts text.old text.new (line_text (line_of depth (load_at b.now name) size)) }
 {
-    let n = text::decimal(out, at, depth);
-    let n = text_listing::name_fields(out, n, b, Some(name));
-    text::number_line(out, n, b" ", size)
+    text.decimal(depth);
+    text_listing::name_fields(text, b, Some(name));
+    text.number_line(b" ", size);
 }
 
 // The line of an entry; nothing where there is none. A directory's size is 0.
-pub fn entry_line(out: &mut [u8], at: u32, b: &[u8], depth: u32, entry: Entry) -> u32
+#[tactic(auto, unfolding(text::specs::Put::puts_of))]
+pub fn entry_line(text: &mut Text, b: &[u8], depth: u32, entry: Entry)
     requires { EntryIn (length b.now) entry }
-    ensures { text result out.new ≡ puts_of (text at out.old)
-        (entry_text b.now depth entry) }
+    ensures { Puts text.old text.new (entry_text b.now depth entry) }
 {
     match entry {
-        Entry::File(name, size) => line(out, at, b, depth, name, size),
-        Entry::Dir(name, _) => line(out, at, b, depth, name, 0),
-        Entry::Nothing => at,
+        Entry::File(name, size) => line(text, b, depth, name, size),
+        Entry::Dir(name, _) => line(text, b, depth, name, 0),
+        Entry::Nothing => {}
     }
 }

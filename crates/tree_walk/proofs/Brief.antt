@@ -64,9 +64,9 @@ node_brief : (i : Result LfsInfo Refusal) (name struct : Option Load) → nodes_
 unfolding node_of nodes_size
 node_brief i None struct = omega arith
 node_brief i (Some v) None = omega arith
-node_brief i (Some v) (Some struct) = go i.answer
+node_brief i (Some v) (Some struct) = go i
   where
-    go : (a : Result Unit Refusal) → nodes_size (node_if a v i.info.size struct) ≤ 27 + 4 * length v.bytes
+    go : (a : Result LfsInfo Refusal) → nodes_size (node_if a v struct) ≤ 27 + 4 * length v.bytes
     go (Ok x) = omega arith
     go (Err r) = omega arith
 
@@ -101,14 +101,14 @@ open_brief r g vol p = go (fetch_in g vol p) refl
         b = block_in g vol f.dir.pair.n0
 
         held : (x : Bool) → Regular r (log b) ≡ x
-            → Brief (cond x (holding (nodes_from (info_in g vol p m) 0 (dir_of (log b))) (hard_tail m)) (refused Irregular))
+            → Brief (cond x (holding (nodes_from (info_in g vol p f.dir) 0 (dir_of (log b))) (hard_tail f.dir)) (refused Irregular))
         held false q = tt
         held true q =
-            let t = there g vol p m s e in
+            let t = there g vol p f.dir f.seed e in
             let wide = widest r (log b) q in
             omega (
               arith,
-              nodes_brief (info_in g vol p m) 0 (dir_of (log b)),
+              nodes_brief (info_in g vol p f.dir) 0 (dir_of (log b)),
               slots_few b wide,
               names_inside b wide (omega (arith, t.least)),
               t.most,

@@ -5,8 +5,8 @@ use Prim.Native.Nat.{ℕ}
 use Rattle.format.specs.Tree.{Node, Line, line_text, lines_text, Walk, ended, shown, behind, and_then, inside, slot_walk}
 use Rattle.format.specs.declared.LfsPair.{LfsPair}
 use Rattle.format.specs.declared.Refusal.{Refusal}
-use Rattle.text.specs.Put.{Text, puts_of}
-use Rattle.text.proofs.Joined.{puts_app, puts_none}
+use Rattle.text.specs.Put.{State, puts_of}
+use Rattle.text.proofs.Joined.{puts_append, puts_nothing}
 use Rattle.tree_walk.specs.Walks.{Outcome, comes}
 use Rattle.std.specs.Prelude.{Err, Ok, Result}
 
@@ -31,22 +31,22 @@ lines_app (x ∷ xs) ys = ap (λ l. line_text x ++ l) (lines_app xs ys)
     ∙ sym (append_assoc (line_text x) (lines_text xs) (lines_text ys))
 
 -- THE LAW
-pub comes_then : (s : Text) (w : Walk) (next : ℕ → Walk) → comes s (and_then w next) ≡ onward (comes s w) next
+pub comes_then : (s : State) (w : Walk) (next : ℕ → Walk) → comes s (and_then w next) ≡ onward (comes s w) next
 comes_then s w next = go w.answer (next w.left)
   where
     go : (x : Result Unit Refusal) (v : Walk)
         → comes s (behind x w v) ≡ goes x (comes s w) (comes (puts_of s (lines_text w.lines)) v)
     go (Ok x) v = ap (λ t. record { shown = t; left = v.left; answer = v.answer })
         (ap (puts_of s) (lines_app w.lines v.lines)
-        ∙ sym (puts_app (lines_text w.lines) (lines_text v.lines) s))
+        ∙ puts_append s (lines_text w.lines) (lines_text v.lines))
     go (Err r) v = refl
 
 -- nothing, and one line
-pub comes_ended : (s : Text) (left : ℕ) → comes s (ended left) ≡ record { shown = s; left = left; answer = (Ok tt) }
+pub comes_ended : (s : State) (left : ℕ) → comes s (ended left) ≡ record { shown = s; left = left; answer = (Ok tt) }
 unfolding lines_text
-comes_ended s left = ap (λ t. record { shown = t; left = left; answer = (Ok tt) }) (sym (puts_none s))
+comes_ended s left = ap (λ t. record { shown = t; left = left; answer = (Ok tt) }) (puts_nothing s)
 
-comes_line : (s : Text) (depth : ℕ) (n : Node) (left : ℕ) → comes s (shown depth n left)
+comes_line : (s : State) (depth : ℕ) (n : Node) (left : ℕ) → comes s (shown depth n left)
     ≡ record { shown = puts_of s (line_text (record { depth = depth; node = n })); left = left; answer = (Ok tt) }
 unfolding lines_text
 comes_line s depth n left =
@@ -54,7 +54,7 @@ comes_line s depth n left =
     (append-nil (line_text (record { depth = depth; node = n })))
 
 -- an entry: its line, what is in it, and the others
-pub comes_entry : (s : Text) (enter : LfsPair → ℕ → Walk) (depth : ℕ) (n : Node) (ns : List Node) (left : ℕ)
+pub comes_entry : (s : State) (enter : LfsPair → ℕ → Walk) (depth : ℕ) (n : Node) (ns : List Node) (left : ℕ)
     → comes s (slot_walk enter depth (n ∷ ns) left)
     ≡ onward (comes (puts_of s (line_text (record { depth = depth; node = n }))) (inside enter n.into left))
     (slot_walk enter depth ns)

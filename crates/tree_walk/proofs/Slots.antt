@@ -15,8 +15,10 @@ use Rattle.format.specs.declared.Geometry.{Geometry}
 use Rattle.format.specs.declared.LfsPair.{LfsPair}
 use Rattle.format.specs.declared.Refusal.{Refusal}
 use Rattle.format.specs.declared.Found.{Found}
-use Rattle.text.specs.Put.{Text, text, puts_of}
-use Rattle.text.proofs.Joined.{puts_none}
+use Rattle.format.specs.declared.Rules.{Rules}
+use Rattle.text.specs.declared.Text.{Text}
+use Rattle.text.specs.Put.{State, state_of, puts_of, Puts}
+use Rattle.text.proofs.Joined.{puts_nothing}
 use Rattle.tree_theory.specs.OnBlock.{info_at}
 use Rattle.tree_pair.specs.Pair.{node_at, dir_nodes, Slotted, Stands, load_at, line_of, EntryIs, EntryIn, entry_text}
 use Rattle.tree_pair.specs.declared.Dir.{Dir}
@@ -42,8 +44,8 @@ module _ (g : Geometry) (vol : List ℕ) (d : Dir) (b : List ℕ) (stands : Stan
   pub slotted : (id : ℕ) → id < d.count → Slotted b d.end d.etag id
   slotted id h = rw eb (record { regularly = stands.regularly; low = omega (arith, stands.count') })
 
--- ---- the loop: left0, at0 and out0 are what it began with, and b is the block
-module _ (g : Geometry) (vol : List ℕ) (rules depth : ℕ) (d : Dir) (left0 at0 : ℕ) (out0 b : List ℕ) where
+-- ---- the loop: left0 and s0 are what it began with, and b is the block
+module _ (g : Geometry) (vol : List ℕ) (rules : Rules) (depth : ℕ) (d : Dir) (left0 : ℕ) (s0 : Text) (b : List ℕ) where
   -- the entries from id on
   abbrev rest : ℕ → List Node
   rest id = nodes_from (info_at b d.end d.etag) id (drop id (dir_of (log b)))
@@ -52,41 +54,47 @@ module _ (g : Geometry) (vol : List ℕ) (rules depth : ℕ) (d : Dir) (left0 at
   walked n ns left = slot_walk (dir_walk n (pairs g vol rules) (suc depth)) depth ns left
 
   -- the walk that is asked for goes on from here
-  abbrev pub Reached : ℕ → ℕ → ℕ → List ℕ → Type 0
-  Reached id spare end out = (n : ℕ) → left0 < n
-      → comes (text at0 out0) (walked n (dir_nodes g vol d) left0) ≡ comes (text end out) (walked n (rest id) spare)
+  abbrev pub Reached : ℕ → ℕ → Text → Type 0
+  Reached id spare u = (u.out.ghost_name ≡ s0.out.ghost_name) × ((n : ℕ) → left0 < n
+      → comes (state_of s0) (walked n (dir_nodes g vol d) left0) ≡ comes (state_of u) (walked n (rest id) spare))
 
-  -- what the loop keeps, wherever the three come from
-  abbrev pub Kept : ℕ → ℕ → ℕ → List ℕ → Type 0
-  Kept id spare end out = (spare ≤ left0) × Reached id spare end out
+  -- what the loop keeps, wherever the two come from
+  abbrev pub Kept : ℕ → ℕ → Text → Type 0
+  Kept id spare u = (spare ≤ left0) × Reached id spare u
 
-  pub kept_by : (id spare spare1 end end1 : ℕ) (out out1 : List ℕ) → out ≡ out1 → spare ≡ spare1 → end ≡ end1
-      → Kept id spare1 end1 out1 → Kept id spare end out
-  kept_by id spare spare1 end end1 out out1 p q r k = rw (p, q, r) k
+  pub kept_by : (id spare spare1 : ℕ) (u u1 : Text) → u ≡ u1 → spare ≡ spare1 → Kept id spare1 u1 → Kept id spare u
+  kept_by id spare spare1 u u1 p q k = rw (p, q) k
 
-  abbrev Comes : Walked → List ℕ → Type 0
-  Comes = Walks (λ n. walked n (dir_nodes g vol d) left0) left0 at0 out0
+  abbrev Comes : Walked → Text → Type 0
+  Comes = Walks (λ n. walked n (dir_nodes g vol d) left0) left0 s0
 
   module _ (stands : Stands g vol d) (eb : b ≡ block_in g vol d.block) where
-    pub begins : Reached 0 left0 at0 out0
-    begins n h = ap (λ (x : List ℕ). comes (text at0 out0)
-        (walked n (nodes_from (info_at x d.end d.etag) 0 (dir_of (log x))) left0)) (sym eb)
+    pub begins : Reached 0 left0 s0
+    begins = (
+      refl,
+      λ n h. ap (λ (x : List ℕ). comes (state_of s0)
+          (walked n (nodes_from (info_at x d.end d.etag) 0 (dir_of (log x))) left0)) (sym eb),
+    )
 
-    pub slots_end : (id spare end : ℕ) (out : List ℕ) → d.count ≤ id → spare ≤ left0 → Reached id spare end out
-        → Comes (record { answer = (Ok tt); left = spare; at = end }) out
+    pub slots_end : (id spare : ℕ) (u : Text) → d.count ≤ id → spare ≤ left0 → Reached id spare u
+        → Comes (record { answer = (Ok tt); left = spare }) u
     unfolding nodes_from slot_walk
-    slots_end id spare end out h low reached = record {
+    slots_end id spare u h low reached = record {
       low = low;
-      is = λ n k. sym (reached n k ∙ ap (λ (D : _). comes (text end out) (walked n
+      buffer = reached.0;
+      is = λ n k. sym (reached.1 n k ∙ ap (λ (D : _). comes (state_of u) (walked n
           (nodes_from (info_at b d.end d.etag) id D) spare))
           (drop_of_length-le (dir_of (log b)) {i = id} (omega (arith, count_is g vol d b stands eb))) ∙ comes_ended
-          (text end out) spare);
+          (state_of u) spare);
     }
 
     -- ---- a turn: e is the entry of the slot id, and its line is put
-    module _ (id spare end : ℕ) (out : List ℕ) (more : id < d.count) (low : spare ≤ left0)
-        (reached : Reached id spare end out) (e : Entry) (is : EntryIs b (node_at b d.end d.etag id) e)
-        (end1 : ℕ) (out1 : List ℕ) (line : text end1 out1 ≡ puts_of (text end out) (entry_text b depth e)) where
+    module _ (id spare : ℕ) (u : Text) (more : id < d.count) (low : spare ≤ left0)
+        (reached : Reached id spare u) (e : Entry) (is : EntryIs b (node_at b d.end d.etag id) e)
+        (u1 : Text) (line : Puts u u1 (entry_text b depth e)) where
+      same : u1.out.ghost_name ≡ s0.out.ghost_name
+      same = line.buffer ∙ reached.0
+
       rest_next : rest id ≡ node_at b d.end d.etag id ++ rest (id + 1)
       unfolding nodes_from
       rest_next = rw (add-one id)
@@ -95,53 +103,54 @@ module _ (g : Geometry) (vol : List ℕ) (rules depth : ℕ) (d : Dir) (left0 at
 
       -- what the entry is decides how the walk goes on
       next_is : (ns : List Node) → node_at b d.end d.etag id ≡ ns → (n : ℕ) → left0 < n
-          → comes (text at0 out0) (walked n (dir_nodes g vol d) left0)
-          ≡ comes (text end out) (walked n (ns ++ rest (id + 1)) spare)
-      next_is ns q n h = reached n h ∙ ap (λ (l : List Node). comes (text end out) (walked n l spare))
+          → comes (state_of s0) (walked n (dir_nodes g vol d) left0)
+          ≡ comes (state_of u) (walked n (ns ++ rest (id + 1)) spare)
+      next_is ns q n h = reached.1 n h ∙ ap (λ (l : List Node). comes (state_of u) (walked n l spare))
           (rest_next ∙ ap (λ (l : List Node). l ++ rest (id + 1)) q)
 
-      pub slot_plain : ((name : Found) (p : LfsPair) → e ≡ entry.Dir name p → ⊥) → Reached (id + 1) spare end1 out1
-      slot_plain h n k = go e h is line
+      pub slot_plain : ((name : Found) (p : LfsPair) → e ≡ entry.Dir name p → ⊥) → Reached (id + 1) spare u1
+      slot_plain h = (same, λ n k. go n k e h is line.behind)
         where
-          go : (x : Entry) → ((name : Found) (p : LfsPair) → x ≡ entry.Dir name p → ⊥) → EntryIs b (node_at b d.end d.etag id) x
-              → text end1 out1 ≡ puts_of (text end out) (entry_text b depth x)
-              → comes (text at0 out0) (walked n (dir_nodes g vol d) left0)
-              ≡ comes (text end1 out1) (walked n (rest (id + 1)) spare)
-          go entry.Nothing t q l = next_is [] q n k
-              ∙ ap (λ (s : Text). comes s (walked n (rest (id + 1)) spare)) (puts_none (text end out) ∙ sym l)
-          go (entry.File name size) t q l =
+          go : (n : ℕ) → left0 < n → (x : Entry) → ((name : Found) (p : LfsPair) → x ≡ entry.Dir name p → ⊥) → EntryIs b (node_at b d.end d.etag id) x
+              → state_of u1 ≡ puts_of (state_of u) (entry_text b depth x)
+              → comes (state_of s0) (walked n (dir_nodes g vol d) left0)
+              ≡ comes (state_of u1) (walked n (rest (id + 1)) spare)
+          go n k entry.Nothing t q l = next_is [] q n k
+              ∙ ap (λ (s : State). comes s (walked n (rest (id + 1)) spare)) (sym (puts_nothing (state_of u)) ∙ sym l)
+          go n k (entry.File name size) t q l =
               let node : Node = record { name = load_at b name; size = size; into = None } in
               next_is (node ∷ []) q.is n k
-              ∙ comes_entry (text end out) (dir_walk n (pairs g vol rules) (suc depth)) depth node (rest (id + 1)) spare
+              ∙ comes_entry (state_of u) (dir_walk n (pairs g vol rules) (suc depth)) depth node (rest (id + 1)) spare
               ∙ ap (λ (o : Outcome). onward o (walked n (rest (id + 1))))
-              (comes_ended (puts_of (text end out) (line_text (line_of depth (load_at b name) size))) spare)
-              ∙ ap (λ (s : Text). comes s (walked n (rest (id + 1)) spare)) (sym l)
-          go (entry.Dir name p) t q l = absurd (t name p refl)
+              (comes_ended (puts_of (state_of u) (line_text (line_of depth (load_at b name) size))) spare)
+              ∙ ap (λ (s : State). comes s (walked n (rest (id + 1)) spare)) (sym l)
+          go n k (entry.Dir name p) t q l = absurd (t name p refl)
 
       -- a directory, and what walking it came to
-      module _ (name : Found) (p : LfsPair) (q : e ≡ entry.Dir name p) (w : Walked) (o : List ℕ)
-          (went : DirWalks g vol rules (depth + 1) p spare end1 out1 w o) where
-        within : (n : ℕ) → left0 < n → comes (text at0 out0) (walked n (dir_nodes g vol d) left0)
+      module _ (name : Found) (p : LfsPair) (q : e ≡ entry.Dir name p) (w : Walked) (o : Text)
+          (went : DirWalks g vol rules (depth + 1) p spare u1 w o) where
+        within : (n : ℕ) → left0 < n → comes (state_of s0) (walked n (dir_nodes g vol d) left0)
             ≡ onward (outcome w o) (walked n (rest (id + 1)))
         unfolding line_text
         within n k =
             let node : Node = record { name = load_at b name; size = 0; into = Some p } in
             let shown = subst (EntryIs b (node_at b d.end d.etag id)) q is in
-            let l : text end1 out1 ≡ puts_of (text end out) (line_text (line_of depth (load_at b name) 0))
-            = line ∙ ap (λ (x : Entry). puts_of (text end out) (entry_text b depth x)) q in
+            let l : state_of u1 ≡ puts_of (state_of u) (line_text (line_of depth (load_at b name) 0))
+            = line.behind ∙ ap (λ (x : Entry). puts_of (state_of u) (entry_text b depth x)) q in
             next_is (node ∷ []) shown.is n k
-            ∙ comes_entry (text end out) (dir_walk n (pairs g vol rules) (suc depth)) depth node (rest (id + 1)) spare
-            ∙ ap (λ (s : Text). onward (comes s (dir_walk n (pairs g vol rules) (suc depth) p spare))
+            ∙ comes_entry (state_of u) (dir_walk n (pairs g vol rules) (suc depth)) depth node (rest (id + 1)) spare
+            ∙ ap (λ (s : State). onward (comes s (dir_walk n (pairs g vol rules) (suc depth) p spare))
             (walked n (rest (id + 1)))) (sym l)
-            ∙ ap (λ (x : ℕ). onward (comes (text end1 out1) (dir_walk n (pairs g vol rules) x p spare))
+            ∙ ap (λ (x : ℕ). onward (comes (state_of u1) (dir_walk n (pairs g vol rules) x p spare))
             (walked n (rest (id + 1)))) (sym (add-one depth))
             ∙ ap (λ (x : Outcome). onward x (walked n (rest (id + 1)))) (sym (went.is n (omega arith)))
 
         pub slot_stops : (r : Refusal) → w.answer ≡ Err r → Comes w o
         slot_stops r x = record {
           low = omega (arith, went.low);
+          buffer = went.buffer ∙ same;
           is = λ n h. sym (within n h ∙ stays w.answer r x (outcome w o) _);
         }
 
-        pub slot_goes_on : w.answer ≡ (Ok tt) → Reached (id + 1) w.left w.at o
-        slot_goes_on x n h = within n h ∙ moves w.answer x (outcome w o) _
+        pub slot_goes_on : w.answer ≡ (Ok tt) → Reached (id + 1) w.left o
+        slot_goes_on x = (went.buffer ∙ same, λ n h. within n h ∙ moves w.answer x (outcome w o) _)

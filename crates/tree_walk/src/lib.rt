@@ -3,14 +3,17 @@
 // falls at each pair; the depth bounds how deep the two call each other, and so the stack.
 #![tactic(auto)]
 
-ghost use Rattle.std.specs.Prelude.{◌≡◌, true, ◌≤◌, length};
+ghost use Rattle.std.specs.Prelude.{◌≡◌, true, cond, Err, Ok, ◌≤◌, length};
 ghost use Rattle.format.specs.Volume.{volume_fits};
-ghost use Rattle.format.specs.Tree.{tree_of, tree_text};
+ghost use Rattle.format.specs.Regular.{rules_of};
+ghost use Rattle.format.specs.Tree.{tree_fits, tree_of, tree_text};
 ghost use Rattle.format.specs.Listing.{written_to};
+ghost use Rattle.format.specs.declared.Refusal.TheVariants.{Invalid};
 ghost use Rattle.tree_pair.specs.Pair.{Stands};
 ghost use Rattle.tree_walk.specs.Walks.{stopped_at, DirWalks, SlotWalks};
 
-use format::{Geometry, LfsPair, Refusal, Written};
+use format::{Geometry, LfsPair, Refusal, Rules, Written};
+use text::Text;
 use tree_pair::{Dir, Entry};
 
 // "a depth of at most 32, the given pair's being 0"
@@ -19,22 +22,20 @@ const DEEPEST: u32 = 32;
 // "a falling allowance of pairs, at most 4,096 (more is -22)"
 const MOST_PAIRS: u32 = 4_096;
 
-// What a walk comes to: whether it went to its end, what is left of the allowance, and the length of the text so far.
+// What a walk comes to: whether it went to its end, and what is left of the allowance, on a refusal too.
 #[derive(Clone, Copy)]
 pub struct Walked {
     pub answer: Result<(), Refusal>,
     pub left: u32,
-    pub at: u32,
 }
 
 // A walk that ends here.
-fn stopped(r: Refusal, left: u32, at: u32) -> Walked
-    ensures { result ≡ stopped_at r left at }
+fn stopped(r: Refusal, left: u32) -> Walked
+    ensures { result ≡ stopped_at r left }
 {
     Walked {
         answer: Err(r),
         left,
-        at,
     }
 }
 
@@ -42,35 +43,32 @@ fn stopped(r: Refusal, left: u32, at: u32) -> Walked
 // allowance spent, the fetch's own, -202", at the first pair where they apply.
 #[cycle(dir_walk_slot_walk)]
 fn dir_walk(
+    text: &mut Text,
     g: Geometry,
     vol: &[u8],
-    rules: u32,
+    rules: Rules,
     depth: u32,
     pair: LfsPair,
     left: u32,
-    at: u32,
-    out: &mut [u8],
 ) -> Walked
     requires { volume_fits g vol.now ≡ true }
-    ensures { DirWalks g vol.now rules depth pair left at out.old result out.new }
+    ensures { DirWalks g vol.now rules depth pair left text.old result text.new }
 {
     if DEEPEST < depth {
-        return stopped(Refusal::TooDeep, left, at);
+        return stopped(Refusal::TooDeep, left);
     }
     let mut next = pair;
     let mut spare = left;
-    let mut end = at;
     loop {
         if spare == 0 {
-            return stopped(Refusal::Spent, spare, end);
+            return stopped(Refusal::Spent, spare);
         }
         let dir = match tree_pair::open_in(g, vol, rules, next) {
-            Err(r) => return stopped(r, spare - 1, end),
+            Err(r) => return stopped(r, spare - 1),
             Ok(dir) => dir,
         };
-        let walked = slot_walk(g, vol, rules, depth, dir, spare - 1, end, out);
-        let answer = walked.answer;
-        let Ok(()) = answer else {
+        let walked = slot_walk(text, g, vol, rules, depth, dir, spare - 1);
+        let Ok(()) = walked.answer else {
             return walked;
         };
         if !dir.split {
@@ -78,48 +76,51 @@ fn dir_walk(
         }
         next = dir.tail;
         spare = walked.left;
-        end = walked.at;
     }
 }
 
 // The slot walk: the line of each entry in id order, and behind a directory's line what is in it, one deeper.
 #[cycle(dir_walk_slot_walk)]
 fn slot_walk(
+    text: &mut Text,
     g: Geometry,
     vol: &[u8],
-    rules: u32,
+    rules: Rules,
     depth: u32,
     dir: Dir,
     left: u32,
-    at: u32,
-    out: &mut [u8],
 ) -> Walked
     requires { (volume_fits g vol.now ≡ true) × (Stands g vol.now dir) × (depth ≤ 32) }
-    ensures { SlotWalks g vol.now rules depth dir left at out.old result out.new }
+    ensures { SlotWalks g vol.now rules depth dir left text.old result text.new }
 {
     let b = volume::block(g, vol, dir.block);
     let mut spare = left;
-    let mut end = at;
-    let mut id: u32 = 0;
-    while id < dir.count {
+    for id in 0..dir.count {
         let entry = tree_pair::entry_of(b, dir.end, dir.etag, id);
-        end = tree_pair::entry_line(out, end, b, depth, entry);
+        tree_pair::entry_line(text, b, depth, entry);
         if let Entry::Dir(_, pair) = entry {
-            let walked = dir_walk(g, vol, rules, depth + 1, pair, spare, end, out);
-            let answer = walked.answer;
-            let Ok(()) = answer else {
+            let walked = dir_walk(text, g, vol, rules, depth + 1, pair, spare);
+            let Ok(()) = walked.answer else {
                 return walked;
             };
             spare = walked.left;
-            end = walked.at;
         }
-        id += 1;
     }
     Walked {
         answer: Ok(()),
         left: spare,
-        at: end,
     }
+}
+
+// Whether a tree may be asked for, and by which rule: "any other -22".
+#[tactic(auto, unfolding(format::specs::Tree::tree_fits))]
+fn asked(g: Geometry, vol: &[u8], rules: u32, allowance: u32) -> Result<Rules, Refusal>
+    ensures { result ≡ cond (tree_fits g vol.now rules allowance) (Ok (rules_of rules)) (Err Invalid) }
+{
+    if !volume::volume_fits(g, vol) | (MOST_PAIRS < allowance) {
+        return Err(Refusal::Invalid);
+    }
+    Rules::try_from(rules)
 }
 
 // The tree of a volume, as far as `out` has room. Any geometry, volume, numbers, rule and allowance; the rule by which
@@ -138,16 +139,19 @@ pub fn lfs_dir_tree(
     ensures out_after { out.new ≡ written_to out.old
         (tree_text g vol.now n0 n1 rules allowance) }
 {
-    if !(volume::volume_fits(g, vol) & (rules <= 1) & (allowance <= MOST_PAIRS)) {
-        return Written {
-            answer: Err(Refusal::Invalid),
-            length: 0,
-        };
-    }
-    let walked = dir_walk(g, vol, rules, 0, LfsPair { n0, n1 }, allowance, 0, out);
-    let answer = walked.answer;
+    let rules = match asked(g, vol, rules, allowance) {
+        Err(r) => {
+            return Written {
+                answer: Err(r),
+                length: 0,
+            };
+        }
+        Ok(rules) => rules,
+    };
+    let mut text = Text::new(out);
+    let walked = dir_walk(&mut text, g, vol, rules, 0, LfsPair { n0, n1 }, allowance);
     Written {
-        answer,
-        length: walked.at,
+        answer: walked.answer,
+        length: text.len(),
     }
 }

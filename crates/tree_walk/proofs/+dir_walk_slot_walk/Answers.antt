@@ -8,72 +8,70 @@ use Rattle.tree_walk.proofs.+dir_walk_slot_walk.Goals.{slot_walk-in-Dir+in-Ok, s
 
 pub dir_walk-returns-then-depth-gt-DEEPEST : goal.dir_walk-returns-then-depth-gt-DEEPEST
 dir_walk-returns-then-depth-gt-DEEPEST t c =
-    dirs.dir_deep _ _ _ _ _ _ c.if-depth-gt-DEEPEST.true _ c.stopped.ensures
+    dirs.dir_deep _ _ _ _ _ c.if-depth-gt-DEEPEST.true _ c.stopped.ensures
 
 pub dir_walk-loop-spare-init : goal.dir_walk-loop-spare-init
-dir_walk-loop-spare-init t c = (omega arith, dirs.begins _ _ _ _ _ _)
+dir_walk-loop-spare-init t c = (omega arith, dirs.begins _ _ _ _ c.args.text.now)
 
 pub dir_walk-returns-then-spare-eq0 : goal.dir_walk-returns-then-spare-eq0
 dir_walk-returns-then-spare-eq0 t c =
-    dirs.dir_spent _ _ _ _ _ _ c.if-depth-gt-DEEPEST.false _ _ _ _ c.loop-spare.invariant.0 c.loop-spare.invariant.1
+    dirs.dir_spent _ _ _ _ _ c.if-depth-gt-DEEPEST.false _ _ _ c.loop-spare.invariant.0 c.loop-spare.invariant.1
     c.if-spare-eq0.true _ c.stopped-then-spare-eq0.ensures
 
 pub dir_walk-returns-in-Err : goal.dir_walk-returns-in-Err
 dir_walk-returns-in-Err t c =
-    dirs.dir_refused _ _ _ _ _ _ c.if-depth-gt-DEEPEST.false _ _ _ _ c.loop-spare.invariant.0
+    dirs.dir_refused _ _ _ _ _ c.if-depth-gt-DEEPEST.false _ _ _ c.loop-spare.invariant.0
     c.loop-spare.invariant.1 c.if-spare-eq0.false _ (dirs.at_refused _ _ _ _ c.open_in.ensures _ c.in-Err.is) _
     c.stopped-in-Err.ensures
 
 pub dir_walk-returns-in_default : goal.dir_walk-returns-in_default
 dir_walk-returns-in_default t c =
-    dirs.dir_stops _ _ _ _ _ _ c.if-depth-gt-DEEPEST.false _ _ _ _ c.loop-spare.invariant.0
-    c.loop-spare.invariant.1 c.if-spare-eq0.false _ _ (dirs.at_dir _ _ _ _ c.open_in.ensures _ c.in-Some.is).0 _ _
+    dirs.dir_stops _ _ _ _ _ c.if-depth-gt-DEEPEST.false _ _ _ c.loop-spare.invariant.0
+    c.loop-spare.invariant.1 c.if-spare-eq0.false _ _ (dirs.at_dir _ _ _ _ c.open_in.ensures _ c.in-Ok.is).0 _ _
     c.slot_walk-walked.ensures _ c.in_default.is
 
 pub dir_walk-returns-then-not-dir : goal.dir_walk-returns-then-not-dir
 dir_walk-returns-then-not-dir t c =
-    dirs.dir_ends _ _ _ _ _ _ c.if-depth-gt-DEEPEST.false _ _ _ _ c.loop-spare.invariant.0
-    c.loop-spare.invariant.1 c.if-spare-eq0.false _ _ (dirs.at_dir _ _ _ _ c.open_in.ensures _ c.in-Some.is).0 _ _
-    c.slot_walk-walked.ensures c.in-Ok.is (dirs.no_tail_lem c.in-Some.dir c.if-not-dir.true)
+    dirs.dir_ends _ _ _ _ _ c.if-depth-gt-DEEPEST.false _ _ _ c.loop-spare.invariant.0
+    c.loop-spare.invariant.1 c.if-spare-eq0.false _ _ (dirs.at_dir _ _ _ _ c.open_in.ensures _ c.in-Ok.is).0 _ _
+    c.slot_walk-walked.ensures c.in-Ok-answer.is (dirs.no_tail_lem c.in-Ok.dir c.if-not-dir.true)
 
 pub dir_walk-loop-spare-preserved : goal.dir_walk-loop-spare-preserved
 dir_walk-loop-spare-preserved t c = (
   omega (arith, c.slot_walk-walked.ensures.low, c.loop-spare.invariant.0),
-  dirs.dir_goes_on _ _ _ _ _ _ c.if-depth-gt-DEEPEST.false _ _ _ _ c.loop-spare.invariant.0
-      c.loop-spare.invariant.1 c.if-spare-eq0.false _ _ (dirs.at_dir _ _ _ _ c.open_in.ensures _ c.in-Some.is).0 _ _
-      c.slot_walk-walked.ensures c.in-Ok.is _ (dirs.hard_tail_lem c.in-Some.dir c.if-not-dir.false),
+  dirs.dir_goes_on _ _ _ _ c.args.text.now c.if-depth-gt-DEEPEST.false _ _ _ c.loop-spare.invariant.0
+      c.loop-spare.invariant.1 c.if-spare-eq0.false _ _ (dirs.at_dir _ _ _ _ c.open_in.ensures _ c.in-Ok.is).0 _ _
+      c.slot_walk-walked.ensures c.in-Ok-answer.is _ (dirs.hard_tail_lem c.in-Ok.dir c.if-not-dir.false),
 )
 
 pub slot_walk-returns-in_default-answer : goal.slot_walk-returns-in_default-answer
 slot_walk-returns-in_default-answer t c =
-    let a = c.args in
-    slots.slot_stops _ _ a.rules a.depth _ a.left a.at _ _ c.requires.1 c.block-b.ensures _ _ _ _
+    slots.slot_stops _ _ c.args.rules c.args.depth _ c.args.left _ _ c.requires.1 c.block-b.ensures _ _ _
     c.loop-id-test.true c.loop-id.invariant.0 c.loop-id.invariant.1 c.entry_of-entry.result c.entry_of-entry.ensures
-    _ _ c.entry_line-end.ensures _ _ c.in-Dir.is _ _ c.dir_walk-walked.ensures _ c.in_default-answer.is
+    _ c.entry_line.ensures _ _ c.in-Dir.is _ _ c.dir_walk-walked.ensures _ c.in_default-answer.is
 
 pub slot_walk-loop-id-preserved : goal.slot_walk-loop-id-preserved
 slot_walk-loop-id-preserved t c =
     let a = c.args in
     elim c.match-entry.branch [
       | slot_walk-in-Dir+in-Ok w ↦
-          slots.kept_by _ _ a.rules a.depth a.dir a.left a.at _ _ _ _ _ _ _ _ _ w.out-is w.spare-is w.end-is (
+          slots.kept_by _ _ a.rules a.depth a.dir a.left a.text.now _ _ _ _ _ _ w.text-is w.spare-is (
             omega (arith, w.dir_walk-walked.ensures.low, c.loop-id.invariant.0),
-            slots.slot_goes_on _ _ a.rules a.depth _ a.left a.at _ _ c.requires.1 c.block-b.ensures _ _ _ _
+            slots.slot_goes_on _ _ a.rules a.depth _ a.left a.text.now _ c.requires.1 c.block-b.ensures _ _ _
                 c.loop-id-test.true c.loop-id.invariant.0 c.loop-id.invariant.1 c.entry_of-entry.result
-                c.entry_of-entry.ensures _ _ c.entry_line-end.ensures _ _ w.in-Dir.is _ _ w.dir_walk-walked.ensures
+                c.entry_of-entry.ensures _ c.entry_line.ensures _ _ w.in-Dir.is _ _ w.dir_walk-walked.ensures
                 w.in-Ok.is,
           )
       | slot_walk-in_default w ↦
-          slots.kept_by _ _ a.rules a.depth a.dir a.left a.at _ _ _ _ _ _ _ _ _ w.out-is w.spare-is w.end-is (
+          slots.kept_by _ _ a.rules a.depth a.dir a.left a.text.now _ _ _ _ _ _ w.text-is w.spare-is (
             c.loop-id.invariant.0,
-            slots.slot_plain _ _ a.rules a.depth _ a.left a.at _ _ c.requires.1 c.block-b.ensures _ _ _ _
+            slots.slot_plain _ _ a.rules a.depth _ a.left a.text.now _ c.requires.1 c.block-b.ensures _ _ _
                 c.loop-id-test.true c.loop-id.invariant.0 c.loop-id.invariant.1 c.entry_of-entry.result
-                c.entry_of-entry.ensures _ _ c.entry_line-end.ensures w.in_default.not-Dir,
+                c.entry_of-entry.ensures _ c.entry_line.ensures w.in_default.not-Dir,
           )
     ]
 
 pub slot_walk-returns : goal.slot_walk-returns
 slot_walk-returns t c =
-    let a = c.args in
-    slots.slots_end _ _ a.rules a.depth _ a.left a.at _ _ c.requires.1 c.block-b.ensures _ _ _ _
+    slots.slots_end _ _ c.args.rules c.args.depth _ c.args.left _ _ c.requires.1 c.block-b.ensures _ _ _
     c.loop-id-test.false c.loop-id.invariant.0 c.loop-id.invariant.1

@@ -1,6 +1,6 @@
 -- What falls is the allowance, and of one allowance the slot walk is above the directory walk; what the two loops keep
 -- is in `Dirs` and `Slots`. Assumes nothing.
-use Rattle.std.proofs.Common.{◌≤◌, ◌*◌, ◌+◌, ◌-◌}
+use Rattle.std.proofs.Common.{◌≤◌, ◌*◌, ◌+◌}
 use Rattle.tree_walk.specs.Walks.{pairs}
 use Rattle.tree_walk.proofs.Dirs as dirs
 use Rattle.tree_walk.proofs.Slots as slots
@@ -15,14 +15,11 @@ decreases-slot_walk l = 2 * l.left + 1
 abbrev pub invariant-dir_walk-loop-spare : goal.invariant-dir_walk-loop-spare
 invariant-dir_walk-loop-spare l =
     (l.spare ≤ l.left)
-    × dirs.Reached (pairs l.g l.vol l.rules) l.depth l.initial.next l.left l.at l.initial.out l.next l.spare l.end l.out
+    × dirs.Reached (pairs l.g l.vol l.rules) l.depth l.initial.next l.left l.initial.text l.next l.spare l.text
 
 abbrev pub decreases-dir_walk-loop-spare : goal.decreases-dir_walk-loop-spare
 decreases-dir_walk-loop-spare l = l.spare
 
 abbrev pub invariant-slot_walk-loop-id : goal.invariant-slot_walk-loop-id
 invariant-slot_walk-loop-id l =
-    slots.Kept l.g l.vol l.rules l.depth l.dir l.left l.at l.initial.out l.b l.id l.spare l.end l.out
-
-abbrev pub decreases-slot_walk-loop-id : goal.decreases-slot_walk-loop-id
-decreases-slot_walk-loop-id l = l.dir.count - l.id
+    slots.Kept l.g l.vol l.rules l.depth l.dir l.left l.initial.text l.b l.id l.spare l.text
