@@ -46,16 +46,16 @@ fetched_listing = refl
 
 -- the blocks given the other way round: the record's pair begins with the block that answered
 pub fetched_second : fetch_of geometry (blank 128) listing 7 5 8 0 ≡ Ok (fetched (record {
-      pair = record { n0 = 5; n1 = 7 };
-      rev = 1;
-      off = 48;
-      etag = 0x500f_fc0d;
-      count = 1;
-      erased = false;
-      split = false;
-      tail = record { n0 = all_ones; n1 = all_ones };
-      fcrc = no_forward;
-    }) 0x1ec4_df69)
+  pair = record { n0 = 5; n1 = 7 };
+  rev = 1;
+  off = 48;
+  etag = 0x500f_fc0d;
+  count = 1;
+  erased = false;
+  split = false;
+  tail = record { n0 = all_ones; n1 = all_ones };
+  fcrc = no_forward;
+}) 0x1ec4_df69)
 unfolding fetch_of geometry_fits pair_fits too_high view rank log committed walk walk_from walk_in class_of read_behind
     body_length tag_flipped be32 le32 to_le32 xor tag_length crc crc_byte crc_bits crc_bit mdir_of erased_of stopped_straight span
     event_length tag_after counted count_of tail_of split_of forward_of seed_of

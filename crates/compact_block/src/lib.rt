@@ -101,9 +101,7 @@ fn rewrite(
     if commit_room::coincides(erased, e.sum, tag ^ e.prev) {
         return Err(Refusal::Coincidence);
     }
-    Ok(write(
-        erased, prog, old, new, dir, rev, tag, stores, places,
-    ))
+    Ok(write(erased, prog, old, new, dir, rev, tag, stores, places))
 }
 
 // The same of a log that must be regular by the rule. The table is working memory: the log is indexed in it, so that

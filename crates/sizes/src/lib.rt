@@ -85,7 +85,11 @@ impl<'a> Pair<'a> {
     pub fn block_of(self, dir: LfsMdir) -> &'a [u8]
         ensures { result.now ≡ block_of self.entry.b0.now self.entry.b1.now self.entry.n0 dir }
     {
-        if dir.pair.n0 == self.n0 { self.b0 } else { self.b1 }
+        if dir.pair.n0 == self.n0 {
+            self.b0
+        } else {
+            self.b1
+        }
     }
 }
 

@@ -27,7 +27,9 @@ use Rattle.lookup.proofs.Moves.{tag_made}
 use Rattle.tree_theory.specs.Nodes.{padded_word, eight_bytes, read_found, node_both}
 use Rattle.tree_theory.specs.OnBlock.{newest_hit, named_hit, struct_hit, slot_at, end_inside, hit_inside}
 use Rattle.tree_theory.specs.OnBlock.{newest_held, struct_held, named_newest}
-use Rattle.tree_pair.specs.Pair.{Slotted, load_at, Sees, NameSeen, node_at, Shows}
+use Rattle.tree_pair.specs.Pair.{Slotted, load_at, Sees, NameSeen, node_at, Shows, EntryIs}
+use Rattle.tree_pair.specs.declared.Entry.{Entry}
+use Rattle.format.specs.Tree as tree
 use Rattle.std.specs.Prelude.{None, Option, Some}
 
 pub hidden_is : (t k : ℕ) → k ≡ tag_type3 t → leb 0x080 k && ltb k 0x100 ≡ hidden (tag_type3 t)
@@ -39,6 +41,10 @@ found_held : (b : List ℕ) (h : Option Found) (v : Load) → holds_as (bytes_of
 unfolding holds_as
 found_held b None v q = absurd (let z : ◌≡◌ {A = ℕ} 0 1 = cc in omega arith)
 found_held b (Some e) v q = (e, refl)
+
+-- a slot with no entry shows nothing
+pub no_entry : (b : List ℕ) (nodes : List tree.Node) (r : Option Entry) → r ≡ None → nodes ≡ [] → EntryIs b nodes r
+no_entry b nodes r e h = rw e h
 
 -- an entry without a name that is seen, or without a struct
 no_name : (b : List ℕ) (h1 : Option Found) (v w : Option Load) → node_of (info_of b 255 None h1) v w ≡ []

@@ -7,7 +7,7 @@ use native.Mathlib.Omega.{arith}
 use Rattle.format.specs.Log.{log}
 use Rattle.format.specs.Regular.{Regular}
 use Rattle.format.specs.Volume.{blocks_in, block_in, fetch_in}
-use Rattle.format.specs.Tree.{refused, open_in}
+use Rattle.format.specs.Tree.{hard_tail, refused, open_in}
 use Rattle.format.specs.declared.Geometry.{Geometry}
 use Rattle.format.specs.declared.LfsPair.{LfsPair}
 use Rattle.format.specs.declared.LfsMdir.{LfsMdir}
@@ -21,7 +21,9 @@ use Rattle.commit_regular.specs.Ends.{CommittedTo}
 use Rattle.tree_theory.specs.InVolume.{there, number_inside, on_block, nodes_there}
 use Rattle.tree_pair.specs.Pair.{Opens}
 use Rattle.tree_pair.specs.declared.Dir.{Dir}
-use Rattle.std.specs.Prelude.{Err, Ok}
+use Rattle.std.specs.Prelude.{Err, Ok, Some, None, cond}
+use Rattle.std.specs.Bool.{then_some}
+use Rattle.std.proofs.Common.{refl}
 use Rattle.format.specs.Record.{fetched}
 
 module _ (g : Geometry) (vol : List ℕ) (q : Rules) (p : LfsPair) where
@@ -57,8 +59,7 @@ module _ (g : Geometry) (vol : List ℕ) (q : Rules) (p : LfsPair) where
           end = m.off;
           etag = m.etag;
           count = m.count;
-          split = m.split;
-          tail = m.tail;
+          tail = hard_tail m;
         }
 
         pub open_regular : x ≡ true → Opens g vol (open_in q g vol p) (Ok dir)
@@ -73,3 +74,11 @@ module _ (g : Geometry) (vol : List ℕ) (q : Rules) (p : LfsPair) where
                 count' = (there g vol p m s (sym f)).count' ∙ slots_counted (block_in g vol m.pair.n0) wide;
               },
             )
+
+-- the tail as the library makes it of the mark
+pub tail_kept : (m : LfsMdir) → then_some m.split m.tail ≡ hard_tail m
+tail_kept m = go m.split
+  where
+    go : (b : Bool) → then_some b m.tail ≡ cond b (Some m.tail) None
+    go true = refl
+    go false = refl

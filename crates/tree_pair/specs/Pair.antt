@@ -36,7 +36,7 @@ pub record Stands (g : Geometry) (vol : List ℕ) (d : Dir) : Type 0 where
   pub count' : d.count ≡ length (dir_of (log (block_in g vol d.block)))
 
 abbrev pub dir_tail : Dir → Option LfsPair
-dir_tail d = cond d.split (Some d.tail) None
+dir_tail d = d.tail
 
 abbrev pub dir_nodes : Geometry → List ℕ → Dir → List tree.Node
 dir_nodes g vol d = nodes_at (block_in g vol d.block) d.end d.etag
@@ -71,18 +71,16 @@ pub record Shows (b : List ℕ) (e : Found) (size : ℕ) (into : Option LfsPair)
   pub inside : FoundIn (length b) e
   pub is : nodes ≡ record { name = load_at b e; size = size; into = into } ∷ []
 
-abbrev pub EntryIs : List ℕ → List tree.Node → Entry → Type 0
-EntryIs b nodes entry.Nothing = nodes ≡ []
-EntryIs b nodes (entry.File e size) = Shows b e size None nodes
-EntryIs b nodes (entry.Dir e p) = Shows b e 0 (Some p) nodes
+abbrev pub EntryIs : List ℕ → List tree.Node → Option Entry → Type 0
+EntryIs b nodes None = nodes ≡ []
+EntryIs b nodes (Some (entry.File e size)) = Shows b e size None nodes
+EntryIs b nodes (Some (entry.Dir e p)) = Shows b e 0 (Some p) nodes
 
 -- its name stands in the block, and its line
 abbrev pub EntryIn : ℕ → Entry → Type 0
-EntryIn n entry.Nothing = Unit {0}
 EntryIn n (entry.File e size) = FoundIn n e
 EntryIn n (entry.Dir e p) = FoundIn n e
 
 abbrev pub entry_text : List ℕ → ℕ → Entry → List ℕ
-entry_text b depth entry.Nothing = []
 entry_text b depth (entry.File e size) = line_text (line_of depth (load_at b e) size)
 entry_text b depth (entry.Dir e p) = line_text (line_of depth (load_at b e) 0)

@@ -3,9 +3,8 @@
 // repository.
 #![tactic(auto)]
 
-ghost use Rattle.std.specs.Prelude.{◌≡◌, true, length};
+ghost use Rattle.std.specs.Prelude.{◌≡◌, length};
 ghost use Rattle.format.specs.Look.{FoundIn};
-ghost use Rattle.format.specs.Volume.{volume_fits};
 ghost use Rattle.format.specs.Tree.{open_in, line_text};
 ghost use Rattle.format.specs.TreeMachine.{hidden};
 ghost use Rattle.format.specs.Tag.{tag_type3};
@@ -15,27 +14,26 @@ ghost use Rattle.tree_pair.specs.Pair.{Opens, Slotted, NameSeen, node_at, EntryI
 ghost use Rattle.tree_pair.specs.Pair.{entry_text};
 
 use format::types::*;
-use format::{Found, Geometry, LfsPair, Refusal, Rules};
+use format::{Found, LfsPair, Refusal, Rules};
 use text::Text;
+use volume::Volume;
 
-// A pair that was opened: its block that answers, where the log ends, how many slots it has, and its tail.
+// A pair that was opened: its block that answers, where the log ends, how many slots it has, and its hard tail, if it
+// has one.
 #[derive(Clone, Copy)]
 pub struct Dir {
     pub block: u32,
     pub end: u32,
     pub etag: u32,
     pub count: u32,
-    pub split: bool,
-    pub tail: LfsPair,
+    pub tail: Option<LfsPair>,
 }
 
-// The entry of a slot: its name, and a file's size or the pair that a directory begins at. Nothing where
-// `lfs_dir_getinfo` answers -2.
+// The entry of a slot: its name, and a file's size or the pair that a directory begins at.
 #[derive(Clone, Copy)]
 pub enum Entry {
     File(Found, u32),
     Dir(Found, LfsPair),
-    Nothing,
 }
 
 // A name or a struct, whatever its kind, of one slot.
@@ -45,12 +43,11 @@ const NEWEST: u32 = 0x700f_fc00;
 const SEEN: u32 = 0x780f_fc00;
 
 // "the fetch's own, -202": what stands at a pair.
-pub fn open_in(g: Geometry, vol: &[u8], rules: Rules, pair: LfsPair) -> Result<Dir, Refusal>
-    requires { volume_fits g vol.now ≡ true }
-    ensures { Opens g vol.now (open_in rules g vol.now pair) result }
+pub fn open_in(vol: Volume, rules: Rules, pair: LfsPair) -> Result<Dir, Refusal>
+    ensures { Opens vol.entry.g vol.entry.bytes.now (open_in rules vol.entry.g vol.entry.bytes.now pair) result }
 {
-    let m = volume::fetch_in(g, vol, pair)?.dir;
-    let b = volume::block(g, vol, m.pair.n0);
+    let m = vol.fetch(pair)?.dir;
+    let b = vol.block(m.pair.n0);
     if !commit_regular::log_regular(b, m.off as usize, rules) {
         return Err(Refusal::Irregular);
     }
@@ -59,8 +56,7 @@ pub fn open_in(g: Geometry, vol: &[u8], rules: Rules, pair: LfsPair) -> Result<D
         end: m.off,
         etag: m.etag,
         count: m.count as u32,
-        split: m.split,
-        tail: m.tail,
+        tail: m.split.then_some(m.tail),
     })
 }
 
@@ -88,30 +84,26 @@ fn name_seen(b: &[u8], end: u32, etag: u32, id: u32) -> Option<Found>
 }
 
 // The entry of a slot, from its name and its struct: a directory by its struct, "two block numbers, little-endian",
-// whatever the name's type.
-pub fn entry_of(b: &[u8], end: u32, etag: u32, id: u32) -> Entry
+// whatever the name's type. Nothing where `lfs_dir_getinfo` answers -2.
+pub fn entry_of(b: &[u8], end: u32, etag: u32, id: u32) -> Option<Entry>
     requires { Slotted b.now end etag id }
     ensures { EntryIs b.now (node_at b.now end etag id) result }
 {
-    let Some(name) = name_seen(b, end, etag, id) else {
-        return Entry::Nothing;
-    };
+    let name = name_seen(b, end, etag, id)?;
     let key = tag::lfs_mktag(LFS_TYPE_STRUCT as u32, id, 8);
-    let Some(content) = lookup_search::find_back(b, end, etag, NEWEST, key, 0) else {
-        return Entry::Nothing;
-    };
+    let content = lookup_search::find_back(b, end, etag, NEWEST, key, 0)?;
     let mut s = [0u8; 8];
     let _ = lookup_search::slice::read_at(b, content, 0, &mut s);
     if tag::lfs_tag_type3(content.tag) == LFS_TYPE_DIRSTRUCT {
-        return Entry::Dir(
+        return Some(Entry::Dir(
             name,
             LfsPair {
                 n0: word::within::le32(&s, 0),
                 n1: word::within::le32(&s, 4),
             },
-        );
+        ));
     }
-    Entry::File(name, lookup::info::size_of(content.tag, &s))
+    Some(Entry::File(name, lookup::info::size_of(content.tag, &s)))
 }
 
 // A line: "depth, type, name as the listing prints it, and `lfs_dir_getinfo`'s size". It shows no pair.
@@ -125,7 +117,7 @@ fn line(text: &mut Text, b: &[u8], depth: u32, name: Found, size: u32)
     text.number_line(b" ", size);
 }
 
-// The line of an entry; nothing where there is none. A directory's size is 0.
+// The line of an entry. A directory's size is 0.
 #[tactic(auto, unfolding(text::specs::Put::puts_of))]
 pub fn entry_line(text: &mut Text, b: &[u8], depth: u32, entry: Entry)
     requires { EntryIn (length b.now) entry }
@@ -134,6 +126,5 @@ pub fn entry_line(text: &mut Text, b: &[u8], depth: u32, entry: Entry)
     match entry {
         Entry::File(name, size) => line(text, b, depth, name, size),
         Entry::Dir(name, _) => line(text, b, depth, name, 0),
-        Entry::Nothing => {}
     }
 }

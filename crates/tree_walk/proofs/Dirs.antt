@@ -161,10 +161,3 @@ module _ (g : Geometry) (vol : List ℕ) (o : Opened) (x : Result Dir Refusal) (
 
   pub at_dir : (d : Dir) → x ≡ Ok d → (o ≡ holding (dir_nodes g vol d) (dir_tail d)) × Stands g vol d
   at_dir d q = rw q at opens
-
--- its tail is followed if it is a hard one
-pub no_tail_lem : (d : Dir) → not d.split ≡ true → dir_tail d ≡ None
-no_tail_lem d h = rw (not-true d.split h)
-
-pub hard_tail_lem : (d : Dir) → not d.split ≡ false → dir_tail d ≡ Some d.tail
-hard_tail_lem d h = rw (not-false d.split h)

@@ -27,13 +27,16 @@ use Rattle.tree_pair.specs.declared.Entry.TheVariants as entry
 use Rattle.tree_walk.specs.declared.Walked.{Walked}
 use Rattle.tree_walk.specs.Walks.{Outcome, comes, outcome, pairs, Walks, DirWalks}
 use Rattle.tree_walk.proofs.Outcomes.{onward, stays, moves, comes_ended, comes_entry}
-use Rattle.std.specs.Prelude.{Err, Ok, None, Some}
+use Rattle.std.specs.Prelude.{Err, Ok, None, Some, Option}
 
 -- an entry's name stands in the block
-pub entry_in : (b : List ℕ) (ns : List Node) (e : Entry) → EntryIs b ns e → EntryIn (length b) e
-entry_in b ns entry.Nothing h = tt
-entry_in b ns (entry.File name size) h = h.inside
-entry_in b ns (entry.Dir name p) h = h.inside
+pub entry_in : (b : List ℕ) (ns : List Node) (r : Option Entry) (e : Entry) → EntryIs b ns r → r ≡ Some e
+    → EntryIn (length b) e
+entry_in b ns r e h q = named e (rw q at h)
+  where
+    named : (x : Entry) → EntryIs b ns (Some x) → EntryIn (length b) x
+    named (entry.File name size) k = k.inside
+    named (entry.Dir name p) k = k.inside
 
 -- ---- the block b of a pair that was opened
 module _ (g : Geometry) (vol : List ℕ) (d : Dir) (b : List ℕ) (stands : Stands g vol d)
@@ -88,13 +91,9 @@ module _ (g : Geometry) (vol : List ℕ) (rules : Rules) (depth : ℕ) (d : Dir)
           (state_of u) spare);
     }
 
-    -- ---- a turn: e is the entry of the slot id, and its line is put
+    -- ---- a turn: r is what the slot id has
     module _ (id spare : ℕ) (u : Text) (more : id < d.count) (low : spare ≤ left0)
-        (reached : Reached id spare u) (e : Entry) (is : EntryIs b (node_at b d.end d.etag id) e)
-        (u1 : Text) (line : Puts u u1 (entry_text b depth e)) where
-      same : u1.out.ghost_name ≡ s0.out.ghost_name
-      same = line.buffer ∙ reached.0
-
+        (reached : Reached id spare u) (r : Option Entry) (has : EntryIs b (node_at b d.end d.etag id) r) where
       rest_next : rest id ≡ node_at b d.end d.etag id ++ rest (id + 1)
       unfolding nodes_from
       rest_next = rw (add-one id)
@@ -108,49 +107,60 @@ module _ (g : Geometry) (vol : List ℕ) (rules : Rules) (depth : ℕ) (d : Dir)
       next_is ns q n h = reached.1 n h ∙ ap (λ (l : List Node). comes (state_of u) (walked n l spare))
           (rest_next ∙ ap (λ (l : List Node). l ++ rest (id + 1)) q)
 
-      pub slot_plain : ((name : Found) (p : LfsPair) → e ≡ entry.Dir name p → ⊥) → Reached (id + 1) spare u1
-      slot_plain h = (same, λ n k. go n k e h is line.behind)
-        where
-          go : (n : ℕ) → left0 < n → (x : Entry) → ((name : Found) (p : LfsPair) → x ≡ entry.Dir name p → ⊥) → EntryIs b (node_at b d.end d.etag id) x
-              → state_of u1 ≡ puts_of (state_of u) (entry_text b depth x)
-              → comes (state_of s0) (walked n (dir_nodes g vol d) left0)
-              ≡ comes (state_of u1) (walked n (rest (id + 1)) spare)
-          go n k entry.Nothing t q l = next_is [] q n k
-              ∙ ap (λ (s : State). comes s (walked n (rest (id + 1)) spare)) (sym (puts_nothing (state_of u)) ∙ sym l)
-          go n k (entry.File name size) t q l =
-              let node : Node = record { name = load_at b name; size = size; into = None } in
-              next_is (node ∷ []) q.is n k
+      -- no entry
+      pub slot_nothing : r ≡ None → Reached (id + 1) spare u
+      slot_nothing q = (reached.0, λ n k. next_is [] (rw q at has) n k)
+
+      -- an entry, and its line is put
+      module _ (e : Entry) (there : r ≡ Some e) (u1 : Text) (line : Puts u u1 (entry_text b depth e)) where
+        is : EntryIs b (node_at b d.end d.etag id) (Some e)
+        is = rw there at has
+
+        same : u1.out.ghost_name ≡ s0.out.ghost_name
+        same = line.buffer ∙ reached.0
+
+        pub slot_plain : ((name : Found) (p : LfsPair) → e ≡ entry.Dir name p → ⊥) → Reached (id + 1) spare u1
+        slot_plain h = (same, λ n k. go n k e h is line.behind)
+          where
+            go : (n : ℕ) → left0 < n → (x : Entry) → ((name : Found) (p : LfsPair) → x ≡ entry.Dir name p → ⊥)
+                → EntryIs b (node_at b d.end d.etag id) (Some x)
+                → state_of u1 ≡ puts_of (state_of u) (entry_text b depth x)
+                → comes (state_of s0) (walked n (dir_nodes g vol d) left0)
+                ≡ comes (state_of u1) (walked n (rest (id + 1)) spare)
+            go n k (entry.File name size) t q l =
+                let node : Node = record { name = load_at b name; size = size; into = None } in
+                next_is (node ∷ []) q.is n k
+                ∙ comes_entry (state_of u) (dir_walk n (pairs g vol rules) (suc depth)) depth node (rest (id + 1)) spare
+                ∙ ap (λ (o : Outcome). onward o (walked n (rest (id + 1))))
+                (comes_ended (puts_of (state_of u) (line_text (line_of depth (load_at b name) size))) spare)
+                ∙ ap (λ (s : State). comes s (walked n (rest (id + 1)) spare)) (sym l)
+            go n k (entry.Dir name p) t q l = absurd (t name p refl)
+
+        -- a directory, and what walking it came to
+        module _ (name : Found) (p : LfsPair) (q : e ≡ entry.Dir name p) (w : Walked) (o : Text)
+            (went : DirWalks g vol rules (depth + 1) p spare u1 w o) where
+          within : (n : ℕ) → left0 < n → comes (state_of s0) (walked n (dir_nodes g vol d) left0)
+              ≡ onward (outcome w o) (walked n (rest (id + 1)))
+          unfolding line_text
+          within n k =
+              let node : Node = record { name = load_at b name; size = 0; into = Some p } in
+              let shown = subst (λ (x : Entry). EntryIs b (node_at b d.end d.etag id) (Some x)) q is in
+              let l : state_of u1 ≡ puts_of (state_of u) (line_text (line_of depth (load_at b name) 0))
+              = line.behind ∙ ap (λ (x : Entry). puts_of (state_of u) (entry_text b depth x)) q in
+              next_is (node ∷ []) shown.is n k
               ∙ comes_entry (state_of u) (dir_walk n (pairs g vol rules) (suc depth)) depth node (rest (id + 1)) spare
-              ∙ ap (λ (o : Outcome). onward o (walked n (rest (id + 1))))
-              (comes_ended (puts_of (state_of u) (line_text (line_of depth (load_at b name) size))) spare)
-              ∙ ap (λ (s : State). comes s (walked n (rest (id + 1)) spare)) (sym l)
-          go n k (entry.Dir name p) t q l = absurd (t name p refl)
+              ∙ ap (λ (s : State). onward (comes s (dir_walk n (pairs g vol rules) (suc depth) p spare))
+              (walked n (rest (id + 1)))) (sym l)
+              ∙ ap (λ (x : ℕ). onward (comes (state_of u1) (dir_walk n (pairs g vol rules) x p spare))
+              (walked n (rest (id + 1)))) (sym (add-one depth))
+              ∙ ap (λ (x : Outcome). onward x (walked n (rest (id + 1)))) (sym (went.is n (omega arith)))
 
-      -- a directory, and what walking it came to
-      module _ (name : Found) (p : LfsPair) (q : e ≡ entry.Dir name p) (w : Walked) (o : Text)
-          (went : DirWalks g vol rules (depth + 1) p spare u1 w o) where
-        within : (n : ℕ) → left0 < n → comes (state_of s0) (walked n (dir_nodes g vol d) left0)
-            ≡ onward (outcome w o) (walked n (rest (id + 1)))
-        unfolding line_text
-        within n k =
-            let node : Node = record { name = load_at b name; size = 0; into = Some p } in
-            let shown = subst (EntryIs b (node_at b d.end d.etag id)) q is in
-            let l : state_of u1 ≡ puts_of (state_of u) (line_text (line_of depth (load_at b name) 0))
-            = line.behind ∙ ap (λ (x : Entry). puts_of (state_of u) (entry_text b depth x)) q in
-            next_is (node ∷ []) shown.is n k
-            ∙ comes_entry (state_of u) (dir_walk n (pairs g vol rules) (suc depth)) depth node (rest (id + 1)) spare
-            ∙ ap (λ (s : State). onward (comes s (dir_walk n (pairs g vol rules) (suc depth) p spare))
-            (walked n (rest (id + 1)))) (sym l)
-            ∙ ap (λ (x : ℕ). onward (comes (state_of u1) (dir_walk n (pairs g vol rules) x p spare))
-            (walked n (rest (id + 1)))) (sym (add-one depth))
-            ∙ ap (λ (x : Outcome). onward x (walked n (rest (id + 1)))) (sym (went.is n (omega arith)))
+          pub slot_stops : (r : Refusal) → w.answer ≡ Err r → Comes w o
+          slot_stops r x = record {
+            low = omega (arith, went.low);
+            buffer = went.buffer ∙ same;
+            is = λ n h. sym (within n h ∙ stays w.answer r x (outcome w o) _);
+          }
 
-        pub slot_stops : (r : Refusal) → w.answer ≡ Err r → Comes w o
-        slot_stops r x = record {
-          low = omega (arith, went.low);
-          buffer = went.buffer ∙ same;
-          is = λ n h. sym (within n h ∙ stays w.answer r x (outcome w o) _);
-        }
-
-        pub slot_goes_on : w.answer ≡ (Ok tt) → Reached (id + 1) w.left o
-        slot_goes_on x = (went.buffer ∙ same, λ n h. within n h ∙ moves w.answer x (outcome w o) _)
+          pub slot_goes_on : w.answer ≡ (Ok tt) → Reached (id + 1) w.left o
+          slot_goes_on x = (went.buffer ∙ same, λ n h. within n h ∙ moves w.answer x (outcome w o) _)

@@ -1,11 +1,14 @@
 -- What the two functions of the walk leave: the text with the walk's lines, what is left of the allowance, and whether
 -- it went to its end. Assumes nothing.
-use Rattle.std.specs.Prelude.{◌≡◌, List, ℕ, suc, ◌≤◌, ◌<◌, Err, Result}
-use Rattle.format.specs.Tree.{Opened, Walk, lines_text, slot_walk, dir_walk, open_in}
+use Rattle.std.specs.Prelude.{◌≡◌, true, false, List, ℕ, suc, ◌≤◌, ◌<◌, Ok, Err, Result}
+use Rattle.format.specs.Regular.{rules_of}
+use Rattle.format.specs.Tree.{Opened, Walk, lines_text, slot_walk, dir_walk, open_in, tree_fits}
 use Rattle.format.specs.declared.Geometry.{Geometry}
 use Rattle.format.specs.declared.LfsPair.{LfsPair}
 use Rattle.format.specs.declared.Refusal.{Refusal}
+use Rattle.format.specs.declared.Refusal.TheVariants.{Invalid}
 use Rattle.format.specs.declared.Rules.{Rules}
+use Rattle.volume.specs.declared.Volume.{Volume}
 use Rattle.text.specs.declared.Text.{Text}
 use Rattle.text.specs.Put.{State, state_of, puts_of}
 use Rattle.tree_pair.specs.Pair.{dir_nodes}
@@ -45,3 +48,10 @@ DirWalks g vol rules depth p left = Walks (λ n. dir_walk n (pairs g vol rules) 
 abbrev pub SlotWalks : Geometry → List ℕ → Rules → ℕ → Dir → ℕ → Text → Walked → Text → Type 0
 SlotWalks g vol rules depth d left =
     Walks (λ n. slot_walk (dir_walk n (pairs g vol rules) (suc depth)) depth (dir_nodes g vol d) left) left
+
+-- what a tree is asked for: where the sizes, the rule and the allowance are ones that a call takes, the volume and the
+-- rule; "any other -22"
+abbrev pub Asks : Geometry → List ℕ → ℕ → ℕ → Result (Volume × Rules) Refusal → Type 0
+Asks g vol rules allowance (Ok (v, r)) =
+    (v.g ≡ g) × (v.bytes.now ≡ vol) × (r ≡ rules_of rules) × (tree_fits g vol rules allowance ≡ true)
+Asks g vol rules allowance (Err r) = (r ≡ Invalid) × (tree_fits g vol rules allowance ≡ false)

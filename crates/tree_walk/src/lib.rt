@@ -3,18 +3,16 @@
 // falls at each pair; the depth bounds how deep the two call each other, and so the stack.
 #![tactic(auto)]
 
-ghost use Rattle.std.specs.Prelude.{◌≡◌, true, cond, Err, Ok, ◌≤◌, length};
-ghost use Rattle.format.specs.Volume.{volume_fits};
-ghost use Rattle.format.specs.Regular.{rules_of};
+ghost use Rattle.std.specs.Prelude.{◌≡◌, ◌≤◌};
 ghost use Rattle.format.specs.Tree.{tree_fits, tree_of, tree_text};
 ghost use Rattle.format.specs.Listing.{written_to};
-ghost use Rattle.format.specs.declared.Refusal.TheVariants.{Invalid};
 ghost use Rattle.tree_pair.specs.Pair.{Stands};
-ghost use Rattle.tree_walk.specs.Walks.{stopped_at, DirWalks, SlotWalks};
+ghost use Rattle.tree_walk.specs.Walks.{stopped_at, DirWalks, SlotWalks, Asks};
 
 use format::{Geometry, LfsPair, Refusal, Rules, Written};
 use text::Text;
 use tree_pair::{Dir, Entry};
+use volume::Volume;
 
 // "a depth of at most 32, the given pair's being 0"
 const DEEPEST: u32 = 32;
@@ -44,15 +42,13 @@ fn stopped(r: Refusal, left: u32) -> Walked
 #[cycle(dir_walk_slot_walk)]
 fn dir_walk(
     text: &mut Text,
-    g: Geometry,
-    vol: &[u8],
+    vol: Volume,
     rules: Rules,
     depth: u32,
     pair: LfsPair,
     left: u32,
 ) -> Walked
-    requires { volume_fits g vol.now ≡ true }
-    ensures { DirWalks g vol.now rules depth pair left text.old result text.new }
+    ensures { DirWalks vol.entry.g vol.entry.bytes.now rules depth pair left text.old result text.new }
 {
     if DEEPEST < depth {
         return stopped(Refusal::TooDeep, left);
@@ -63,43 +59,37 @@ fn dir_walk(
         if spare == 0 {
             return stopped(Refusal::Spent, spare);
         }
-        let dir = match tree_pair::open_in(g, vol, rules, next) {
+        let dir = match tree_pair::open_in(vol, rules, next) {
             Err(r) => return stopped(r, spare - 1),
             Ok(dir) => dir,
         };
-        let walked = slot_walk(text, g, vol, rules, depth, dir, spare - 1);
+        let walked = slot_walk(text, vol, rules, depth, dir, spare - 1);
         let Ok(()) = walked.answer else {
             return walked;
         };
-        if !dir.split {
+        let Some(tail) = dir.tail else {
             return walked;
-        }
-        next = dir.tail;
+        };
+        next = tail;
         spare = walked.left;
     }
 }
 
 // The slot walk: the line of each entry in id order, and behind a directory's line what is in it, one deeper.
 #[cycle(dir_walk_slot_walk)]
-fn slot_walk(
-    text: &mut Text,
-    g: Geometry,
-    vol: &[u8],
-    rules: Rules,
-    depth: u32,
-    dir: Dir,
-    left: u32,
-) -> Walked
-    requires { (volume_fits g vol.now ≡ true) × (Stands g vol.now dir) × (depth ≤ 32) }
-    ensures { SlotWalks g vol.now rules depth dir left text.old result text.new }
+fn slot_walk(text: &mut Text, vol: Volume, rules: Rules, depth: u32, dir: Dir, left: u32) -> Walked
+    requires { Stands vol.g vol.bytes.now dir × (depth ≤ 32) }
+    ensures { SlotWalks vol.entry.g vol.entry.bytes.now rules depth dir left text.old result text.new }
 {
-    let b = volume::block(g, vol, dir.block);
+    let b = vol.block(dir.block);
     let mut spare = left;
     for id in 0..dir.count {
-        let entry = tree_pair::entry_of(b, dir.end, dir.etag, id);
+        let Some(entry) = tree_pair::entry_of(b, dir.end, dir.etag, id) else {
+            continue;
+        };
         tree_pair::entry_line(text, b, depth, entry);
         if let Entry::Dir(_, pair) = entry {
-            let walked = dir_walk(text, g, vol, rules, depth + 1, pair, spare);
+            let walked = dir_walk(text, vol, rules, depth + 1, pair, spare);
             let Ok(()) = walked.answer else {
                 return walked;
             };
@@ -112,15 +102,21 @@ fn slot_walk(
     }
 }
 
-// Whether a tree may be asked for, and by which rule: "any other -22".
+// What a tree is asked for: a volume that fits, and the rule; "any other -22".
 #[tactic(auto, unfolding(format::specs::Tree::tree_fits))]
-fn asked(g: Geometry, vol: &[u8], rules: u32, allowance: u32) -> Result<Rules, Refusal>
-    ensures { result ≡ cond (tree_fits g vol.now rules allowance) (Ok (rules_of rules)) (Err Invalid) }
+fn asked<'a>(
+    g: Geometry,
+    vol: &'a [u8],
+    rules: u32,
+    allowance: u32,
+) -> Result<(Volume<'a>, Rules), Refusal>
+    ensures { Asks g vol.now rules allowance result }
 {
-    if !volume::volume_fits(g, vol) | (MOST_PAIRS < allowance) {
+    let volume = Volume::new(g, vol)?;
+    if MOST_PAIRS < allowance {
         return Err(Refusal::Invalid);
     }
-    Rules::try_from(rules)
+    Ok((volume, Rules::try_from(rules)?))
 }
 
 // The tree of a volume, as far as `out` has room. Any geometry, volume, numbers, rule and allowance; the rule by which
@@ -139,17 +135,17 @@ pub fn lfs_dir_tree(
     ensures out_after { out.new ≡ written_to out.old
         (tree_text g vol.now n0 n1 rules allowance) }
 {
-    let rules = match asked(g, vol, rules, allowance) {
+    let (volume, rules) = match asked(g, vol, rules, allowance) {
         Err(r) => {
             return Written {
                 answer: Err(r),
                 length: 0,
             };
         }
-        Ok(rules) => rules,
+        Ok(asked) => asked,
     };
     let mut text = Text::new(out);
-    let walked = dir_walk(&mut text, g, vol, rules, 0, LfsPair { n0, n1 }, allowance);
+    let walked = dir_walk(&mut text, volume, rules, 0, LfsPair { n0, n1 }, allowance);
     Written {
         answer: walked.answer,
         length: text.len(),

@@ -15,11 +15,11 @@ decreases-slot_walk l = 2 * l.left + 1
 abbrev pub invariant-dir_walk-loop-spare : goal.invariant-dir_walk-loop-spare
 invariant-dir_walk-loop-spare l =
     (l.spare ≤ l.left)
-    × dirs.Reached (pairs l.g l.vol l.rules) l.depth l.initial.next l.left l.initial.text l.next l.spare l.text
+    × dirs.Reached (pairs l.vol.g l.vol.bytes.now l.rules) l.depth l.initial.next l.left l.initial.text l.next l.spare l.text
 
 abbrev pub decreases-dir_walk-loop-spare : goal.decreases-dir_walk-loop-spare
 decreases-dir_walk-loop-spare l = l.spare
 
 abbrev pub invariant-slot_walk-loop-id : goal.invariant-slot_walk-loop-id
 invariant-slot_walk-loop-id l =
-    slots.Kept l.g l.vol l.rules l.depth l.dir l.left l.initial.text l.b l.id l.spare l.text
+    slots.Kept l.vol.g l.vol.bytes.now l.rules l.depth l.dir l.left l.initial.text l.b l.id l.spare l.text
