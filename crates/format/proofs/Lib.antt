@@ -4,6 +4,7 @@
 pub mod Xor
 pub mod Words
 pub mod Tags
+pub mod Signed
 pub mod Order
 -- The checksum.
 pub mod Linear
