@@ -7,7 +7,7 @@
 ghost use Rattle.std.specs.Prelude.{◌≡◌};
 ghost use Rattle.format.specs.Tag.{tag_id, tag_size};
 ghost use Rattle.format.specs.Log.{log};
-ghost use Rattle.format.specs.Regular.{Regular, rules_of, count_raised};
+ghost use Rattle.format.specs.Regular.{Regular, count_raised};
 ghost use Rattle.commit_rules.specs.Rules.{rule_as, passed_by};
 ghost use Rattle.commit_regular.specs.Ends.{CommittedTo};
 
@@ -15,16 +15,6 @@ use commit_rules::Rule;
 use fetch_walk::cursor;
 use format::Rules;
 use format::types::FIRST_PREV;
-
-// The rule as a call takes it: 0 document 01's, 1 littlefs's. (Any other number is refused before.)
-pub fn rules_of(rules: u32) -> Rules
-    ensures { result ≡ rules_of rules }
-{
-    if rules == 0 {
-        return Rules::Document;
-    }
-    Rules::Littlefs
-}
 
 // The count behind an entry, or that it is bad, where the count is `count` before it and names may make slots or not.
 // `find_pass` has one too: with two callers it would stay a call, which for each entry costs a tenth of fetch's time.
