@@ -1,6 +1,5 @@
 -- The rank of a tag, and whether a place of those in use has a rank. Assumes nothing.
-use Rattle.std.proofs.Common.{◌≡◌, ℕ, ◌+◌, ◌-◌, ◌*◌, ◌/◌, ◌^◌, ◌<◌, ◌≤◌, Bool, true, false, cond, ◌&&◌, eqb, ltb, List, length, get_or, take, sym, refl, ◌∙◌, arith, length-take-le, get_or-take, ltb-true, le-ltb, lt-ltb, eq-eqb, ne_eqb}
-use borrow.Rule.Slice.PartMut.{mid_of, mid_len}
+use Rattle.std.proofs.Common.{◌≡◌, ℕ, ◌+◌, ◌*◌, ◌/◌, ◌^◌, ◌<◌, ◌≤◌, Bool, true, false, cond, ◌&&◌, eqb, ltb, List, length, take, sym, refl, ◌∙◌, arith, length-take-le, ltb-true, eq-eqb, ne_eqb}
 use Rattle.format.specs.Tag.{tag_id, tag_chunk}
 use Rattle.format.specs.Kind.{is_name}
 use Rattle.format.specs.Directory.{classes, is_struct, is_attr, seat_class}
@@ -30,12 +29,6 @@ module _ (r : ℕ) (ws : List ℕ) (n : ℕ) (room : 2 * n ≤ length ws) where
   half : length (take (2 * n) ws) / 2 ≡ n
   half = omega (arith, length-take-le (2 * n) ws room)
 
-  pub at_none : (i : ℕ) → n ≤ i → false ≡ is_at r (take (2 * n) ws) i
-  at_none i h = rw (half, le-ltb i n h)
-
-  pub at_one : (i : ℕ) → i < n → eqb (rank_of (get_or ws (2 * i) 0)) r ≡ is_at r (take (2 * n) ws) i
-  at_one i h = rw (half, lt-ltb i n h, get_or-take (2 * n) ws (2 * i) 0 (omega arith))
-
   -- b is what `is_at` says of the place i
   module _ (i : ℕ) (b : Bool) (is : b ≡ is_at r (take (2 * n) ws) i) (t : b ≡ true) where
     pub at_inside : i < n
@@ -44,6 +37,3 @@ module _ (r : ℕ) (ws : List ℕ) (n : ℕ) (room : 2 * n ≤ length ws) where
         go : (l : Bool) → ltb i n ≡ l → true ≡ l && eqb (rank_of (tag_in (take (2 * n) ws) i)) r → i < n
         go true e h = ltb-true i n e
         go false e h = let no : ◌≡◌ {A = ℕ} 0 1 = cc in omega arith
-
-    pub at_room : 2 ≤ length (mid_of (2 * i) (2 * n - 2 * i) ws)
-    at_room = omega (arith, at_inside, mid_len (2 * i) (2 * n) ws room)
