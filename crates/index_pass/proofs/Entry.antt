@@ -65,8 +65,8 @@ module _ (at t : ℕ) (G : List ℕ → List ℕ) (e : (P : List ℕ) → G P �
   same (Err q) k = (k.0, record { stays = k.1.stays; has = λ P h. rw (← e P) (k.1.has P h) })
 
 -- ---- it, by the code: j, c and x are the id, the class and the type that the code read
-module _ (at t : ℕ) {j : ℕ} (ej : j ≡ tag_id t) {c : ℕ} (ec : c ≡ seat_class t) (old : Places) where
-  module _ (seat : c < classes) {rank : ℕ} (er : rank ≡ rank_at j c) where
+module _ (at t : ℕ) {j : ℕ} (ej : j ≡ tag_id t) (old : Places) where
+  module _ {c : ℕ} (ec : c ≡ seat_class t) (seat : c < classes) {rank : ℕ} (er : rank ≡ rank_at j c) where
     is : placed_act at t ≡ put (tag_id t) (seat_class t) (load_of t (tag_size t ∷ (at + 4) ∷ []))
     unfolding placed_act
     is = class_act t (tag_size t ∷ (at + 4) ∷ []) (rw (← ec) seat)
@@ -82,11 +82,11 @@ module _ (at t : ℕ) {j : ℕ} (ej : j ≡ tag_id t) {c : ℕ} (ec : c ≡ seat
     set_follows stays small new r k = same at t (place_set rank t (at + 4))
         (λ P. rw (is, stays, er, ej, ec, of_fields t small)) old new r k
 
-  module _ (none : classes ≤ c) {x : ℕ} (ex : x ≡ tag_type3 t) where
+  module _ (none : seat_class t ≡ classes) {x : ℕ} (ex : x ≡ tag_type3 t) where
     is_other : placed_act at t ≡ cond (eqb (tag_type3 t) type_create) (mk (tag_id t)) (cond (eqb (tag_type3 t) type_delete)
         (rm (tag_id t)) skip)
     unfolding placed_act
-    is_other = other_act t (tag_size t ∷ (at + 4) ∷ []) (rw (← ec) none)
+    is_other = other_act t (tag_size t ∷ (at + 4) ∷ []) (omega (arith, none))
 
     pub make_follows : x ≡ type_create → (new : Places) → Keeps old new (slot_made j) → Goes old new (Ok tt) (after at t)
     unfolding places_after Goes

@@ -20,8 +20,7 @@ fn follow(places: &mut Places, tag: u32, at: usize) -> Result<(), Refusal>
         (λ (P : List ℕ). places_after P (placed_act at tag)) }
 {
     let id = tag::lfs_tag_id(tag) as u32;
-    let class = compact_slot::class_of(tag);
-    if class < compact_slot::CLASSES {
+    if let Some(class) = compact_slot::class_of(tag) {
         let rank = index_table::rank_at(id, class);
         if tag::lfs_tag_isdelete(tag) {
             places.unset(rank);
@@ -29,11 +28,10 @@ fn follow(places: &mut Places, tag: u32, at: usize) -> Result<(), Refusal>
         }
         return places.set(rank, tag, (at + 4) as u32);
     }
-    let type3 = tag::lfs_tag_type3(tag);
-    if type3 == LFS_TYPE_CREATE {
-        places.make(id);
-    } else if type3 == LFS_TYPE_DELETE {
-        places.remove(id);
+    match tag::lfs_tag_type3(tag) {
+        LFS_TYPE_CREATE => places.make(id),
+        LFS_TYPE_DELETE => places.remove(id),
+        _ => {}
     }
     Ok(())
 }

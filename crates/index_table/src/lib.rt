@@ -67,13 +67,15 @@ pub fn rank_at(id: u32, class: usize) -> u32
 }
 
 // A tag of zero is no place's, and stands behind all.
+#[tactic(auto, unfolding(format::specs::Index::rank_of))]
 pub fn rank_of(tag: u32) -> u32
     ensures { result ≡ rank_of tag }
 {
     if tag == 0 {
         return 0x10_0000;
     }
-    rank_at(tag::lfs_tag_id(tag) as u32, compact_slot::class_of(tag))
+    let class = compact_slot::class_of(tag).unwrap_or(compact_slot::CLASSES);
+    rank_at(tag::lfs_tag_id(tag) as u32, class)
 }
 
 // The first place, from the place `from` on, that is not before the rank; or the one behind the last. Halved by hand:
