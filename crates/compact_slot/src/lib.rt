@@ -3,10 +3,10 @@
 // require that the end is inside the block, and are for the crates of this repository.
 #![tactic(auto)]
 
-ghost use Rattle.std.specs.Prelude.{◌≡◌, map, ◌+◌, ◌^◌, ◌<◌};
+ghost use Rattle.std.specs.Prelude.{◌≡◌, map, ◌+◌, ◌^◌, ◌<◌, MatchOption};
 ghost use Rattle.format.specs.Back.{back};
 ghost use Rattle.theory.specs.Back.BackActs.{seen};
-ghost use Rattle.format.specs.Directory.{seat_class};
+ghost use Rattle.format.specs.Directory.{classes, seat_class};
 ghost use Rattle.compact_slot.specs.Seat.{hit_at, created_at, id_before, noted, Gatherable, Gathered};
 
 use format::Found;
@@ -35,22 +35,18 @@ pub fn found(seats: &[u32; 516], class: usize) -> Option<Found>
     })
 }
 
-// The class of what an entry sets in its slot: 0 the name, 1 the struct, 2 + u the user attribute u, and 258 none of
-// them.
-pub fn class_of(tag: u32) -> usize
-    ensures { result ≡ seat_class tag }
+// The class of what an entry sets in its slot: 0 the name, 1 the struct, 2 + u the user attribute u.
+#[tactic(auto, unfolding(format::specs::Directory::seat_class))]
+pub fn class_of(tag: u32) -> Option<usize>
+    ensures { MatchOption result (seat_class tag ≡ classes)
+        (λ class. (class ≡ seat_class tag) × (class < classes)) }
 {
-    let type1 = tag::lfs_tag_type1(tag);
-    if type1 == LFS_TYPE_NAME {
-        return 0;
+    match tag::lfs_tag_type1(tag) {
+        LFS_TYPE_NAME => Some(0),
+        LFS_TYPE_STRUCT => Some(1),
+        LFS_TYPE_USERATTR => Some(2 + tag::lfs_tag_chunk(tag) as usize),
+        _ => None,
     }
-    if type1 == LFS_TYPE_STRUCT {
-        return 1;
-    }
-    if type1 == LFS_TYPE_USERATTR {
-        return 2 + tag::lfs_tag_chunk(tag) as usize;
-    }
-    CLASSES
 }
 
 // Whether the tag creates the slot that has this id behind it: what is older belongs to other slots.
@@ -79,6 +75,7 @@ fn id_before(tag: u32, id: usize) -> usize
 
 // An entry takes its class's seat, if it is the slot's and no newer one has it. The slot's id is `slot` at the entry
 // and `id` now: the seat has the tag with that.
+#[tactic(auto, unfolding(crate::specs::Seat::noted), using(crate::proofs::Leaves::named_lem))]
 fn note(seats: &mut [u32; 516], tag: u32, at: usize, slot: usize, id: u32)
     requires { (at + 4 < 2 ^ 32) × (id < 2 ^ 10) }
     ensures { seats.new ≡ noted seats.old tag at slot id }
@@ -86,10 +83,9 @@ fn note(seats: &mut [u32; 516], tag: u32, at: usize, slot: usize, id: u32)
     if tag::lfs_tag_id(tag) as usize != slot {
         return;
     }
-    let class = class_of(tag);
-    if CLASSES <= class {
+    let Some(class) = class_of(tag) else {
         return;
-    }
+    };
     if seats[2 * class + 1] != 0 {
         return;
     }

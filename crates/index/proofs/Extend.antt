@@ -3,9 +3,9 @@ use mathlib.Core.Path.{◌≡◌, refl, sym, ap, ap₂, ◌∙◌}
 use mathlib.Core.Logic.{◌≢◌}
 use mathlib.Core.Bool.{Bool, true, false, not, and-false}
 use mathlib.Core.List.{List}
-use Prim.Native.Nat.{ℕ, ◌+◌, ◌-◌, ◌*◌, ◌≤◌, ◌<◌}
+use Prim.Native.Nat.{ℕ, ◌+◌, ◌≤◌, ◌<◌}
 use native.Mathlib.Omega.{arith}
-use lib.ListN.{length, take, drop}
+use lib.ListN.{length, drop}
 use Rattle.format.specs.Word.{all_ones}
 use Rattle.format.specs.Walk.{walk_from}
 use Rattle.format.specs.Log.{committed, log, span, log_end, log_end_tag}
@@ -18,8 +18,10 @@ use Rattle.fetch_walk.specs.Block.{walked_of, walked_again}
 use Rattle.fetch_walk.specs.declared.Walked.{Walked}
 use Rattle.commit_regular.specs.Ends.{CommittedTo}
 use Rattle.index_theory.specs.Ends.{between_ends, new_acts_lem, end_next}
-use Rattle.index_table.specs.Held.{Holds}
-use Rattle.index_table.proofs.Holding.{held, room}
+use Rattle.index_table.specs.Held.{in_use, Takes}
+use Rattle.index_table.specs.declared.Places.{Places}
+use Rattle.index_table.proofs.Holding.{held}
+use Rattle.std.specs.Borrow.{MutBor}
 use Rattle.index_pass.specs.Run.{Onwards, Startable, Runs}
 use Rattle.index.specs.Blocks.{InBlock, extended_in, extended_table}
 use Rattle.index.proofs.Block.{front, front_is, refuses, accepts, no_end_low, no_end, an_end, walked_end}
@@ -86,9 +88,8 @@ module _ (r : Rules) (b : List ℕ) (old end : ℕ) (T : List ℕ) where
           extend_irregular h = refused (rw (not_indexable b end k.0 new_ends far is_end r x ex h)
               (and-false (ends_at b old)))
 
-          -- table and n are what `trim` leaves and answers
-          module _ (h : not x ≡ false) (n : ℕ) (table : List ℕ) (long : length table ≡ length T)
-              (holds : Holds table n (leading T)) where
+          -- p is the table when it is trimmed
+          module _ (h : not x ≡ false) {p : Places} {t : MutBor (List ℕ)} (q : Takes p t (leading t.now)) (same : t.now ≡ T) where
             onwards : Onwards (front b end) old w.taken.etag end
             onwards = record {
               sum = all_ones;
@@ -96,27 +97,29 @@ module _ (r : Rules) (b : List ℕ) (old end : ℕ) (T : List ℕ) where
                   ∙ sym (end_next b old old_ends inside end k.1) ∙ is_end;
             }
 
-            taken : take (2 * n) table ≡ leading T
-            taken = held holds
+            taken : in_use p ≡ leading T
+            taken = held q.has ∙ ap leading same
 
-            pub extend_starts : Startable (front b end) old w.taken.etag end table n
+            long : length p.table.now ≡ length T
+            long = q.stays.long ∙ ap length same
+
+            pub extend_starts : Startable (front b end) old w.taken.etag end p
             extend_starts = record {
               onwards = onwards;
               small = (front_buildable b end k.0 new_ends far is_end r x ex h).small;
-              inside = room holds;
-              holds = rw taken holds;
+              has = rw (held q.has) q.has;
             }
 
-            pub extend_done : (i : Result ℕ Refusal) (new : List ℕ)
-                → Runs (front b end) old w.taken.etag end (take (2 * n) table) table new i → Done i new
+            pub extend_done : {i : Result ℕ Refusal} {new : Places}
+                → Runs (front b end) old w.taken.etag end p new i → Done i new.table.now
             unfolding onwards
-            extend_done i new h' =
-                let u = h' onwards in
-                let e : ran_on (length table) (take (2 * n) table)
+            extend_done {i} {new} h' =
+                let u = h'.ran onwards in
+                let e : ran_on (length p.table.now) (in_use p)
                 (placed_from old (committed (walk_from all_ones w.taken.etag (drop old (front b end)))))
                 ≡ extended T b old end =
                 rw (long, taken, on_is old w.taken.etag refl tag_is, new_acts_lem b old old_ends inside end k.1) in
                 accepts (extendable r b old end) (extended T b old end) T
-                (rw (old_ends, is_indexable b end k.0 new_ends far is_end r x ex h)) i new
+                (rw (old_ends, is_indexable b end k.0 new_ends far is_end r x ex h)) i new.table.now
                 (u.answer ∙ ap indexed_as e)
                 (u.left ∙ ap₂ (λ (m : ℕ) (v : Option (List ℕ)). table_as m v) long e)

@@ -9,16 +9,14 @@ use sizes::Pair;
 
 // What a table says: "any 0x0xx asks the name, any 0x2xx the struct, 0x300 to 0x3ff that attribute; any other type, and
 // an id that the table has not (above 1,023 too), finds nothing".
+#[tactic(auto, unfolding(format::specs::Index::index_hit))]
 fn place_of(table: &[u32], kind: u32, id: u32) -> Option<Found>
     ensures { result ≡ index_hit table.now kind id }
 {
     if (TYPE3_MASK < kind) | (NO_SLOT < id) {
         return None;
     }
-    let class = compact_slot::class_of(kind * 0x10_0000);
-    if compact_slot::CLASSES <= class {
-        return None;
-    }
+    let class = compact_slot::class_of(kind * 0x10_0000)?;
     let rank = index_table::rank_at(id, class);
     let at = index_table::seek(table, rank, 0);
     if table.len() / 2 <= at {

@@ -9,6 +9,7 @@ ghost use Rattle.sizes.specs.Lent.{of};
 ghost use Rattle.index.specs.Blocks.{InBlock, indexed_in, tabled_in, extended_in, extended_table};
 
 use format::{LfsMdir, Refusal, Rules};
+use index_table::Places;
 use sizes::Pair;
 
 // What a table answers.
@@ -84,8 +85,8 @@ fn extend_block(
     if !commit_regular::log_regular(log, end, rules) {
         return Err(Refusal::Irregular);
     }
-    let used = index_table::trim(table);
-    index_pass::run_on(log, old, known.etag, end, table, used)
+    let mut places = Places::trimmed(table);
+    index_pass::run_on(log, old, known.etag, end, &mut places)
 }
 
 // "the same table as building afresh .. when the table given is the old record's. Any other table gets a defined answer

@@ -1,11 +1,12 @@
 -- What the pass asks and what it leaves. Assumes nothing.
-use Rattle.std.specs.Prelude.{◌≡◌, true, List, ℕ, ◌+◌, ◌*◌, ◌^◌, ◌≤◌, length, take, drop, Option, Result}
+use Rattle.std.specs.Prelude.{◌≡◌, true, List, ℕ, ◌+◌, ◌^◌, ◌≤◌, length, drop, Option, Result}
 use Rattle.format.specs.Walk.{Event, walk_from}
 use Rattle.format.specs.Log.{committed, log, span, log_end}
 use Rattle.format.specs.Regular.{Regular}
 use Rattle.format.specs.declared.Rules.TheVariants.{Littlefs}
 use Rattle.format.specs.Index.{placed_from, ran_on, indexed_as, table_as}
-use Rattle.index_table.specs.Held.{Holds}
+use Rattle.index_table.specs.Held.{in_use, Has, Stays}
+use Rattle.index_table.specs.declared.Places.{Places}
 use Rattle.format.specs.declared.Refusal.{Refusal}
 
 -- what is committed from a place on, by the previous tag and the checksum there
@@ -18,24 +19,24 @@ pub record Onwards (b : List ℕ) (from prev end : ℕ) : Type 0 where
   pub ends : from + span (on_from b from prev sum) ≡ end
 
 -- the entries to run, a block that is not too long, and a table whose places in use have only zeros behind them
-pub record Startable (b : List ℕ) (from prev end : ℕ) (table : List ℕ) (used : ℕ) : Type 0 where
+pub record Startable (b : List ℕ) (from prev end : ℕ) (p : Places) : Type 0 where
   pub onwards : Onwards b from prev end
   pub small : length b ≤ 2 ^ 16
-  pub inside : 2 * used ≤ length table
-  pub holds : Holds table used (take (2 * used) table)
+  pub has : Has p (in_use p)
 
--- the answer and the table are those of the entries run on P
-abbrev pub ran_from : (b : List ℕ) (from prev end : ℕ) → Onwards b from prev end → List ℕ → List ℕ → Option (List ℕ)
-ran_from b from prev end k P table = ran_on (length table) P (placed_from from (on_from b from prev k.sum))
+-- the answer and the table are those of the entries run on its places
+abbrev pub ran_from : (b : List ℕ) (from prev end : ℕ) → Onwards b from prev end → Places → Option (List ℕ)
+ran_from b from prev end k p = ran_on (length p.table.now) (in_use p) (placed_from from (on_from b from prev k.sum))
 
-pub record Ran (b : List ℕ) (from prev end : ℕ) (k : Onwards b from prev end) (P table new : List ℕ) (r : Result ℕ Refusal)
+pub record Ran (b : List ℕ) (from prev end : ℕ) (k : Onwards b from prev end) (old new : Places) (r : Result ℕ Refusal)
     : Type 0 where
-  pub answer : r ≡ indexed_as (ran_from b from prev end k P table)
-  pub left : new ≡ table_as (length table) (ran_from b from prev end k P table)
+  pub answer : r ≡ indexed_as (ran_from b from prev end k old)
+  pub left : new.table.now ≡ table_as (length old.table.now) (ran_from b from prev end k old)
 
 -- whatever the checksum at the start is
-abbrev pub Runs : (b : List ℕ) (from prev end : ℕ) (P table new : List ℕ) (r : Result ℕ Refusal) → Type 0
-Runs b from prev end P table new r = (k : Onwards b from prev end) → Ran b from prev end k P table new r
+pub record Runs (b : List ℕ) (from prev end : ℕ) (old new : Places) (r : Result ℕ Refusal) : Type 0 where
+  pub stays : Stays new old.table
+  pub ran : (k : Onwards b from prev end) → Ran b from prev end k old new r
 
 -- a block whose log ends at `end` and is regular, by littlefs's rule, which is the wider one
 pub record Buildable (b : List ℕ) (end : ℕ) : Type 0 where

@@ -2,76 +2,70 @@
 // known to end where it is said to, so nothing is summed again. The functions are for the crates of this repository.
 #![tactic(auto)]
 
-ghost use Rattle.std.specs.Prelude.{◌≡◌, List, ℕ, ◌*◌, ◌^◌, ◌<◌, length, take};
+ghost use Rattle.std.specs.Prelude.{◌≡◌, List, ℕ, ◌^◌, ◌<◌, length};
 ghost use Rattle.format.specs.Log.{log};
 ghost use Rattle.format.specs.Index.{placed_act, places_after, indexed_as, table_as, built};
-ghost use Rattle.index_table.specs.Held.{InUse, Goes};
+ghost use Rattle.index_table.specs.Held.{Goes};
 ghost use Rattle.index_pass.specs.Run.{Startable, Runs, Buildable};
 
 use fetch_walk::cursor;
 use format::Refusal;
 use format::types::*;
+use index_table::Places;
 
-// What an entry at `at` does to a table of which `used` places are in use.
-fn follow(table: &mut [u32], used: usize, tag: u32, at: usize) -> Option<usize>
-    requires { InUse table.old used × (tag < 2 ^ 31) × (at < 2 ^ 31) }
-    ensures { Goes table.old used table.new result
+// What an entry at `at` does to a table.
+fn follow(places: &mut Places, tag: u32, at: usize) -> Result<(), Refusal>
+    requires { (tag < 2 ^ 31) × (at < 2 ^ 31) }
+    ensures { Goes places.old places.new result
         (λ (P : List ℕ). places_after P (placed_act at tag)) }
 {
     let id = tag::lfs_tag_id(tag) as u32;
-    let class = compact_slot::class_of(tag);
-    if class < compact_slot::CLASSES {
+    if let Some(class) = compact_slot::class_of(tag) {
         let rank = index_table::rank_at(id, class);
         if tag::lfs_tag_isdelete(tag) {
-            return Some(index_table::unset(table, used, rank));
+            places.unset(rank);
+            return Ok(());
         }
-        return index_table::set(table, used, rank, tag, (at + 4) as u32);
+        return places.set(rank, tag, (at + 4) as u32);
     }
-    let type3 = tag::lfs_tag_type3(tag);
-    if type3 == LFS_TYPE_CREATE {
-        index_table::make(table, used, id);
-        return Some(used);
+    match tag::lfs_tag_type3(tag) {
+        LFS_TYPE_CREATE => places.make(id),
+        LFS_TYPE_DELETE => places.remove(id),
+        _ => {}
     }
-    if type3 == LFS_TYPE_DELETE {
-        return Some(index_table::remove(table, used, id));
-    }
-    Some(used)
+    Ok(())
 }
 
-// The entries from `from` on, behind the tag `prev`, up to `end`, run on a table of which `used` places are in use.
+// The entries from `from` on, behind the tag `prev`, up to `end`, run on a table: how many places are then in use.
 // "-221 .. and the table is then all zero"
 pub fn run_on(
     b: &[u8],
     from: usize,
     prev: u32,
     end: usize,
-    table: &mut [u32],
-    used: usize,
+    places: &mut Places,
 ) -> Result<usize, Refusal>
-    requires { Startable b.now from prev end table.old used }
-    ensures { Runs b.now from prev end (take (2 * used) table.old) table.old
-        table.new result }
+    requires { Startable b.now from prev end places.old }
+    ensures { Runs b.now from prev end places.old places.new result }
 {
     let mut at = from;
     let mut last = prev;
-    let mut n = used;
+    // no range: how far the next entry is, its tag says
     while at < end {
         let tag = word::within::be32(b, at) ^ last;
         let next = at + tag::lfs_tag_dsize(tag) as usize;
         if cursor::is_check(tag) {
             last = cursor::flipped(tag);
-            at = next;
         } else {
-            let Some(now) = follow(table, n, tag, at) else {
-                table.fill(0);
-                return Err(Refusal::TableFull);
-            };
-            n = now;
+            if let Err(full) = follow(places, tag, at) {
+                places.clear();
+                return Err(full);
+            }
             last = tag;
-            at = next;
         }
+        at = next;
     }
-    Ok(n)
+    Ok(places.used())
 }
 
 // The table of the log that ends at `end`.
@@ -81,6 +75,6 @@ pub fn build(b: &[u8], end: usize, table: &mut [u32]) -> Result<usize, Refusal>
     ensures table_after { table.new ≡ table_as (length table.old)
         (built (length table.old) (log b.now)) }
 {
-    table.fill(0);
-    run_on(b, 4, FIRST_PREV, end, table, 0)
+    let mut places = Places::cleared(table);
+    run_on(b, 4, FIRST_PREV, end, &mut places)
 }

@@ -1,24 +1,21 @@
 -- What an entry makes of a table, by the words that the code leaves in it. Assumes nothing.
-use Rattle.std.proofs.Common.{◌≡◌, ℕ, ◌+◌, ◌-◌, ◌*◌, ◌/◌, ◌<◌, ◌≤◌, Bool, true, false, List, [], ◌∷◌, ◌++◌, length, take, drop, replicate, sym, refl, ap, ◌∙◌, append-nil, add-one, arith, length-append, length-drop, take-append-drop, length-take-le, drop-drop, take_at, drop_at}
+use Rattle.std.proofs.Common.{◌≡◌, ℕ, ◌+◌, ◌-◌, ◌*◌, ◌<◌, ◌≤◌, Bool, true, false, List, [], ◌∷◌, ◌++◌, length, take, drop, replicate, sym, refl, ◌∙◌, append-nil, add-one, arith, length-append, length-drop, length-take-le, drop-drop, take_at, drop_at}
 use borrow.Rule.Slice.PartMut.{mid_of, put_mid}
 use lib.Seq.{take-append-le, drop-append-le}
-use Rattle.format.specs.Index.{rank_at, seek, seek_from, is_at, shifted, one_up, one_down}
-use Rattle.format.specs.Index.{slot_made, slot_removed, place_set, place_cleared}
+use Rattle.format.specs.Index.{rank_at, seek, seek_from, is_at, shifted, one_down}
+use Rattle.format.specs.Index.{slot_removed, place_set, place_cleared}
 use Rattle.format.proofs.Places.{shifted_length}
 use Rattle.index_table.specs.Held.{Holds}
 use Rattle.index_table.proofs.Holding.{held, part_is, room, replaced, more}
 use Rattle.index_table.proofs.Ranks.{at_inside}
 
--- what `seek` says of the n places in use
+-- what `find` says of the n places in use
 abbrev pub Sought : (ws : List ℕ) (n r from s : ℕ) → Type 0
-Sought ws n r from s = (s ≡ seek_from r (mid_of 0 (2 * n - 0) ws) from) × (from ≤ s)
-    × (s ≤ length (mid_of 0 (2 * n - 0) ws) / 2)
+Sought ws n r from s = (s ≡ seek_from r (take (2 * n) ws) from) × (from ≤ s) × (s ≤ n)
 
 module _ {ws : List ℕ} {n : ℕ} {P : List ℕ} (h : Holds ws n P) where
   sought : (r from s : ℕ) → Sought ws n r from s → (s ≡ seek_from r P from) × (s ≤ n)
-  sought r from s f =
-      let all : mid_of 0 (2 * n - 0) ws ≡ P = part_is h 0 (2 * n) refl (omega arith) in
-      (rw all at f.0, omega (arith, f.2, ap length all, h.size))
+  sought r from s f = (rw (held h) at f.0, f.2)
 
   -- ---- the places from s on are shifted
   shift : (by s : ℕ) → s ≤ n → {z : List ℕ} → z ≡ shifted by (mid_of (2 * s) (2 * n - 2 * s) ws)
@@ -40,13 +37,6 @@ module _ {ws : List ℕ} {n : ℕ} {P : List ℕ} (h : Holds ws n P) where
 
 -- ---- each entry, with what the code's calls say
 module _ {ws : List ℕ} {n : ℕ} {P : List ℕ} (h : Holds ws n P) where
-  pub made : (j r s : ℕ) {z : List ℕ} → r ≡ rank_at j 0 → Sought ws n r 0 s
-      → z ≡ shifted one_up (mid_of (2 * s) (2 * n - 2 * s) ws)
-      → Holds (put_mid (2 * s) (2 * n - 2 * s) ws z) n (slot_made j P)
-  made j r s e f is =
-      let at = sought h r 0 s f in
-      rw (← e, ← at.0) (shift h one_up s at.1 is)
-
   pub removed : (j r q s t : ℕ) {y z : List ℕ} → r ≡ rank_at j 0 → q ≡ rank_at (j + 1) 0
       → Sought ws n r 0 s → Sought ws n q s t
       → y ≡ drop (2 * (t - s)) (mid_of (2 * s) (2 * n - 2 * s) ws) ++ replicate (2 * (t - s)) 0
@@ -96,9 +86,6 @@ module _ {ws : List ℕ} {n : ℕ} {P : List ℕ} (h : Holds ws n P) where
     module _ (no : b ≡ false) where
       has_not : is_at r P s ≡ false
       has_not = rw (held h) at (sym is ∙ no)
-
-      pub unset_none : Holds ws n (place_cleared r P)
-      unset_none = rw (← at.0, has_not, take-append-drop (2 * s) P) h
 
       -- the part that is opened ends in a place of zeros
       opened : 2 * n + 2 ≤ length ws → (let w : List ℕ = mid_of (2 * s) (2 * n + 2 - 2 * s) ws in

@@ -4,4 +4,3 @@ pub mod Leading
 pub mod Ranks
 pub mod Holding
 pub mod Altered
-pub mod Trimmed

@@ -1,4 +1,4 @@
--- What the loop that shifts makes of the words, turn by turn, and a place that is put first. Assumes nothing.
+-- What the loop that shifts makes of the words, turn by turn. Assumes nothing.
 use Rattle.std.proofs.Common.{◌≡◌, ℕ, zero, suc, ◌+◌, ◌-◌, ◌*◌, ◌<◌, ◌≤◌, List, [], ◌∷◌, ◌++◌, length, get_or, take, drop, set, sym, refl, ap, le_of_suc-le-suc, not-suc-le-zero, arith, length-drop, take-append-drop}
 use Rattle.format.specs.Word.{plus32}
 use Rattle.format.specs.Index.{shifted}
@@ -32,9 +32,3 @@ module _ (by : ℕ) where
   pub shift_end : (w : List ℕ) (i : ℕ) → length w - 2 * i ≤ 1 → w ≡ to_shift (2 * i) w
   unfolding to_shift
   shift_end w i h = sym (rw (shift_last (drop (2 * i) w) (rw (length-drop (2 * i) w) h)) (take-append-drop (2 * i) w))
-
--- ---- `put`
-pub put_end : (t o : ℕ) (w : List ℕ) → 2 ≤ length w → set (set w 0 t) 1 o ≡ t ∷ o ∷ drop 2 w
-put_end t o [] h = absurd (not-suc-le-zero h)
-put_end t o (a ∷ []) h = absurd (not-suc-le-zero (le_of_suc-le-suc h))
-put_end t o (a ∷ b ∷ w) h = refl

@@ -1,13 +1,14 @@
 // The places of an index, as document 02, L8 has them: two words each, an entry's tag with the slot's present id and
 // the offset of its first data byte, sorted by id and in a slot by class. A place is found by halving; what an entry of
-// a log does to the places moves those behind it, and none where it comes at the end. The functions take any words and
-// require only that what is in use stands inside the table; they are for the crates of this repository.
+// a log does to the places moves those behind it, and none where it comes at the end. The functions take any words;
+// they are for the crates of this repository.
 #![tactic(auto)]
 
-ghost use Rattle.std.specs.Prelude.{◌≡◌, ◌-◌, ◌*◌, ◌/◌, ◌^◌, ◌<◌, ◌≤◌, ◌∷◌, ◌++◌, length, take, drop, replicate};
+ghost use Rattle.std.specs.Prelude.{◌≡◌, ◌-◌, ◌*◌, ◌/◌, ◌^◌, ◌<◌, ◌≤◌, [], ◌∷◌, ◌++◌, length, take, drop, replicate};
 ghost use Rattle.format.specs.Index.{rank_at, rank_of, seek_from, shifted, leading, slot_made, slot_removed, place_set};
 ghost use Rattle.format.specs.Index.{place_cleared, is_at};
-ghost use Rattle.index_table.specs.Held.{InUse, Holds, Keeps, Goes};
+
+use format::Refusal;
 
 // one id more, in a tag
 const ONE_UP: u32 = 0x400;
@@ -66,13 +67,15 @@ pub fn rank_at(id: u32, class: usize) -> u32
 }
 
 // A tag of zero is no place's, and stands behind all.
+#[tactic(auto, unfolding(format::specs::Index::rank_of))]
 pub fn rank_of(tag: u32) -> u32
     ensures { result ≡ rank_of tag }
 {
     if tag == 0 {
         return 0x10_0000;
     }
-    rank_at(tag::lfs_tag_id(tag) as u32, compact_slot::class_of(tag))
+    let class = compact_slot::class_of(tag).unwrap_or(compact_slot::CLASSES);
+    rank_at(tag::lfs_tag_id(tag) as u32, class)
 }
 
 // The first place, from the place `from` on, that is not before the rank; or the one behind the last. Halved by hand:
@@ -110,87 +113,117 @@ fn count(table: &[u32]) -> usize
     table.len() / 2
 }
 
-// Any table, as one whose places in use are those before the first that is zero: behind them all is zero.
-pub fn trim(table: &mut [u32]) -> usize
-    ensures { (length table.new ≡ length table.old)
-        × Holds table.new result (leading table.old) }
-{
-    let used = count(table);
-    table[2 * used..].fill(0);
-    used
+// ---- what an entry does to a table
+
+// A lent table, of which the first `used` places are in use.
+#[derive(Drop)]
+pub struct Places<'a> {
+    table: &'a mut [u32],
+    used: usize,
+    ghost inside: { 2 * used ≤ length table.now },
 }
 
-// ---- what an entry does to a table of which the first `used` places are in use
+impl<'a> Places<'a> {
+    ghost use Rattle.index_table.specs.Held.{in_use, Takes, Keeps, Goes};
 
-// A slot is made: the places from it on get the next id.
-pub fn make(table: &mut [u32], used: usize, id: u32)
-    requires { InUse table.old used × (id < 2 ^ 10) }
-    ensures { Keeps table.old used table.new used (slot_made id) }
-{
-    let end = 2 * used;
-    let at = 2 * seek(&table[0..end], rank_at(id, 0), 0);
-    shift_ids(&mut table[at..end], ONE_UP);
-}
-
-// A slot is removed: its own places go, and those behind them get the id before.
-pub fn remove(table: &mut [u32], used: usize, id: u32) -> usize
-    requires { InUse table.old used × (id < 2 ^ 10) }
-    ensures { Keeps table.old used table.new result (slot_removed id) }
-{
-    let end = 2 * used;
-    let first = seek(&table[0..end], rank_at(id, 0), 0);
-    let last = seek(&table[0..end], rank_at(id + 1, 0), first);
-    let gone = last - first;
-    let at = 2 * first;
-    close(&mut table[at..end], 2 * gone);
-    let left = used - gone;
-    let to = 2 * left;
-    shift_ids(&mut table[at..to], ONE_DOWN);
-    left
-}
-
-// Whether the place `at` of those in use has the rank.
-fn is_at(table: &[u32], used: usize, at: usize, rank: u32) -> bool
-    requires { InUse table.now used }
-    ensures { result ≡ is_at rank (take (2 * used) table.now) at }
-{
-    if used <= at {
-        return false;
+    // A table is cleared: no place of it is in use.
+    pub fn cleared(table: &'a mut [u32]) -> Places<'a>
+        ensures { Takes result table.entry [] }
+    {
+        table.fill(0);
+        Places { table, used: 0 }
     }
-    rank_of(table[2 * at]) == rank
-}
 
-// What is set stands in its place, or in a new one.
-pub fn set(table: &mut [u32], used: usize, rank: u32, tag: u32, off: u32) -> Option<usize>
-    requires { InUse table.old used }
-    ensures { Goes table.old used table.new result (place_set rank tag off) }
-{
-    let end = 2 * used;
-    let place = seek(&table[0..end], rank, 0);
-    let at = 2 * place;
-    if is_at(table, used, place, rank) {
-        put(&mut table[at..end], tag, off);
-        return Some(used);
+    // Any table, as one whose places in use are those before the first that is zero: behind them all is zero.
+    pub fn trimmed(table: &'a mut [u32]) -> Places<'a>
+        ensures { Takes result table.entry (leading table.old) }
+    {
+        let used = count(table);
+        table[2 * used..].fill(0);
+        Places { table, used }
     }
-    if table.len() - end < 2 {
-        return None;
-    }
-    let to = end + 2;
-    open(&mut table[at..to], tag, off);
-    Some(used + 1)
-}
 
-// What is removed leaves no place.
-pub fn unset(table: &mut [u32], used: usize, rank: u32) -> usize
-    requires { InUse table.old used }
-    ensures { Keeps table.old used table.new result (place_cleared rank) }
-{
-    let end = 2 * used;
-    let place = seek(&table[0..end], rank, 0);
-    if is_at(table, used, place, rank) {
+    // How many places are in use.
+    pub fn used(&self) -> usize
+        ensures { result ≡ self.now.used }
+    {
+        self.used
+    }
+
+    // All places go.
+    pub fn clear(&mut self)
+        ensures { Keeps self.old self.new (λ P. []) }
+    {
+        self.table.fill(0);
+        self.used = 0;
+    }
+
+    // A rank's place, from the place `from` on, or where it would stand.
+    fn find(&self, rank: u32, from: usize) -> usize
+        requires { from ≤ self.now.used }
+        ensures { (result ≡ seek_from rank (in_use self.now) from)
+            × (from ≤ result) × (result ≤ self.now.used) }
+    {
+        seek(&self.table[..2 * self.used], rank, from)
+    }
+
+    // Whether the place `at` of those in use has the rank.
+    fn is_at(&self, at: usize, rank: u32) -> bool
+        ensures { result ≡ is_at rank (in_use self.now) at }
+    {
+        at < self.used && rank_of(self.table[2 * at]) == rank
+    }
+
+    // A slot is made: the places from it on get the next id.
+    pub fn make(&mut self, id: u32)
+        requires { id < 2 ^ 10 }
+        ensures { Keeps self.old self.new (slot_made id) }
+    {
+        let at = 2 * self.find(rank_at(id, 0), 0);
+        shift_ids(&mut self.table[at..2 * self.used], ONE_UP);
+    }
+
+    // A slot is removed: its own places go, and those behind them get the id before.
+    pub fn remove(&mut self, id: u32)
+        requires { id < 2 ^ 10 }
+        ensures { Keeps self.old self.new (slot_removed id) }
+    {
+        let first = self.find(rank_at(id, 0), 0);
+        let last = self.find(rank_at(id + 1, 0), first);
+        let gone = last - first;
+        let at = 2 * first;
+        close(&mut self.table[at..2 * self.used], 2 * gone);
+        self.used -= gone;
+        shift_ids(&mut self.table[at..2 * self.used], ONE_DOWN);
+    }
+
+    // What is set stands in its place, or in a new one.
+    pub fn set(&mut self, rank: u32, tag: u32, off: u32) -> Result<(), Refusal>
+        ensures { Goes self.old self.new result (place_set rank tag off) }
+    {
+        let place = self.find(rank, 0);
         let at = 2 * place;
-        close(&mut table[at..end], 2);
-        return used - 1;
+        let end = 2 * self.used;
+        if self.is_at(place, rank) {
+            put(&mut self.table[at..end], tag, off);
+            return Ok(());
+        }
+        if self.table.len() - end < 2 {
+            return Err(Refusal::TableFull);
+        }
+        open(&mut self.table[at..end + 2], tag, off);
+        self.used += 1;
+        Ok(())
     }
-    used
+
+    // What is removed leaves no place.
+    pub fn unset(&mut self, rank: u32)
+        ensures { Keeps self.old self.new (place_cleared rank) }
+    {
+        let place = self.find(rank, 0);
+        if self.is_at(place, rank) {
+            close(&mut self.table[2 * place..2 * self.used], 2);
+            self.used -= 1;
+        }
+    }
 }

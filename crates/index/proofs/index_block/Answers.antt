@@ -1,7 +1,6 @@
 -- `index::index_block` meets its contract, by its tests. Assumes nothing.
 use Rattle.index.proofs.Block.{block_low, block_off, block_committed, block_irregular, block_buildable}
 use Rattle.index.proofs.Block.{block_built}
-use borrow.Author.Rules.{rules}
 use Rattle.std.proofs.Common.{ap, not}
 use Rattle.index.proofs.index_block.Goals as goal
 

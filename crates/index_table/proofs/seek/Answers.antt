@@ -16,33 +16,3 @@ loop-left-preserved c =
 
 pub returns : goal.returns
 returns c = (seek_end c.loop-left.invariant c.loop-left-test.false, omega arith, omega arith)
-
-pub overflow_sub-left : goal.overflow_sub-left
-overflow_sub-left c = omega arith
-
-pub overflow_add-mid : goal.overflow_add-mid
-overflow_add-mid c = omega arith
-
-pub overflow_mul-mid : goal.overflow_mul-mid
-overflow_mul-mid c = omega arith
-
-pub offset_bounds-places-mid : goal.offset_bounds-places-mid
-offset_bounds-places-mid c = omega arith
-
-pub bounds-places-mid : goal.bounds-places-mid
-bounds-places-mid c = omega arith
-
-pub overflow_add-at : goal.overflow_add-at
-overflow_add-at c = omega arith
-
-pub overflow_sub-left-then-rank_of-rank : goal.overflow_sub-left-then-rank_of-rank
-overflow_sub-left-then-rank_of-rank c = omega arith
-
-pub overflow_sub-left-then-rank_of-rank-2 : goal.overflow_sub-left-then-rank_of-rank-2
-overflow_sub-left-then-rank_of-rank-2 c = omega arith
-
-pub loop-left-smaller-then-rank_of-rank : goal.loop-left-smaller-then-rank_of-rank
-loop-left-smaller-then-rank_of-rank c = omega arith
-
-pub loop-left-smaller : goal.loop-left-smaller
-loop-left-smaller c = omega arith
