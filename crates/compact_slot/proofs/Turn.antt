@@ -10,7 +10,7 @@ use lib.Dec.{eqb, leb, ltb}
 use borrow.Author.Tests.{eq-eqb, ne_eqb, eqb-true, eqb-false, lt-ltb, ltb-true, ltb-false, le-leb, lt-leb}
 use Rattle.format.specs.Tag.{tag_type1, tag_type3, tag_chunk, tag_id, tag_size, tag_delete, tag_length, tag_of}
 use Rattle.format.specs.Kind.{is_name, type_name, type_dir_struct, type_user_attr, type_create, type_delete}
-use Rattle.format.specs.Back.{Met, back}
+use Rattle.format.specs.Back.{Met}
 use Rattle.format.specs.Directory.{classes, Load, Act, mk, rm, put, skip, is_struct, is_attr, seat_class, load_of, act}
 use Rattle.format.specs.Look.{HitIn}
 use Rattle.format.proofs.Tags.{of_size}
@@ -20,8 +20,6 @@ use Rattle.theory.specs.Directory.Machine.{find}
 use Rattle.theory.specs.Directory.Types.{type1_of}
 use Rattle.theory.specs.Back.BackActs.{bytes_at, seen_as, seen}
 use Rattle.theory.specs.Lookup.ByMask.{holds, Answers, met_as, bytes_held}
-use Rattle.lookup_back.specs.Step.{Ends, tag_before}
-use Rattle.lookup_back.proofs.Step.{back_over, back_on}
 use Rattle.compact_slot.specs.Seat.{seat_tag, seat_off, hit_of, hit_at, created_at, id_before, seated, noted}
 use Rattle.compact_slot.specs.Seat.{Gathered}
 use Rattle.std.specs.Prelude.{None, Some, Option}
@@ -319,7 +317,7 @@ module _ (b : List ℕ) (all : List Act) (id t at : ℕ) (l : List Act) (slot : 
     full = noted_length seats t at slot id ∙ full;
   }
 
--- ---- the same on the bytes of a block: the tag t ends at `off`, and stands at `at`
+-- ---- the same on the tags of a block: the tag t stands at `at`
 pub id_before_most : (t id : ℕ) → id_before t id ≤ id + 1
 unfolding id_before
 id_before_most t id = go (eqb (tag_type3 t) type_create) (ltb (tag_id t) id) (eqb (tag_type3 t) type_delete)
@@ -332,28 +330,25 @@ id_before_most t id = go (eqb (tag_type3 t) type_create) (ltb (tag_id t) id) (eq
     go false x true false = omega arith
     go false x false y = omega arith
 
-module _ (b : List ℕ) (all : List Act) (id off t slot : ℕ) (seats : List ℕ)
-    (g : Gathering b all id (map (seen b) (back b off t)) slot seats) where
-  pub walk_over : off < 4 + tag_length t → Gathered b all id seats
-  walk_over h = ends_empty b all id slot seats (rw (back_over b off t h) at g)
+-- l: the tags that are left
+module _ (b : List ℕ) (all : List Act) (id slot : ℕ) (seats : List ℕ) (l : List Met)
+    (g : Gathering b all id (map (seen b) l) slot seats) where
+  pub walk_over : l ≡ [] → Gathered b all id seats
+  walk_over h = ends_empty b all id slot seats (rw h at g)
 
-  module _ (at : ℕ) (e : Ends off t at) (made : Bool) (em : made ≡ created_at t slot) where
-    -- the acts before the tag
-    abbrev older : List Act
-    older = map (seen b) (back b at (tag_before b at t))
-
-    here : Gathering b all id (act t (bytes_at b (record { tag = t; off = at })) ∷ older) slot seats
+  module _ (t at : ℕ) (older : List Met) (e : l ≡ record { tag = t; off = at } ∷ older) (made : Bool)
+      (em : made ≡ created_at t slot) where
+    here : Gathering b all id (act t (bytes_at b (record { tag = t; off = at })) ∷ map (seen b) older) slot seats
     unfolding seen_as
-    here = rw (back_on b off t at e) at g
+    here = rw e at g
 
     pub walk_created : made ≡ true → Gathered b all id seats
-    walk_created q = ends_created b all id t (bytes_at b (record { tag = t; off = at })) older slot seats (sym em ∙ q)
-        here
+    walk_created q = ends_created b all id t (bytes_at b (record { tag = t; off = at })) (map (seen b) older) slot seats
+        (sym em ∙ q) here
 
-    -- w is the tag before, `next` the seats and `before` the id behind the tag
-    pub walk_on : made ≡ false → id < 2 ^ 10 → off ≤ length b → (next : List ℕ)
+    -- `next` are the seats and `before` is the id behind the tag
+    pub walk_on : made ≡ false → id < 2 ^ 10 → at + tag_length t ≤ length b → (next : List ℕ)
         → next ≡ noted seats t at slot id → (before : ℕ) → before ≡ id_before t slot
-        → (w : ℕ) → w ≡ tag_before b at t → Gathering b all id (map (seen b) (back b at w)) before next
-    walk_on q low fits next enext before ebefore w ew =
-        rw (enext, ebefore, ew)
-        (turns b all id t at older slot seats low (omega (arith, e.is, e.more)) g.full (sym em ∙ q) here)
+        → Gathering b all id (map (seen b) older) before next
+    walk_on q low fits next enext before ebefore =
+        rw (enext, ebefore) (turns b all id t at (map (seen b) older) slot seats low fits g.full (sym em ∙ q) here)

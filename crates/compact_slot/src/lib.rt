@@ -102,20 +102,13 @@ pub fn gather_into(b: &[u8], end: usize, etag: u32, id: u32, seats: &mut [u32; 5
         seats.new }
 {
     seats.fill(0);
-    let mut off = end;
-    let mut tag = etag;
     let mut slot = id as usize;
-    loop {
-        let Some(at) = lookup_back::place(off, tag) else {
-            return;
-        };
+    for (at, tag) in lookup_back::Back::new(b, end, etag) {
         if created(tag, slot) {
             return;
         }
         note(seats, tag, at, slot, id);
         slot = id_before(tag, slot);
-        tag = lookup_back::tag_before(b, at, tag);
-        off = at;
     }
 }
 

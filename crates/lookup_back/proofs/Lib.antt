@@ -1,2 +1,3 @@
--- A step of the code is a step of format's walk back.
+-- A step of the code is a step of format's walk back, and so is one of the iterator.
 pub mod Step
+mod Left

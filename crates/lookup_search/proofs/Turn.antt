@@ -1,11 +1,11 @@
 -- A turn of the walk back, in each of the ways that the code leaves it; and where a pending move lets it start. Assumes
 -- nothing.
-use Rattle.std.proofs.Common.{◌≡◌, ℕ, ◌+◌, ◌^◌, ◌<◌, ◌≤◌, Bool, true, false, cond, not, ◌&&◌, eqb, ltb, List, ◌∷◌, sym}
-use Rattle.std.proofs.Common.{refl, ap, ◌∙◌, arith, eq-eqb, ne_eqb}
+use Rattle.std.proofs.Common.{◌≡◌, ℕ, ◌+◌, ◌^◌, ◌≤◌, Bool, true, false, cond, not, ◌&&◌, eqb, ltb, List, [], ◌∷◌, sym}
+use Rattle.std.proofs.Common.{refl, ap, ◌∙◌, eq-eqb, ne_eqb}
 use lib.Bits.{bit_and}
 use Rattle.format.specs.Word.{plus32, minus32}
 use Rattle.format.specs.Tag.{tag_splice, tag_length, tag_delete, tag_id}
-use Rattle.format.specs.Back.{Met, back}
+use Rattle.format.specs.Back.{Met}
 use Rattle.format.specs.Look.{found_at, FoundIn, as_ids, spliced_at, create_at, wlook}
 use Rattle.format.specs.Lookup.{has_ids, searched_from, searched}
 use Rattle.format.specs.Gstate.{gstate_has_move_here}
@@ -13,56 +13,47 @@ use Rattle.format.specs.declared.Found.{Found}
 use Rattle.format.specs.declared.LfsMdir.{LfsMdir}
 use Rattle.format.specs.declared.LfsGstate.{LfsGstate}
 use Rattle.format.proofs.Searched.{found_in}
-use Rattle.lookup_back.specs.Step.{Ends, tag_before}
-use Rattle.lookup_back.proofs.Step.{back_over, back_on}
 use Rattle.std.specs.Prelude.{None, Option, Some}
 
--- u is what the whole walk answers, `at` where the tag t stands, k the key here, s whether the tag is a splice at or
--- below it
-module _ (b : List ℕ) (ids : Bool) (mask key off t d : ℕ) (u : Option Found) (inv : u ≡ wlook ids mask key d (back b off t))
-  where
-    pub walk_over : off < 4 + tag_length t → None ≡ u
+-- u is what the whole walk answers, l the tags that are left of it
+module _ (ids : Bool) (mask key d : ℕ) (l : List Met) (u : Option Found) (inv : u ≡ wlook ids mask key d l) where
+  pub walk_over : l ≡ [] → None ≡ u
+  unfolding wlook
+  walk_over h = sym (inv ∙ ap (wlook ids mask key d) h)
+
+  -- the tag t stands at `at`, k is the key here, s whether the tag is a splice at or below it
+  module _ (t at : ℕ) (older : List Met) (e : l ≡ record { tag = t; off = at } ∷ older) (k : ℕ) (ek : k ≡ minus32 key d)
+      (s : Bool) (es : s ≡ spliced_at ids t k) (c : ℕ) (ec : c ≡ create_at k) where
+    here : u ≡ wlook ids mask key d (record { tag = t; off = at } ∷ older)
+    here = inv ∙ ap (wlook ids mask key d) e
+
+    pub turn_created : s && eqb t c ≡ true → None ≡ u
     unfolding wlook
-    walk_over h = sym (inv ∙ ap (wlook ids mask key d) (back_over b off t h))
+    turn_created q = sym (here ∙ rw (← ek, ← es, ← ec, q))
 
-    module _ (at : ℕ) (e : Ends off t at) (k : ℕ) (ek : k ≡ minus32 key d) (s : Bool) (es : s ≡ spliced_at ids t k)
-        (c : ℕ) (ec : c ≡ create_at k) where
-      -- the walk before the tag
-      abbrev older : List Met
-      older = back b at (tag_before b at t)
-
-      here : u ≡ wlook ids mask key d (record { tag = t; off = at } ∷ older)
-      here = inv ∙ ap (wlook ids mask key d) (back_on b off t at e)
-
-      pub turn_created : s && eqb t c ≡ true → None ≡ u
+    -- f is the difference behind the tag, q the key there
+    module _ (z : s && eqb t c ≡ false) (f : ℕ) (ef : f ≡ cond s (plus32 d (as_ids (tag_splice t))) d) (q : ℕ)
+        (eq : q ≡ minus32 key f) where
+      past_create : u ≡ cond (eqb (bit_and t mask) (bit_and q mask))
+          (cond (tag_delete t) None (Some (found_at t at f))) (wlook ids mask key f older)
       unfolding wlook
-      turn_created q = sym (here ∙ rw (← ek, ← es, ← ec, q))
+      past_create = here ∙ rw (← ek, ← es, ← ec, z, ← ef, ← eq)
 
-      -- f is the difference behind the tag, l the key there
-      module _ (q : s && eqb t c ≡ false) (f : ℕ) (ef : f ≡ cond s (plus32 d (as_ids (tag_splice t))) d) (l : ℕ)
-          (el : l ≡ minus32 key f) where
-        past_create : u ≡ cond (eqb (bit_and t mask) (bit_and l mask))
-            (cond (tag_delete t) None (Some (found_at t at f))) (wlook ids mask key f older)
-        unfolding wlook
-        past_create = here ∙ rw (← ek, ← es, ← ec, q, ← ef, ← el)
+      pub turn_removed : bit_and t mask ≡ bit_and q mask → tag_delete t ≡ true → None ≡ u
+      turn_removed m r = sym (past_create ∙ rw (eq-eqb (bit_and t mask) (bit_and q mask) m, r))
 
-        pub turn_removed : bit_and t mask ≡ bit_and l mask → tag_delete t ≡ true → None ≡ u
-        turn_removed m r = sym (past_create ∙ rw (eq-eqb (bit_and t mask) (bit_and l mask) m, r))
+      pub turn_found : bit_and t mask ≡ bit_and q mask → tag_delete t ≡ false → (e : Found) → e ≡ found_at t at f
+          → Some e ≡ u
+      turn_found m r e ee = ap Some ee
+          ∙ sym (past_create ∙ rw (eq-eqb (bit_and t mask) (bit_and q mask) m, r))
 
-        pub turn_found : bit_and t mask ≡ bit_and l mask → tag_delete t ≡ false → (e : Found) → e ≡ found_at t at f
-            → Some e ≡ u
-        turn_found m r e ee = ap Some ee
-            ∙ sym (past_create ∙ rw (eq-eqb (bit_and t mask) (bit_and l mask) m, r))
-
-        -- w is the tag before
-        pub turn_on : (bit_and t mask ≡ bit_and l mask → ⊥) → (w : ℕ) → w ≡ tag_before b at t
-            → u ≡ wlook ids mask key f (back b at w)
-        turn_on m w ew = past_create ∙ rw (ne_eqb (bit_and t mask) (bit_and l mask) m, ew)
+      pub turn_on : (bit_and t mask ≡ bit_and q mask → ⊥) → u ≡ wlook ids mask key f older
+      turn_on m = past_create ∙ rw (ne_eqb (bit_and t mask) (bit_and q mask) m)
 
 -- the entry found, e, stands whole before the end
-pub turn_inside : (end off t at f : ℕ) → Ends off t at → tag_delete t ≡ false → off ≤ end → (e : Found)
+pub turn_inside : (end t at f : ℕ) → at + tag_length t ≤ end → tag_delete t ≡ false → (e : Found)
     → e ≡ found_at t at f → FoundIn end e
-turn_inside end off t at f ends kept h e ee = rw ee (found_in t at f end kept (omega (arith, ends.is, ends.more)))
+turn_inside end t at f h kept e ee = rw ee (found_in t at f end kept h)
 
 -- where the search starts
 module _ (b : List ℕ) (dir : LfsMdir) (gdisk : LfsGstate) (mask key : ℕ) where

@@ -73,13 +73,8 @@ pub fn find_back(b: &[u8], end: u32, etag: u32, gmask: u32, gtag: u32, diff: u32
     ensures { (result ≡ wlook (has_ids gmask) gmask gtag diff (back b.now end etag)) × HitIn end result }
 {
     let ids = tag::lfs_tag_id(gmask) != 0;
-    let mut off = end as usize;
-    let mut tag = etag;
     let mut gdiff = diff;
-    loop {
-        let Some(at) = lookup_back::place(off, tag) else {
-            return None;
-        };
+    for (at, tag) in lookup_back::Back::new(b, end as usize, etag) {
         let key = key_at(gtag, gdiff);
         let spliced = splices(ids, tag, key);
         if spliced & (tag == create_at(key)) {
@@ -93,10 +88,9 @@ pub fn find_back(b: &[u8], end: u32, etag: u32, gmask: u32, gtag: u32, diff: u32
             }
             return Some(found_at(tag, at, next));
         }
-        tag = lookup_back::tag_before(b, at, tag);
-        off = at;
         gdiff = next;
     }
+    None
 }
 
 // The difference that a search starts with: a pending move of a lower id takes one id away.

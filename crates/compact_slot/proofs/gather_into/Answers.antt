@@ -1,76 +1,36 @@
 -- `compact_slot::gather_into` meets its contract. The loop keeps what a free seat may still find (`Gathering`); the
 -- offset falls, and the slot's id grows by less than it. Assumes nothing.
 use native.Mathlib.Omega.{arith}
-use Rattle.lookup_back.proofs.Step.{back_word, placed_at_lem, placed_over}
 use Rattle.compact_slot.proofs.Turn.{starts, id_before_most, walk_over, walk_created, walk_on}
 use Rattle.compact_slot.proofs.gather_into.Goals as goal
 
 pub loop-at-init : goal.loop-at-init
 loop-at-init c =
     let zeros = rw c.told-seats at (c.fill.ensures.after (λ y e. e)) in
-    (omega arith, omega arith, rw zeros (starts _ _ _))
+    let new = c.new-at-items.ensures in
+    let e = c.into_iter-at-iterator.ensures.into_iter_gives in (
+      tt,
+      tt,
+      rw e (omega (arith, new.off)),
+      rw e (omega (arith, new.off)),
+      rw (zeros, e, new.tags) (starts _ _ _),
+    )
 
-pub returns-in_default : goal.returns-in_default
-returns-in_default c = walk_over _ _ _ _ _ _ _ c.loop-at.invariant.2
-    (placed_over _ _ _ c.place.ensures c.in_default.is)
+pub returns : goal.returns
+returns c = walk_over _ _ _ _ _ _ c.loop-at.invariant.4 c.in-None.ensures.steps
 
 pub returns-then-created : goal.returns-then-created
-returns-then-created c = walk_created _ _ _ _ _ _ _ c.loop-at.invariant.2 _
-    (placed_at_lem _ _ _ _ c.place.ensures
-    c.in-Some.is) _ c.created.ensures c.if-created.true
-
-pub note-requires : goal.note-requires
-note-requires c = (
-  omega (
-    arith,
-    back_word _ _ _ (placed_at_lem _ _ _ _ c.place.ensures
-        c.in-Some.is),
-  ),
-  omega arith,
-)
-
-pub tag_before-tag-requires : goal.tag_before-tag-requires
-tag_before-tag-requires c = omega (
-  arith,
-  back_word _ _ _
-      (placed_at_lem _ _ _ _ c.place.ensures
-      c.in-Some.is),
-)
-
-pub loop-at-smaller : goal.loop-at-smaller
-loop-at-smaller c = omega (
-  arith,
-  back_word _ _ _
-      (placed_at_lem _ _ _ _ c.place.ensures
-      c.in-Some.is),
-)
+returns-then-created c = walk_created _ _ _ _ _ _ c.loop-at.invariant.4 _ _ _
+    c.in-Some.ensures.steps.is _ c.created.ensures c.if-created.true
 
 pub loop-at-preserved : goal.loop-at-preserved
-loop-at-preserved c = (
-  omega (
-    arith,
-    back_word _ _ _
-        (placed_at_lem _ _ _ _ c.place.ensures
-        c.in-Some.is),
-  ),
-  omega (
-    arith,
-    back_word _ _ _
-        (placed_at_lem _ _ _ _ c.place.ensures
-        c.in-Some.is),
-    c.id_before-slot.ensures,
-    id_before_most c.loop-at.tag
-        c.loop-at.slot,
-  ),
-  walk_on _ _ _ _
-      _ _ _ c.loop-at.invariant.2 _
-      (placed_at_lem _ _ _ _ c.place.ensures
-      c.in-Some.is) _
-      c.created.ensures c.if-created.false
-      (omega arith) (omega arith) _ c.note.ensures _
-      c.id_before-slot.ensures _
-      c.tag_before-tag.ensures,
-)
-
-pub id_before-slot-requires : goal.id_before-slot-requires
-id_before-slot-requires c = omega arith
+loop-at-preserved c =
+    let step = c.in-Some.ensures.steps in
+    let inv = c.loop-at.invariant in (
+      tt,
+      tt,
+      omega (arith, step.on, step.word, inv.2),
+      omega (arith, step.on, step.word, inv.3, c.id_before-slot.ensures, id_before_most c.in-Some.tag c.loop-at.slot),
+      walk_on _ _ _ _ _ _ inv.4 _ _ _ step.is _ c.created.ensures c.if-created.false (omega (arith, c.requires.slot))
+          (omega (arith, step.ends, inv.2, c.requires.inside)) _ c.note.ensures _ c.id_before-slot.ensures,
+    )

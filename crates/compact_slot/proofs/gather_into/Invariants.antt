@@ -4,13 +4,12 @@ use mathlib.Core.List.{map}
 use Prim.Native.Nat.{◌+◌, ◌≤◌}
 use Rattle.format.specs.Back.{back}
 use Rattle.theory.specs.Back.BackActs.{seen}
+use Rattle.lookup_back.specs.Left.{left}
 use Rattle.compact_slot.proofs.Turn.{Gathering}
 use Rattle.compact_slot.proofs.gather_into.Given as goal
 
 abbrev pub invariant-loop-at : goal.invariant-loop-at
 invariant-loop-at l =
-    (l.off ≤ l.end) × (l.slot + l.off ≤ l.id + l.end) × Gathering l.b (map (seen l.b) (back l.b l.end l.etag)) l.id
-    (map (seen l.b) (back l.b l.off l.tag)) l.slot l.seats
-
-abbrev pub decreases-loop-at : goal.decreases-loop-at
-decreases-loop-at l = l.off
+    (goal.iterator-loop-at).can_next l.at-iterator × (goal.iterator-loop-at).is_finite l.at-iterator
+    × (l.at-iterator.off ≤ l.end) × (l.slot + l.at-iterator.off ≤ l.id + l.end)
+    × Gathering l.b (map (seen l.b) (back l.b l.end l.etag)) l.id (map (seen l.b) (left l.at-iterator)) l.slot l.seats
