@@ -1,1 +1,3 @@
 pub mod Ends
+pub mod Left
+pub mod Ruled

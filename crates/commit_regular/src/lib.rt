@@ -12,12 +12,14 @@ ghost use Rattle.commit_rules.specs.Rules.{rule_as, passed_by};
 ghost use Rattle.commit_regular.specs.Ends.{CommittedTo};
 
 use commit_rules::Rule;
-use fetch_walk::cursor;
 use format::Rules;
-use format::types::FIRST_PREV;
+
+pub mod tags;
+
+use tags::{Logged, Tags};
 
 // The count behind an entry, or that it is bad, where the count is `count` before it and names may make slots or not.
-// `find_pass` has one too: with two callers it would stay a call, which for each entry costs a tenth of fetch's time.
+#[inline(always)]
 fn entered(rule: Rule, grows: bool, count: u32, tag: u32) -> Option<u32>
     ensures { result ≡ passed_by (rule_as rule) (count_raised grows (rule_as rule) count (tag_id tag)) (tag_id tag)
         (tag_size tag) }
@@ -27,34 +29,58 @@ fn entered(rule: Rule, grows: bool, count: u32, tag: u32) -> Option<u32>
     commit_rules::count_behind(rule, raised, id, tag::lfs_tag_size(tag))
 }
 
-// Whether the committed log of a block, which ends at `end`, is regular by a rule: "every check tag's size is 4 to
-// 1,022", and every entry is good where it stands. All that is passed over is committed, so the first bad one decides.
+// The rules as they run over a log: the count that its entries leave so far, and whether names may still make slots.
+#[derive(Clone, Copy)]
+pub struct Ruled {
+    count: u32,
+    grows: bool,
+}
+
+impl Ruled {
+    ghost use Rattle.std.specs.Prelude.{if◌then◌else◌};
+    ghost use Rattle.commit_regular.specs.Ruled.{at_start, good, behind};
+
+    pub fn new(rules: Rules) -> Self
+        ensures { result ≡ at_start rules }
+    {
+        Ruled {
+            count: 0,
+            grows: commit_rules::grows(rules),
+        }
+    }
+
+    // Whether what the log has next is good where it stands, "every check tag's size is 4 to 1,022" too; if so, the
+    // rules then stand behind it. Two passes call this for each tag: as a call it is a tenth of fetch's time.
+    #[inline(always)]
+    pub fn passes(&mut self, logged: Logged) -> bool
+        ensures good { result ≡ good self.old logged }
+        ensures self_after { self.new ≡ (if result then behind self.old logged else self.old) }
+    {
+        match logged {
+            Logged::Check(tag) => commit_rules::check_fits(tag::lfs_tag_size(tag)),
+            Logged::Entry(tag, _) => {
+                let rule = commit_rules::rule_of(true, tag::lfs_tag_type3(tag));
+                let Some(count) = entered(rule, self.grows, self.count, tag) else {
+                    return false;
+                };
+                self.count = count;
+                self.grows = commit_rules::grows_after(rule, self.grows);
+                true
+            }
+        }
+    }
+}
+
+// Whether the committed log of a block, which ends at `end`, is regular by a rule: every check and every entry is good
+// where it stands. All that is passed over is committed, so the first bad one decides.
 pub fn log_regular(b: &[u8], end: usize, rules: Rules) -> bool
     requires { CommittedTo b.now end }
     ensures { result ≡ Regular rules (log b.now) }
 {
-    let mut count: u32 = 0;
-    let mut grows = commit_rules::grows(rules);
-    let mut at: usize = 4;
-    let mut prev = FIRST_PREV;
-    while at < end {
-        let tag = word::within::be32(b, at) ^ prev;
-        let next = at + tag::lfs_tag_dsize(tag) as usize;
-        if cursor::is_check(tag) {
-            if !commit_rules::check_fits(tag::lfs_tag_size(tag)) {
-                return false;
-            }
-            prev = cursor::flipped(tag);
-            at = next;
-        } else {
-            let rule = commit_rules::rule_of(true, tag::lfs_tag_type3(tag));
-            let Some(behind) = entered(rule, grows, count, tag) else {
-                return false;
-            };
-            count = behind;
-            grows = commit_rules::grows_after(rule, grows);
-            prev = tag;
-            at = next;
+    let mut ruled = Ruled::new(rules);
+    for logged in Tags::new(b, end) {
+        if !ruled.passes(logged) {
+            return false;
         }
     }
     true

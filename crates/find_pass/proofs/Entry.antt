@@ -59,15 +59,15 @@ module _ (b : List ℕ) (at t : ℕ) (f : Followable b at t) (h : tag_type1 t �
 -- ---- creates, deletes and all others; x is the type that the code read
 module _ (q : Option Load → Bool) (t : ℕ) (d : List ℕ) (j x : ℕ) (ej : j ≡ tag_id t) (ex : x ≡ tag_type3 t)
     (old : List ℕ) (any : Bool) where
-  pub create_followed : (new : List ℕ) → x ≡ type_create → Keeps old any new any (made j)
-      → Keeps old any new any (marked q (act t d))
+  pub create_followed : (new : List ℕ) (still : Bool) → x ≡ type_create → Keeps old any new still (made j)
+      → Keeps old any new still (marked q (act t d))
   unfolding marked
-  create_followed new h k = rw (act_create t d (sym ex ∙ h), ← ej) k
+  create_followed new still h k = rw (act_create t d (sym ex ∙ h), ← ej) k
 
-  pub delete_followed : (new : List ℕ) → x ≡ type_delete → Keeps old any new any (removed j)
-      → Keeps old any new any (marked q (act t d))
+  pub delete_followed : (new : List ℕ) (still : Bool) → x ≡ type_delete → Keeps old any new still (removed j)
+      → Keeps old any new still (marked q (act t d))
   unfolding marked
-  delete_followed new h k = rw (act_delete t d (sym ex ∙ h), ← ej) k
+  delete_followed new still h k = rw (act_delete t d (sym ex ∙ h), ← ej) k
 
   other_same : tag_type1 t ≢ type_name → x ≢ type_create → x ≢ type_delete → (f : ℕ → Bool) (i : ℕ)
       → marked q (act t d) f i ≡ f i

@@ -55,10 +55,10 @@ module _ (old : List ℕ) (any : Bool) (id : ℕ) (f : ℕ → Bool) (h : Holds 
   pub removed_still : any ≡ false → Holds old any (removed id f)
   removed_still e = rw e (stays old f (removed id f) (rw e at h) (removed_none id f (h.never e)))
 
-  pub named_still : (is : Bool) → any || is ≡ false → Holds old false (assigned id is f)
+  pub named_still : (is : Bool) → any || is ≡ false → Holds old any (assigned id is f)
   named_still is e =
       let n = neither any is e in
-      rw n.1 (stays old f (assigned id false f) (rw n.0 at h) (assigned_none id f (h.never n.0)))
+      rw (n.0, n.1) (stays old f (assigned id false f) (rw n.0 at h) (assigned_none id f (h.never n.0)))
 
   module _ (new : List ℕ) where
     never_true : {A : Type 0} → any ≡ true → any ≡ false → A

@@ -1,17 +1,17 @@
 -- A turn of the pass, and what it keeps. Assumes nothing.
 use mathlib.Core.Path.{◌≡◌, refl, sym, ap, ◌∙◌}
-use mathlib.Core.Bool.{Bool, true, false}
+use mathlib.Core.Bool.{Bool, true, false, cond}
 use mathlib.Core.List.{List, []}
-use Prim.Native.Nat.{ℕ, ◌+◌, ◌-◌, ◌/◌, ◌%◌, ◌^◌, ◌≤◌}
+use Prim.Native.Nat.{ℕ, ◌-◌, ◌/◌, ◌%◌, ◌^◌, ◌≤◌}
 use native.Mathlib.Omega.{arith}
 use native.Mathlib.Nat.{zero-div}
 use lib.ListN.{length, drop, replicate, get_or-replicate}
 use lib.Dec.{eqb}
 use Rattle.format.specs.Word.{all_ones}
 use Rattle.format.specs.Tag.{tag_type3}
-use Rattle.format.specs.Walk.{Event, chk, body_of}
+use Rattle.format.specs.Walk.{Event, body_of}
 use Rattle.format.specs.Log.{log}
-use Rattle.format.specs.Regular.{Rule, grows_after, grows, logged_rule, count_at, Regular}
+use Rattle.format.specs.Regular.{logged_rule, count_at, Regular}
 use Rattle.format.specs.Directory.{Load, Slot, act, acts, apply, apply_all, dir, dir_of}
 use Rattle.format.specs.Find.{is_named, find_in}
 use Rattle.format.specs.declared.Rules.{Rules}
@@ -22,8 +22,13 @@ use Rattle.theory.specs.Lookup.SlotCount.{slots_after, length_apply}
 use Rattle.theory.specs.Rules.RuledEntry as entry
 use Rattle.theory.specs.Rules.RuledEntry.{ruled, rule_says}
 use Rattle.commit_regular.specs.Ends.{CommittedTo}
-use Rattle.commit_regular.proofs.Place.{rest}
-use Rattle.commit_regular.proofs.Turn.{Ahead, Onward, Good, starts_ahead, starts_whole, no_more, all_regular}
+use Rattle.commit_regular.specs.Left.{Starts, left, Meets}
+use Rattle.commit_regular.specs.Ruled.{at_start, good, behind}
+use Rattle.commit_regular.specs.declared.Ruled.{Ruled}
+use Rattle.commit_regular.specs.declared.tags.Logged.{Logged}
+use Rattle.commit_regular.specs.declared.tags.Logged.TheVariants.{Entry, Check}
+use Rattle.commit_regular.specs.declared.tags.Tags.{Tags}
+use Rattle.commit_regular.proofs.Turn.{Ahead, begins, turn_on, all_regular}
 use Rattle.find_set.specs.Set.{has, lowest}
 use Rattle.find_pass.specs.Pass.{Holds, Keeps, marked, Followable, answered}
 use Rattle.find_pass.proofs.Kept.{name_kept}
@@ -31,15 +36,15 @@ use Rattle.find_pass.proofs.Flags.{flags, flags_past, flags_apply, lowest_named}
 use Rattle.std.specs.Prelude.{Err, Option, Result, None}
 use Rattle.format.specs.declared.Refusal.{Refusal}
 
--- ---- what the pass keeps: the log that is still to come, as every pass does; and of the slots as they are here, which
--- have the name
-pub record Going (b : List ℕ) (g₀ : Bool) (q : Option Load → Bool) (end : ℕ) (set : List ℕ) (any : Bool) (count : ℕ)
-    (g : Bool) (at prev : ℕ) : Type 0 where
-  pub ahead : Ahead b g₀ end count g at prev
+-- ---- what the pass keeps: the events that are left, as every pass does; and of the slots as they are here, which have
+-- the name
+pub record Going (b : List ℕ) (rules : Rules) (q : Option Load → Bool) (set : List ℕ) (any : Bool) (r : Ruled) (s : Tags)
+    : Type 0 where
+  pub ahead : Ahead b rules r s
   slots : List Slot
-  made : dir_of (log b) ≡ apply_all slots (acts (rest b at prev ahead.sum))
-  count' : length slots ≡ count
-  few : count ≤ 1_023
+  made : dir_of (log b) ≡ apply_all slots (acts (left s ahead.on.sum))
+  count' : length slots ≡ r.count
+  few : r.count ≤ 1_023
   holds : Holds set any (flags q slots)
 
 no_flags : (q : Option Load → Bool) → q None ≡ false → Holds (replicate 32 0) false (flags q [])
@@ -53,68 +58,76 @@ no_flags q never = record {
     zero_digit : (k : ℕ) → eqb (0 / 2 ^ k % 2) 1 ≡ false
     zero_digit k = rw (zero-div (2 ^ k))
 
-pub starts_going : (b : List ℕ) (q : Option Load → Bool) (end : ℕ) (g₀ : Bool) → q None ≡ false → CommittedTo b end
-    → Going b g₀ q end (replicate 32 0) false 0 g₀ 4 all_ones
+pub starts_going : (b : List ℕ) (rules : Rules) (q : Option Load → Bool) (end : ℕ) → q None ≡ false → CommittedTo b end
+    → (set : List ℕ) → set ≡ replicate 32 0 → (any : Bool) → any ≡ false → (r : Ruled) → r ≡ at_start rules
+    → (s : Tags) → Starts b 4 all_ones end s → Going b rules q set any r s
 unfolding dir_of dir
-starts_going b q end g₀ never k = record {
-  ahead = starts_ahead b end g₀ k;
-  slots = [];
-  made = dir_rev (acts (log b)) [] ∙ ap (λ (y : List Event). apply_all [] (acts y)) (starts_whole b end g₀ k);
-  count' = refl;
-  few = omega arith;
-  holds = no_flags q never;
-}
+starts_going b rules q end never k set es any ea r er s st =
+    let z = begins b end rules k r er s st in
+    record {
+      ahead = z.ahead;
+      slots = [];
+      made = dir_rev (acts (log b)) [] ∙ ap (λ (y : List Event). apply_all [] (acts y)) z.whole;
+      count' = rw er;
+      few = rw er (omega arith);
+      holds = rw (es, ea) (no_flags q never);
+    }
 
--- ---- a turn, where the event that stands here has passed its rule
-module _ (b : List ℕ) (g₀ : Bool) (q : Option Load → Bool) (never : q None ≡ false) (end : ℕ) (set : List ℕ)
-    (any : Bool) (count : ℕ) (g : Bool) (at prev : ℕ) (v : Going b g₀ q end set any count g at prev) where
-  -- a check
-  pub check_goes : (t x at' prev' : ℕ) → Onward b g₀ end count g at prev v.ahead (chk t x) count g at' prev'
-      → Going b g₀ q end set any count g at' prev'
+-- ---- a turn, where what stands here has passed its rule
+module _ (b : List ℕ) (rules : Rules) (q : Option Load → Bool) (never : q None ≡ false) (set : List ℕ) (any : Bool)
+    (r : Ruled) (s : Tags) (v : Going b rules q set any r s) (x : Bool) (h : x ≡ true) where
+  -- a check, or whatever is no entry
+  pub check_goes : (m : Logged) → ((t at : ℕ) → m ≡ Entry t at → ⊥) → (s' : Tags) → Meets s v.ahead.on m s' → x ≡ good r m
+      → (r' : Ruled) → r' ≡ cond x (behind r m) r → Going b rules q set any r' s'
   unfolding acts apply_all apply
-  check_goes t x at' prev' o = record {
-    ahead = o.ahead;
-    slots = v.slots;
-    made = v.made ∙ ap (λ (y : List Event). apply_all v.slots (acts y)) o.is;
-    count' = v.count';
-    few = v.few;
-    holds = v.holds;
-  }
+  check_goes (Entry t at) n s' m ex r' er = elim (n t at refl) [ ]
+  check_goes (Check t) n s' m ex r' er =
+      let o = turn_on b rules r s v.ahead (Check t) s' m x ex h r' er in
+      let e : r' ≡ r = er ∙ rw h in
+      record {
+        ahead = o.ahead;
+        slots = v.slots;
+        made = v.made ∙ ap (λ (y : List Event). apply_all v.slots (acts y)) o.is;
+        count' = rw e v.count';
+        few = rw e v.few;
+        holds = v.holds;
+      }
 
   -- an entry
-  module _ (t n : ℕ) (R : Rule) (c : ℕ) (e : Good b g₀ end count g at prev v.ahead t n R c) where
+  module _ (t at : ℕ) (s' : Tags) (m : Meets s v.ahead.on (Entry t at) s') (ex : x ≡ good r (Entry t at)) where
     body : List ℕ
     body = body_of t (drop at b)
 
-    passed : entry.Ruled g count (count_at g count t) (logged_rule t) t body
-    passed = ruled g (logged_rule t) count t body (rule_says (tag_type3 t) true) e.enters.holds
+    passed : entry.Ruled r.grows r.count (count_at r.grows r.count t) (logged_rule t) t body
+    passed = ruled r.grows (logged_rule t) r.count t body (rule_says (tag_type3 t) true) (sym ex ∙ h)
 
     pub entry_followable : Followable b at t
     entry_followable = record {
-      whole = e.inside;
-      kept = name_kept (logged_rule t) (count_at g count t) t (rule_says (tag_type3 t) true) e.enters.holds;
+      whole = rw v.ahead.block at m.stands.1;
+      kept = name_kept (logged_rule t) (count_at r.grows r.count t) t (rule_says (tag_type3 t) true) (sym ex ∙ h);
     }
 
-    pub entry_goes : (set' : List ℕ) (any' g' : Bool)
-        → Keeps set any set' any' (marked q (act t (body_of t (drop at b)))) → g' ≡ grows_after g R
-        → Going b g₀ q end set' any' c g' (at + n) t
+    pub entry_goes : (set' : List ℕ) (any' : Bool)
+        → Keeps set any set' any' (marked q (act t (body_of t (drop at b)))) → (r' : Ruled)
+        → r' ≡ cond x (behind r (Entry t at)) r → Going b rules q set' any' r' s'
     unfolding acts apply_all body
-    entry_goes set' any' g' keeps eg =
-        let o = e.onward g' eg in
+    entry_goes set' any' keeps r' er =
+        let o = turn_on b rules r s v.ahead (Entry t at) s' m x ex h r' er in
+        let e : r' ≡ behind r (Entry t at) = er ∙ rw h in
         let D : List Slot = v.slots in
-        let allowed : Allowed g (act t body) (length D) = rw v.count' passed.allowed in
+        let allowed : Allowed r.grows (act t body) (length D) = rw v.count' passed.allowed in
         let top : flags q D 1_024 ≡ false = flags_past q never D 1_024 (omega (arith, v.count', v.few)) in
         let held = keeps (flags q D) top v.holds in
         record {
           ahead = o.ahead;
           slots = apply D (act t body);
           made = v.made ∙ ap (λ (y : List Event). apply_all D (acts y)) o.is;
-          count' = length_apply g D (act t body) allowed
-              ∙ ap (λ (k : ℕ). slots_after k (act t body)) v.count' ∙ passed.slots ∙ sym e.enters.count';
-          few = rw e.enters.count' (passed.few v.few);
+          count' = rw e (length_apply r.grows D (act t body) allowed
+              ∙ ap (λ (k : ℕ). slots_after k (act t body)) v.count' ∙ passed.slots);
+          few = rw e (passed.few v.few);
           holds = record {
-            marks = λ i w. held.marks i w ∙ sym (flags_apply q never g D (act t body) allowed i);
-            never = λ z i. flags_apply q never g D (act t body) allowed i ∙ held.never z i;
+            marks = λ i w. held.marks i w ∙ sym (flags_apply q never r.grows D (act t body) allowed i);
+            never = λ z i. flags_apply q never r.grows D (act t body) allowed i ∙ held.never z i;
           };
         }
 
@@ -124,14 +137,13 @@ pub refused : (b : List ℕ) (r : Rules) (name : List ℕ) (kind : ℕ) → Regu
 unfolding find_in
 refused b r name kind h = rw h
 
--- and at the end; x is what `answer` answers
-pub ends : (b : List ℕ) (g₀ : Bool) (name : List ℕ) (kind end : ℕ) (set : List ℕ) (any : Bool) (count : ℕ) (g : Bool)
-    (at prev : ℕ) → Going b g₀ (is_named name kind) end set any count g at prev → end ≤ at → (r : Rules) → g₀ ≡ grows r
-    → (x : Result (Option ℕ) Refusal) → x ≡ answered (lowest 1_024 0 (has set)) → x ≡ find_in r name kind (log b)
+-- and at the end; x is what `lowest` answers
+pub ends : (b : List ℕ) (rules : Rules) (name : List ℕ) (kind : ℕ) (set : List ℕ) (any : Bool) (r : Ruled) (s : Tags)
+    → (v : Going b rules (is_named name kind) set any r s) → left s v.ahead.on.sum ≡ []
+    → (x : Result (Option ℕ) Refusal) → x ≡ answered (lowest 1_024 0 (has set)) → x ≡ find_in rules name kind (log b)
 unfolding find_in acts apply_all
-ends b g₀ name kind end set any count g at prev v l r er x ex =
-    let z = no_more b g₀ end count g at prev v.ahead l in
-    let n = all_regular b g₀ end count g at prev v.ahead l r er in
+ends b rules name kind set any r s v z x ex =
+    let n = all_regular b rules r s v.ahead z in
     let D : List Slot = v.slots in
     let d : dir_of (log b) ≡ D = v.made ∙ ap (λ (y : List Event). apply_all D (acts y)) z in
     let f = lowest_named name kind 1_024 0 D (has set) (omega (arith, v.count', v.few)) refl

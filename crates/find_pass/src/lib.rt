@@ -3,21 +3,19 @@
 // the log is known to end there, and are for the crates of this repository.
 #![tactic(auto)]
 
-ghost use Rattle.std.specs.Prelude.{◌≡◌, ◌+◌, ◌^◌, ◌≤◌, ◌<◌, length, take, drop};
+ghost use Rattle.std.specs.Prelude.{◌≡◌, ◌+◌, ◌≤◌, ◌<◌, false, length, take, drop, replicate};
 ghost use Rattle.std.specs.Prelude.{Some};
-ghost use Rattle.format.specs.Tag.{tag_type3, tag_id, tag_size};
+ghost use Rattle.format.specs.Tag.{tag_type3, tag_size};
 ghost use Rattle.format.specs.Log.{log};
 ghost use Rattle.format.specs.Walk.{body_of};
 ghost use Rattle.format.specs.Directory.{act};
 ghost use Rattle.format.specs.Find.{is_named, find_in};
-ghost use Rattle.format.specs.Regular.{count_raised};
-ghost use Rattle.commit_rules.specs.Rules.{rule_as, passed_by};
 ghost use Rattle.commit_regular.specs.Ends.{CommittedTo};
 ghost use Rattle.find_set.specs.Set.{has, made, removed, assigned, lowest};
 ghost use Rattle.find_pass.specs.Pass.{Keeps, marked, Followable, answered};
 
-use commit_rules::Rule;
-use fetch_walk::cursor;
+use commit_regular::Ruled;
+use commit_regular::tags::{Logged, Tags};
 use format::types::*;
 use format::{Refusal, Rules};
 
@@ -34,89 +32,86 @@ fn is_named(b: &[u8], from: usize, tag: u32, name: &[u8], kind: u32) -> bool
     &b[from..to] == name
 }
 
-// A slot is made at `id`. As long as no slot has had the name (`any`), there is nothing to move.
-fn make(set: &mut [u32; 32], any: bool, id: u32)
-    requires { id < 1_024 }
-    ensures { Keeps set.old any set.new any (made id) }
-{
-    if any {
-        find_set::insert(set, id);
-    }
-}
-
-// The slot `id` is removed.
-fn remove(set: &mut [u32; 32], any: bool, id: u32)
-    requires { id < 1_024 }
-    ensures { Keeps set.old any set.new any (removed id) }
-{
-    if any {
-        find_set::remove(set, id);
-    }
-}
-
-// The slot `id` gets a name, which is the one that is asked for or another: an old one is forgotten. The answer is
-// whether any slot has had it.
-fn name(set: &mut [u32; 32], any: bool, id: u32, is: bool) -> bool
-    requires { id < 1_024 }
-    ensures { Keeps set.old any set.new result (assigned id is) }
-{
-    if any | is {
-        find_set::assign(set, id, is);
-        return true;
-    }
-    false
-}
-
-// What an entry at `at` that passed its rule does to the set.
-fn follow(
-    set: &mut [u32; 32],
+// The ids whose slots have the name that is asked for, one bit for each, and whether any slot has had it: as long as
+// none has, there is nothing to move.
+#[derive(Drop)]
+struct Named {
+    set: [u32; 32],
     any: bool,
-    b: &[u8],
-    at: usize,
-    tag: u32,
-    wanted: &[u8],
-    kind: u32,
-) -> bool
-    requires { Followable b.now at tag }
-    ensures { Keeps set.old any set.new result
-        (marked (is_named wanted.now kind) (act tag (body_of tag (drop at b.now)))) }
-{
-    let id = tag::lfs_tag_id(tag) as u32;
-    if tag::lfs_tag_type1(tag) == LFS_TYPE_NAME {
-        let is = is_named(b, at + 4, tag, wanted, kind);
-        return name(set, any, id, is);
-    }
-    let type3 = tag::lfs_tag_type3(tag);
-    if type3 == LFS_TYPE_CREATE {
-        make(set, any, id);
-        return any;
-    }
-    if type3 == LFS_TYPE_DELETE {
-        remove(set, any, id);
-    }
-    any
 }
 
-// "the lowest id .. or none"
-fn answer(set: &[u32; 32]) -> Result<Option<u32>, Refusal>
-    ensures { result ≡ answered (lowest 1_024 0 (has set.now)) }
-{
-    let id = find_set::first(set);
-    if id < 1024 {
-        return Ok(Some(id));
+impl Named {
+    // None has it yet.
+    fn none() -> Self
+        ensures set { result.set ≡ replicate 32 0 }
+        ensures any { result.any ≡ false }
+    {
+        Named {
+            set: [0; 32],
+            any: false,
+        }
     }
-    Ok(None)
-}
 
-// The count behind an entry, or that it is bad, where the count is `count` before it and names may make slots or not:
-// as in `commit_regular`, which says why there are two.
-fn entered(rule: Rule, grows: bool, count: u32, tag: u32) -> Option<u32>
-    ensures { result ≡ passed_by (rule_as rule) (count_raised grows (rule_as rule) count (tag_id tag)) (tag_id tag)
-        (tag_size tag) }
-{
-    let id = tag::lfs_tag_id(tag) as u32;
-    let raised = commit_rules::raised(rule, grows, count, id);
-    commit_rules::count_behind(rule, raised, id, tag::lfs_tag_size(tag))
+    // A slot is made at `id`.
+    fn make(&mut self, id: u32)
+        requires { id < 1_024 }
+        ensures { Keeps self.old.set self.old.any self.new.set self.new.any (made id) }
+    {
+        if self.any {
+            find_set::insert(&mut self.set, id);
+        }
+    }
+
+    // The slot `id` is removed.
+    fn remove(&mut self, id: u32)
+        requires { id < 1_024 }
+        ensures { Keeps self.old.set self.old.any self.new.set self.new.any (removed id) }
+    {
+        if self.any {
+            find_set::remove(&mut self.set, id);
+        }
+    }
+
+    // The slot `id` gets a name, which is the one that is asked for or another: an old one is forgotten.
+    fn name(&mut self, id: u32, is: bool)
+        requires { id < 1_024 }
+        ensures { Keeps self.old.set self.old.any self.new.set self.new.any (assigned id is) }
+    {
+        if self.any | is {
+            find_set::assign(&mut self.set, id, is);
+            self.any = true;
+        }
+    }
+
+    // What an entry at `at` that passed its rule does to them.
+    fn follow(&mut self, b: &[u8], at: usize, tag: u32, wanted: &[u8], kind: u32)
+        requires { Followable b.now at tag }
+        ensures { Keeps self.old.set self.old.any self.new.set self.new.any
+            (marked (is_named wanted.now kind) (act tag (body_of tag (drop at b.now)))) }
+    {
+        let id = tag::lfs_tag_id(tag) as u32;
+        if tag::lfs_tag_type1(tag) == LFS_TYPE_NAME {
+            self.name(id, is_named(b, at + 4, tag, wanted, kind));
+            return;
+        }
+        let type3 = tag::lfs_tag_type3(tag);
+        if type3 == LFS_TYPE_CREATE {
+            self.make(id);
+        } else if type3 == LFS_TYPE_DELETE {
+            self.remove(id);
+        }
+    }
+
+    // "the lowest id .. or none"
+    fn lowest(&self) -> Result<Option<u32>, Refusal>
+        ensures { result ≡ answered (lowest 1_024 0 (has self.now.set)) }
+    {
+        let id = find_set::first(&self.set);
+        if id < 1024 {
+            return Ok(Some(id));
+        }
+        Ok(None)
+    }
 }
 
 // The pass over the log that ends at `end`, by a rule: the lowest id whose name is the one that is asked for. The rules
@@ -131,32 +126,15 @@ pub fn find_in(
     requires { CommittedTo b.now end }
     ensures { result ≡ find_in rules wanted.now kind (log b.now) }
 {
-    let mut set = [0u32; 32];
-    let mut any = false;
-    let mut count: u32 = 0;
-    let mut grows = commit_rules::grows(rules);
-    let mut at: usize = 4;
-    let mut prev = FIRST_PREV;
-    while at < end {
-        let tag = word::within::be32(b, at) ^ prev;
-        let next = at + tag::lfs_tag_dsize(tag) as usize;
-        if cursor::is_check(tag) {
-            if !commit_rules::check_fits(tag::lfs_tag_size(tag)) {
-                return Err(Refusal::Irregular);
-            }
-            prev = cursor::flipped(tag);
-            at = next;
-        } else {
-            let rule = commit_rules::rule_of(true, tag::lfs_tag_type3(tag));
-            let Some(behind) = entered(rule, grows, count, tag) else {
-                return Err(Refusal::Irregular);
-            };
-            any = follow(&mut set, any, b, at, tag, wanted, kind);
-            count = behind;
-            grows = commit_rules::grows_after(rule, grows);
-            prev = tag;
-            at = next;
+    let mut named = Named::none();
+    let mut ruled = Ruled::new(rules);
+    for logged in Tags::new(b, end) {
+        if !ruled.passes(logged) {
+            return Err(Refusal::Irregular);
+        }
+        if let Logged::Entry(tag, at) = logged {
+            named.follow(b, at, tag, wanted, kind);
         }
     }
-    answer(&set)
+    named.lowest()
 }

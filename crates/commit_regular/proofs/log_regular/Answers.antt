@@ -1,94 +1,31 @@
--- `commit_regular::log_regular` meets its contract. The loop keeps that the log is regular if what is still to come is
--- (`Ahead`); what is left of the block falls. Assumes nothing.
+-- `commit_regular::log_regular` meets its contract. The loop keeps that the log is regular if what is left of it is
+-- (`Ahead`). Assumes nothing.
 use mathlib.Core.Path.{sym}
-use Prim.Native.Nat.{◌-◌}
-use native.Mathlib.Omega.{arith}
-use Rattle.commit_regular.proofs.Turn.{starts_ahead, word_inside, tag_small, tag_inside}
-use Rattle.commit_regular.proofs.Turn.{turn_unchecked, turn_check, turn_bad, turn_entry, all_regular}
-use Rattle.std.proofs.Common.{ap, not}
+use Rattle.commit_regular.proofs.Turn.{begins, all_regular, turn_bad, turn_on}
 use Rattle.commit_regular.proofs.log_regular.Goals as goal
 
-pub loop-at-init : goal.loop-at-init
-loop-at-init c = starts_ahead _ _ _ c.requires
+pub loop-logged-init : goal.loop-logged-init
+loop-logged-init c = (
+  tt,
+  tt,
+  rw c.into_iter-logged-iterator.ensures.into_iter_gives
+      (begins _ _ _ c.requires _ c.new-ruled.ensures _ c.new-logged-items.ensures).ahead,
+)
 
-pub be32-requires : goal.be32-requires
-be32-requires c = word_inside _ _ _ _ _ _ _ c.loop-at.invariant c.loop-at-test.true
+pub returns-then-not-passes : goal.returns-then-not-passes
+returns-then-not-passes c = sym (turn_bad _ _ _ _ c.loop-logged.invariant.2 _ _
+    (c.in-Some.ensures.steps _) _ c.passes.ensures.good c.if-not-passes.true)
 
-pub overflow_add-next : goal.overflow_add-next
-overflow_add-next c =
-    let t = tag_inside _ _ _ _ _ _ _ c.loop-at.invariant c.loop-at-test.true _
-    c.be32.ensures _ c.lfs_tag_dsize.ensures in
-    omega (arith, t.0)
-
-pub returns-then-not-check_fits : goal.returns-then-not-check_fits
-returns-then-not-check_fits c = sym (turn_unchecked _ _ _ _ _ _ _
-    c.loop-at.invariant
-    c.loop-at-test.true _
-    c.be32.ensures _
-    c.lfs_tag_dsize.ensures _
-    c.is_check.ensures c.if-is_check.true _
-    c.lfs_tag_size.ensures _ c.check_fits.ensures (ap not c.if-not-check_fits.true) _
-    c.grows-grows.ensures)
-
-pub flipped-prev-requires : goal.flipped-prev-requires
-flipped-prev-requires c = tag_small _ _ _ _ _ _ _
-    c.loop-at.invariant
-    c.loop-at-test.true _
-    c.be32.ensures
-
-pub loop-at-smaller-then-is_check : goal.loop-at-smaller-then-is_check
-loop-at-smaller-then-is_check c =
-    let t = tag_inside _ _ _ _ _ _ _
-    c.loop-at.invariant
-    c.loop-at-test.true _
-    c.be32.ensures _
-    c.lfs_tag_dsize.ensures in
-    omega (arith, t.1)
-
-pub loop-at-preserved-then-is_check : goal.loop-at-preserved-then-is_check
-loop-at-preserved-then-is_check c = (turn_check _ _ _ _ _ _ _
-    c.loop-at.invariant
-    c.loop-at-test.true _
-    c.be32.ensures _
-    c.lfs_tag_dsize.ensures _
-    c.is_check.ensures c.if-is_check.true _
-    c.lfs_tag_size.ensures _ c.check_fits.ensures
-    (ap not c.if-not-check_fits.false) _ c.flipped-prev.ensures).ahead
-
-pub returns-in_default : goal.returns-in_default
-returns-in_default c = sym (turn_bad _ _ _ _ _ _ _
-    c.loop-at.invariant
-    c.loop-at-test.true _
-    c.be32.ensures _
-    c.lfs_tag_dsize.ensures _
-    c.is_check.ensures
-    c.if-is_check.false _
-    c.lfs_tag_type3.ensures _ c.rule_of-rule.ensures _
-    c.entered.ensures (sym c.in_default.is) _
-    c.grows-grows.ensures)
-
-pub loop-at-smaller : goal.loop-at-smaller
-loop-at-smaller c =
-    let t = tag_inside _ _ _ _ _ _ _
-    c.loop-at.invariant
-    c.loop-at-test.true _
-    c.be32.ensures _
-    c.lfs_tag_dsize.ensures in
-    omega (arith, t.1)
-
-pub loop-at-preserved : goal.loop-at-preserved
-loop-at-preserved c = ((turn_entry _ _ _ _ _ _ _
-    c.loop-at.invariant
-    c.loop-at-test.true _
-    c.be32.ensures _
-    c.lfs_tag_dsize.ensures _
-    c.is_check.ensures
-    c.if-is_check.false _
-    c.lfs_tag_type3.ensures _
-    c.rule_of-rule.ensures _
-    c.entered.ensures _ (sym c.in-Some.is)).onward _
-    c.grows_after-grows.ensures).ahead
+pub loop-logged-preserved : goal.loop-logged-preserved
+loop-logged-preserved c =
+    (
+      tt,
+      tt,
+      (turn_on _ _ _ _ c.loop-logged.invariant.2 _ _ (c.in-Some.ensures.steps _) _ c.passes.ensures.good
+          c.if-not-passes.false _ c.passes.ensures.self_after).ahead,
+    )
 
 pub returns : goal.returns
-returns c = sym (all_regular _ _ _ _ _ _ _ c.loop-at.invariant c.loop-at-test.false _
-    c.grows-grows.ensures)
+returns c =
+    let ahead = c.loop-logged.invariant.2 in
+    sym (all_regular _ _ _ _ ahead (c.in-None.ensures.steps ahead.on))

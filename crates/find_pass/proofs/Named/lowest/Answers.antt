@@ -1,6 +1,6 @@
--- `find_pass::answer` meets its contract. Assumes nothing.
+-- `find_pass::Named::lowest` meets its contract. Assumes nothing.
 use borrow.Author.Tests.{lt-ltb, le-ltb}
-use Rattle.find_pass.proofs.answer.Goals as goal
+use Rattle.find_pass.proofs.Named.lowest.Goals as goal
 
 pub returns-then-id-lt1024 : goal.returns-then-id-lt1024
 returns-then-id-lt1024 c = rw (← c.first-id.ensures, lt-ltb _ 1_024 c.if-id-lt1024.true)
