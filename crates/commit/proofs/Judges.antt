@@ -7,9 +7,9 @@ use Prim.Native.Nat.{ℕ, suc, ◌+◌, ◌*◌, ◌^◌, ◌≤◌, ◌<◌}
 use native.Mathlib.Nat.{add-zero}
 use native.Mathlib.Numerals.{add-one}
 use native.Mathlib.Omega.{arith}
-use lib.ListN.{length, take, get_or}
+use lib.ListN.{length}
 use Rattle.std.specs.Prelude.{Result, Ok, Err, fold}
-use Rattle.std.proofs.lemmas.List.Folds.{fold_stuck, fold_stays}
+use Rattle.std.proofs.lemmas.List.Folds.{fold_stays}
 use Rattle.format.specs.Word.{to_be32, xor, plus32}
 use Rattle.format.specs.Tag.{tag_length, mk_tag, tag_of}
 use Rattle.format.specs.Crc.{crc}
@@ -54,7 +54,7 @@ behind dat j e =
     (crc j.sum (to_be32 (xor (entry_item dat e).tag j.prev) ++ entry_body dat e))
 
 module _ (dat : List ℕ) (j : Judging) (e : Entry) where
-  judged_cases : judged_of j dat e
+  judged_cases : judged_of j dat e.kind e.id e.off e.len
       ≡ cond (entry_holds dat j.count e)
       (Ok (summed_of j (count_after (entry_rule e) j.count) (mk_tag e.kind e.id e.len)
       (body_of dat e.off e.len)))
@@ -78,12 +78,12 @@ module _ (dat : List ℕ) (j : Judging) (e : Entry) where
       go false k = refl
 
   pub judged_bad : entry_holds dat j.count e ≡ false
-      → judged_of j dat e ≡ Err (BadEntry j.index)
+      → judged_of j dat e.kind e.id e.off e.len ≡ Err (BadEntry j.index)
   judged_bad h = judged_cases ∙ rw h
 
   pub judged_behind : (low : j.count ≤ most_slots) (h : entry_holds dat j.count e ≡ true) → j.index + 1 < 2 ^ 32
       → j.size + 1_026 < 2 ^ 32
-      → judged_of j dat e ≡ Ok (behind dat j e)
+      → judged_of j dat e.kind e.id e.off e.len ≡ Ok (behind dat j e)
   unfolding summed_of
   judged_behind low h hi hs =
       let g = good_entry dat j.count e low h in
@@ -96,14 +96,6 @@ module _ (dat : List ℕ) (j : Judging) (e : Entry) where
       judged_cases ∙ rw (h, et, body_is dat e, ei, en)
 
 -- ---- the pass
--- the entries as far as i are good, and the next one is bad
-pub stops : (es : List Entry) (dat : List ℕ) (j0 j : Judging) (i : ℕ) (d : Entry) (r : Refusal) → i < length es
-    → Ok j ≡ judged_all (take i es) dat j0 → judged_of j dat (get_or es i d) ≡ Err r → Err r ≡ judged_all es dat j0
-stops es dat j0 j i d r h met fails =
-    fold_stuck (λ (u : Result Judging Refusal) (e : Entry). and_then u (λ k. judged_of k dat e)) (Err r) (λ e. refl)
-    (Ok j0) es i d h
-    (ap (λ (u : Result Judging Refusal). and_then u (λ k. judged_of k dat (get_or es i d))) (sym met) ∙ fails)
-
 abbrev pub after : Judging → List Item → ℕ → ℕ → Judging
 after j is n c = judging j (j.index + n) c (j.size + entries_length is) (last_tag j.prev is)
     (last_sum j.sum j.prev is)
@@ -128,7 +120,7 @@ judged_behind_to dat j e es (good c) =
 
 module _ (dat : List ℕ) where
   abbrev step : Result Judging Refusal → Entry → Result Judging Refusal
-  step u e = and_then u (λ k. judged_of k dat e)
+  step u e = and_then u (λ k. judged_of k dat e.kind e.id e.off e.len)
 
   pub judge_pass : (es : List Entry) (j : Judging) → j.count ≤ most_slots → j.index + length es < 2 ^ 32
       → j.size + 1_026 * length es < 2 ^ 32
@@ -144,7 +136,7 @@ module _ (dat : List ℕ) where
           → fold step (Ok (behind dat j e)) es
           ≡ judged_to (judge dat (j.index + 1) (count_after (entry_rule e) j.count) es)
           (behind dat j e) (items_of dat es) (length es))
-          → fold step (judged_of j dat e) es
+          → fold step (judged_of j dat e.kind e.id e.off e.len) es
           ≡ judged_to (cond b (judge dat (suc j.index) (count_after (entry_rule e) j.count) es)
           (bad j.index)) j (items_of dat (e ∷ es)) (length (e ∷ es))
       go false h ih = rw (judged_bad dat j e h) (fold_stays step (Err (BadEntry j.index)) (λ x. refl) es)

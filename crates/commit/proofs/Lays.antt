@@ -44,7 +44,7 @@ judged_tagged dat (e ∷ es) i c c' low h = go (entry_holds dat c e) refl h
 -- one entry, laid
 laid_item : (dat : List ℕ) (l : Laying) (b : List ℕ) (e : Entry)
     → mk_tag e.kind e.id e.len ≡ tag_of e.kind e.id e.len
-    → laid_of l b dat e
+    → laid_of l b dat e.kind e.id e.off e.len
     ≡ laid_to l (entry_item dat e).tag
     (puts_of (laid l.run b) (to_be32 (xor (entry_item dat e).tag l.prev) ++ (entry_item dat e).body))
 unfolding laid_of lay_of

@@ -3,6 +3,7 @@
 pub mod Chained
 pub mod Judges
 pub mod Lays
+pub mod Walks
 pub mod Whole
 -- The laws that the answers cite.
 pub mod Rules

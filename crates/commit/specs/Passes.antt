@@ -1,5 +1,5 @@
 -- The two passes over a list of entries, and all of a commit's steps. Assumes nothing.
-use Rattle.std.specs.Prelude.{Bool, true, false, List, ℕ, length, fold, Result, Ok, Err}
+use Rattle.std.specs.Prelude.{Bool, true, false, List, [], ◌∷◌, ℕ, length, fold, Result, Ok, Err}
 use Rattle.format.specs.Lookup.{block_of}
 use Rattle.format.specs.Writer.{block_at, is_second}
 use Rattle.format.specs.declared.Geometry.{Geometry}
@@ -9,9 +9,21 @@ use Rattle.commit_steps.specs.Steps.{Onto, onto, and_then, begun_of, judged_of, 
 use Rattle.commit_steps.specs.declared.Judging.{Judging}
 use Rattle.commit_steps.specs.declared.Laying.{Laying}
 
+-- a walk over the entries by a pass with the steps S, from p on: it answers r, and leaves q
+pub data Walked {P B : Type 0} (S : P → List ℕ → ℕ → ℕ → ℕ → ℕ → Result Unit B → P → Type 0) (dat : List ℕ)
+    : List Entry → P → Result Unit B → P → Type 0 where
+  -- behind the last entry
+  done : {p : P} → Walked S dat [] p (Ok tt) p
+  -- a step that ends the walk
+  ends : {e : Entry} {es : List Entry} {p q : P} {x : B} → S p dat e.kind e.id e.off e.len (Err x) q
+      → Walked S dat (e ∷ es) p (Err x) q
+  -- a step that it goes on from
+  goes : {e : Entry} {es : List Entry} {p m q : P} {r : Result Unit B} → S p dat e.kind e.id e.off e.len (Ok tt) m
+      → Walked S dat es m r q → Walked S dat (e ∷ es) p r q
+
 -- the first pass: every entry is judged, up to the first bad one
 abbrev pub judged_all : List Entry → List ℕ → Judging → Result Judging Refusal
-judged_all es dat j = fold (λ r e. and_then r (λ k. judged_of k dat e)) (Ok j) es
+judged_all es dat j = fold (λ r e. and_then r (λ k. judged_of k dat e.kind e.id e.off e.len)) (Ok j) es
 
 -- begin, the first pass, and what is between the passes: a refusal, or what is to be laid; `byte` is the erased one
 unfoldable pub decided_of : Geometry → List ℕ → List ℕ → ℕ → ℕ → ℕ → ℕ → ℕ → ℕ → List Entry → List ℕ → ℕ
@@ -22,7 +34,7 @@ decided_of g b0 b1 n0 n1 count seed rules byte es dat stores =
 
 -- the second pass: every entry is laid
 abbrev pub laid_all : List Entry → List ℕ → Onto → Onto
-laid_all es dat o = fold (λ u e. laid_of u.to u.block dat e) o es
+laid_all es dat o = fold (λ u e. laid_of u.to u.block dat e.kind e.id e.off e.len) o es
 
 -- and what is behind the entries
 unfoldable pub written_of : List Entry → List ℕ → Laying → List ℕ → Onto

@@ -8,27 +8,26 @@ ghost use Rattle.format.specs.Writer.{commit_of, commit_stores_of};
 ghost use Rattle.format.specs.Stopped.{CommitLeaves, CommitStoresLeaves};
 ghost use Rattle.sizes.specs.Lent.{of};
 ghost use Rattle.commit_steps.specs.Steps.{onto};
-ghost use Rattle.commit.specs.Passes.{judged_all, decided_of, laid_all, written_of, left, ran_of};
+ghost use Rattle.commit.specs.Passes.{Walked, decided_of, written_of, left, ran_of};
 
-use commit_steps::{Judging, Laying};
+use commit_steps::{Laying, LayingOnto, Pass};
 use fetch::lfs_dir_refetch;
 use format::types::UNLIMITED;
 use format::{Entry, Fetched, Geometry, Refusal};
 use sizes::Pair;
 
-// The first pass: every entry is judged, up to the first bad one.
-fn judge_all(entries: &[Entry], dat: &[u8], begun: Judging) -> Result<Judging, Refusal>
-    ensures { result ≡ judged_all entries.now dat.now begun }
+// The one walker over the list: it hands each entry's plain numbers to the pass, up to what ends the pass.
+fn each<P: Pass>(entries: &[Entry], dat: &[u8], pass: &mut P) -> Result<(), P::Bad>
+    ensures { Walked P.steps dat.now entries.now pass.old result pass.new }
 {
-    let mut j = begun;
     for e in entries {
-        j = commit_steps::judge_entry(j, dat, *e)?;
+        pass.entry(dat, e.kind, e.id, e.off, e.len)?;
     }
-    Ok(j)
+    Ok(())
 }
 
 // Whether the commit is refused, and else what is to be laid into the block that answers.
-#[tactic(auto, unfolding(crate::specs::Passes::decided_of))]
+#[tactic(auto, using(crate::proofs::Walks::walked_judged), unfolding(crate::specs::Passes::decided_of))]
 fn decide(
     pair: Pair,
     block_count: u32,
@@ -42,29 +41,23 @@ fn decide(
     ensures { result ≡ of pair.entry decided_of block_count seed rules erased
         entries.now dat.now stores }
 {
-    let begun = commit_steps::begin(pair, block_count, seed, rules, erased, entries.len(), dat)?;
-    let judged = judge_all(entries, dat, begun)?;
-    let b = pair.block_of(judged.old.dir);
-    commit_steps::place(erased, judged, pair.g.prog_size, b, stores)
+    let mut j = commit_steps::begin(pair, block_count, seed, rules, erased, entries.len(), dat)?;
+    each(entries, dat, &mut j)?;
+    let b = pair.block_of(j.old.dir);
+    commit_steps::place(erased, j, pair.g.prog_size, b, stores)
 }
 
-// The second pass: every entry is laid.
-fn lay_all(b: &mut [u8], entries: &[Entry], dat: &[u8], decided: Laying) -> Laying
-    ensures { onto result b.new ≡ laid_all entries.now dat.now (onto decided b.old) }
-{
-    let mut l = decided;
-    for e in entries {
-        l = commit_steps::lay_entry(b, l, dat, *e);
-    }
-    l
-}
-
-// Every entry, and what is behind them.
-#[tactic(auto, unfolding(crate::specs::Passes::written_of))]
+// Every entry, and what is behind them. Nothing ends the second pass early, so `Ok` is all that the walker answers.
+#[tactic(auto, using(crate::proofs::Walks::walked_laid), unfolding(crate::specs::Passes::written_of))]
 fn write(b: &mut [u8], entries: &[Entry], dat: &[u8], decided: Laying) -> Laying
     ensures { onto result b.new ≡ written_of entries.now dat.now decided b.old }
 {
-    let laid = lay_all(b, entries, dat, decided);
+    let mut onto = LayingOnto {
+        laying: decided,
+        block: b,
+    };
+    let Ok(()) = each(entries, dat, &mut onto);
+    let laid = onto.laying;
     commit_steps::seal(b, laid)
 }
 

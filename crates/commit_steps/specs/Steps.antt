@@ -1,6 +1,6 @@
 -- A commit's steps as the code makes them, each as what it answers: a refusal, or what the next one goes on from.
 -- Assumes nothing.
-use Rattle.std.specs.Prelude.{ℕ, ◌+◌, Bool, false, cond, not, List, ◌++◌, length, nat_lt}
+use Rattle.std.specs.Prelude.{◌≡◌, ℕ, ◌+◌, Bool, false, cond, not, List, ◌++◌, length, nat_lt}
 use Rattle.std.specs.Prelude.{Err, Ok, Result, None, Option, Some}
 use Rattle.format.specs.Word.{to_be32, to_le32, xor, all_ones, plus32}
 use Rattle.format.specs.Tag.{tag_length, mk_tag}
@@ -15,7 +15,6 @@ use Rattle.format.specs.Room.{room_of}
 use Rattle.format.specs.Writer.{rounded_end, check_size, forward_tag, forward_item, carried_for, commit_fits}
 use Rattle.format.specs.declared.Rules.{Rules}
 use Rattle.format.specs.declared.Geometry.{Geometry}
-use Rattle.format.specs.declared.Entry.{Entry}
 use Rattle.format.specs.declared.Fetched.{Fetched}
 use Rattle.format.specs.declared.LfsFcrc.{LfsFcrc}
 use Rattle.format.specs.declared.Refusal.{Refusal}
@@ -24,6 +23,7 @@ use Rattle.commit_rules.specs.Rules.{counted_by}
 use Rattle.commit_lay.specs.Laid.{Laid, laid, puts_of, body_of, in_buffer_of}
 use Rattle.commit_steps.specs.declared.Judging.{Judging}
 use Rattle.commit_steps.specs.declared.Laying.{Laying}
+use Rattle.commit_steps.specs.declared.LayingOnto.{LayingOnto}
 
 -- what is laid, and the block that it is laid onto
 pub record Onto : Type 0 where
@@ -78,10 +78,10 @@ abbrev pub judged_as : Option ℕ → Bool → Judging → ℕ → List ℕ → 
 judged_as None inside j t body = Err (BadEntry j.index)
 judged_as (Some count) inside j t body = cond inside (Ok (summed_of j count t body)) (Err (BadEntry j.index))
 
-unfoldable pub judged_of : Judging → List ℕ → Entry → Result Judging Refusal
-judged_of j dat e =
-    judged_as (counted_by false e.kind j.count e.id e.len) (in_buffer_of dat e.off e.len) j
-    (mk_tag e.kind e.id e.len) (body_of dat e.off e.len)
+unfoldable pub judged_of : Judging → List ℕ → (kind id off len : ℕ) → Result Judging Refusal
+judged_of j dat kind id off len =
+    judged_as (counted_by false kind j.count id len) (in_buffer_of dat off len) j (mk_tag kind id len)
+    (body_of dat off len)
 
 -- behind the forward check
 unfoldable pub forward_summed : Judging → LfsFcrc → Judging
@@ -128,8 +128,13 @@ laid_to l prev s = onto (record {
 unfoldable pub lay_of : Laying → List ℕ → ℕ → List ℕ → Onto
 lay_of l b t body = laid_to l t (puts_of (laid l.run b) (to_be32 (xor t l.prev) ++ body))
 
-unfoldable pub laid_of : Laying → List ℕ → List ℕ → Entry → Onto
-laid_of l b dat e = lay_of l b (mk_tag e.kind e.id e.len) (body_of dat e.off e.len)
+unfoldable pub laid_of : Laying → List ℕ → List ℕ → (kind id off len : ℕ) → Onto
+laid_of l b dat kind id off len = lay_of l b (mk_tag kind id len) (body_of dat off len)
+
+-- q is p with an entry laid, in the same block
+pub record LaidBehind (p : LayingOnto) (dat : List ℕ) (kind id off len : ℕ) (q : LayingOnto) : Type 0 where
+  pub block : q.block.ghost_name ≡ p.block.ghost_name
+  pub behind : onto q.laying q.block.now ≡ laid_of p.laying p.block.now dat kind id off len
 
 -- ---- behind the entries
 -- the forward check, laid

@@ -1,21 +1,22 @@
 // A commit, step by step: what is done before its entries, with each entry, between the two passes over them, and
-// behind them. What a pass knows goes in and comes back by value, so no scratch memory is needed. What judges only
-// reads, and answers a refusal or what goes on; what lays is lent the one block that answers, and can't refuse.
+// behind them. What a pass knows is one value that it steps, so no scratch memory is needed. What judges only reads, and
+// answers a refusal or what goes on; what lays is lent the one block that answers, and can't refuse.
 #![tactic(auto)]
 
-ghost use Rattle.std.specs.Prelude.{◌≡◌, ◌-◌, ◌≤◌, length};
+ghost use Rattle.std.specs.Prelude.{◌≡◌, ◌-◌, ◌≤◌, ℕ, List, Result, Ok, length};
 ghost use Rattle.format.specs.Regular.{rules_of};
 ghost use Rattle.sizes.specs.Lent.{of};
 ghost use Rattle.commit_regular.specs.Ends.{CommittedTo};
 ghost use Rattle.commit_lay.specs.Laid.{body_of};
-ghost use Rattle.commit_steps.specs.Steps.{onto, begun_of, started_of, judged_of, summed_of, forward_summed};
-ghost use Rattle.commit_steps.specs.Steps.{placed_of, tested_of, laid_of, lay_of, forward_laid, checked_of, sealed_of};
+ghost use Rattle.commit_steps.specs.Steps.{onto, and_then, begun_of, started_of, judged_of, summed_of, forward_summed};
+ghost use Rattle.commit_steps.specs.Steps.{placed_of, tested_of, LaidBehind, lay_of, forward_laid, checked_of, sealed_of};
 
 use commit_lay::Run;
 use fetch::lfs_dir_fetch;
 use format::types::CRC_START;
-use format::{Entry, Fetched, LfsFcrc, Refusal, Rules};
+use format::{Fetched, LfsFcrc, Refusal, Rules};
 use sizes::Pair;
+use std::convert::Infallible;
 
 // "Lookup buffer and entry data at most 65,536 bytes each; at most 8,192 entries"
 const MOST_DATA: usize = 65_536;
@@ -44,6 +45,25 @@ pub struct Laying {
     pub fcrc: LfsFcrc,
     pub word: u32,
     pub sum: u32,
+}
+
+// The second pass with the block that it lays into.
+#[derive(Drop)]
+pub struct LayingOnto<'b> {
+    pub laying: Laying,
+    pub block: &'b mut [u8],
+}
+
+// A pass over the entries: what it does with each, which comes as plain numbers. `steps` says what that answers and
+// leaves.
+pub trait Pass {
+    // What ends the pass early.
+    type Bad;
+
+    ghost steps: { Self → List ℕ → ℕ → ℕ → ℕ → ℕ → Result Unit Self.Bad → Self → Type 0 };
+
+    fn entry(&mut self, dat: &[u8], kind: u16, id: u16, off: u32, len: u32) -> Result<(), Self::Bad>
+        ensures { steps self.old dat.now kind id off len result self.new };
 }
 
 // "Commit: -22, fetch's own refusals, -202". The rule by which the log must be regular is 0 or 1, "any other -22", and
@@ -92,18 +112,23 @@ fn start(b: &[u8], old: Fetched, rules: Rules) -> Result<Judging, Refusal>
     })
 }
 
-// "-201 | an entry is bad | index from 0 of the first bad one"
-#[tactic(auto, unfolding(crate::specs::Steps::judged_of))]
-pub fn judge_entry(j: Judging, dat: &[u8], e: Entry) -> Result<Judging, Refusal>
-    ensures { result ≡ judged_of j dat.now e }
-{
-    let bad = Refusal::BadEntry(j.index);
-    let count = commit_rules::counted(false, e.kind, j.count, e.id as u32, e.len).ok_or(bad)?;
-    if !commit_lay::in_buffer(dat, e.off, e.len) {
-        return Err(bad);
+// The first pass judges an entry: "-201 | an entry is bad | index from 0 of the first bad one".
+impl Pass for Judging {
+    type Bad = Refusal;
+
+    ghost steps = { λ j dat kind id off len r k. and_then r (λ _. Ok k) ≡ judged_of j dat kind id off len };
+
+    #[tactic(auto, unfolding(crate::specs::Steps::judged_of))]
+    fn entry(&mut self, dat: &[u8], kind: u16, id: u16, off: u32, len: u32) -> Result<(), Refusal> {
+        let bad = Refusal::BadEntry(self.index);
+        let count = commit_rules::counted(false, kind, self.count, id as u32, len).ok_or(bad)?;
+        if !commit_lay::in_buffer(dat, off, len) {
+            return Err(bad);
+        }
+        let tag = tag::lfs_mktag(kind as u32, id as u32, len);
+        *self = sum_up(*self, count, tag, dat, off, len);
+        Ok(())
     }
-    let tag = tag::lfs_mktag(e.kind as u32, e.id as u32, e.len);
-    Ok(sum_up(j, count, tag, dat, e.off, e.len))
 }
 
 // Behind a good entry: it is counted and summed.
@@ -185,13 +210,25 @@ fn test(
     })
 }
 
-// An entry as it was given.
-#[tactic(auto, unfolding(crate::specs::Steps::laid_of))]
-pub fn lay_entry(b: &mut [u8], l: Laying, dat: &[u8], e: Entry) -> Laying
-    ensures { onto result b.new ≡ laid_of l b.old dat.now e }
-{
-    let tag = tag::lfs_mktag(e.kind as u32, e.id as u32, e.len);
-    lay(b, l, tag, dat, e.off, e.len)
+// The second pass lays an entry as it was given, and can't refuse.
+impl Pass for LayingOnto<'_> {
+    type Bad = Infallible;
+
+    ghost steps = { λ p dat kind id off len r q. LaidBehind p dat kind id off len q };
+
+    #[tactic(auto, unfolding(crate::specs::Steps::laid_of))]
+    fn entry(
+        &mut self,
+        dat: &[u8],
+        kind: u16,
+        id: u16,
+        off: u32,
+        len: u32,
+    ) -> Result<(), Infallible> {
+        let tag = tag::lfs_mktag(kind as u32, id as u32, len);
+        self.laying = lay(self.block, self.laying, tag, dat, off, len);
+        Ok(())
+    }
 }
 
 // "tags chained as above, data"
