@@ -3,19 +3,13 @@
 #![tactic(auto)]
 
 use std::io;
-use text_args::Request;
 
 // The buffer has room for every text. A slot with a line has a struct of one byte or more, five bytes at least, and its
 // line without the name has at most 24; or a deadline, four bytes at least, and its line at most 23; or, where that
 // can't be read, both, nine bytes at least, and its line at most 35. A byte of a name shows at most four. So a line has
 // at most seven bytes more than four for each byte of its slot, of at most 1,023 slots: a block of 32,768 bytes shows
 // at most 4 * 32,768 + 7 * 1,023, and the three lines behind have at most 89 bytes.
-fn show(rt: &HostRuntime, ask: Request, pair: &[u8]) -> io::Result<()> {
-    let mut text = [0u8; 138_400];
-    let n = text_audit::lfs_dir_audit_as(ask.prog_size, ask.numbers, ask.rules, pair, &mut text);
-    text_print::whole(&mut rt.stdout(), &mut rt.stderr(), &text, n as usize)?;
-    Ok(())
-}
+const ROOM: usize = 138_400;
 
 fn main(rt: HostRuntime) -> io::Result<()> {
     let Some(ask) = text_args::asked(&rt, 1, true) else {
@@ -24,7 +18,7 @@ fn main(rt: HostRuntime) -> io::Result<()> {
             b"usage: audit [PROG_SIZE A B [RULES]], both images on standard input\n",
         );
     };
-    let mut pair = [0u8; 65_537];
-    let n = text_print::read_full(&mut rt.stdin(), &mut pair)?;
-    show(&rt, ask, &pair[..n])
+    text_print::of_pair::<ROOM, _>(&rt, |pair, text| {
+        text_audit::lfs_dir_audit_as(ask.prog_size, ask.numbers, ask.rules, pair, text)
+    })
 }

@@ -11,16 +11,10 @@ fn text(rt: &impl Print, words: &str) -> io::Result<()> {
     rt.print(words)
 }
 
-fn number(rt: &impl Print, label: &str, n: u32) -> io::Result<()> {
-    print!(rt; "{label}{n}")
-}
-
 // A word, and what the counts give.
 fn show(rt: &impl Print, a: u32) -> io::Result<()> {
-    print!(rt; "{a:08x}")?;
-    number(rt, " npw2 ", bits::lfs_npw2(a))?;
-    number(rt, " ctz ", bits::lfs_ctz(a))?;
-    number(rt, " popc ", bits::lfs_popc(a))?;
+    let (npw2, ctz, popc) = (bits::lfs_npw2(a), bits::lfs_ctz(a), bits::lfs_popc(a));
+    print!(rt; "{a:08x} npw2 {npw2} ctz {ctz} popc {popc}")?;
     if bits_shifts::agree(a) {
         text(rt, "\n")
     } else {
@@ -73,10 +67,6 @@ fn by_shifts(sum: u32, a: u32) -> u32 {
     )
 }
 
-fn sum_line(rt: &impl Print, label: &str, sum: u32) -> io::Result<()> {
-    println!(rt; "{label}{sum:08x}")
-}
-
 fn many(rt: &impl Print) -> io::Result<()> {
     let mut counts = 0xffff_ffffu32;
     let mut shifts = 0xffff_ffffu32;
@@ -85,9 +75,9 @@ fn many(rt: &impl Print) -> io::Result<()> {
         counts = by_counts(counts, a);
         shifts = by_shifts(shifts, a);
     }
-    number(rt, "words ", WORDS)?;
-    sum_line(rt, "\nby counts ", counts)?;
-    sum_line(rt, "by shifts ", shifts)
+    println!(rt; "words {}", WORDS)?;
+    println!(rt; "by counts {counts:08x}")?;
+    println!(rt; "by shifts {shifts:08x}")
 }
 
 fn main(rt: HostRuntime) -> io::Result<()> {

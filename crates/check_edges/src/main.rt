@@ -13,15 +13,8 @@ fn text(rt: &impl Print, bytes: &[u8]) -> io::Result<()> {
     rt.write_all(bytes)
 }
 
-fn number(rt: &impl Print, label: &str, n: u32) -> io::Result<()> {
-    print!(rt; "{label}{n}")
-}
-
 fn record(rt: &impl Print, m: LfsMdir) -> io::Result<()> {
-    number(rt, " rev ", m.rev)?;
-    number(rt, " end ", m.off)?;
-    number(rt, " count ", m.count as u32)?;
-    text(rt, b"\n")
+    println!(rt; " rev {} end {} count {}", m.rev, m.off, m.count)
 }
 
 fn refused(rt: &impl Print, r: Refusal) -> io::Result<()> {

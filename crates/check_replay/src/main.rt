@@ -166,7 +166,7 @@ fn same_mdir(m: LfsMdir, want: LfsMdir) -> bool {
     } == want
 }
 
-// -84, -22 and -2 as the list has them, in two's complement.
+// -84, -22 and -2 as the list has them, in two's complement: the test's own numbers, and not those that it tests.
 fn number(r: Refusal) -> u32 {
     match r {
         Refusal::Corrupt => 0xffff_ffac,
@@ -325,16 +325,12 @@ fn replayed<R: Read>(input: &mut R, head: [u8; 128], t: Tally) -> io::Result<Tal
     Ok(counted(t, kind, equal))
 }
 
-fn line(rt: &impl Print, label: &str, n: u32) -> io::Result<()> {
-    println!(rt; "{label}{n}")
-}
-
 fn report(rt: &impl Print, t: Tally) -> io::Result<()> {
-    line(rt, "lfs_dir_fetch ", t.fetches)?;
-    line(rt, "lfs_dir_getslice ", t.slices)?;
-    line(rt, "lfs_dir_getinfo ", t.infos)?;
-    line(rt, "lfs_dir_getgstate ", t.states)?;
-    line(rt, "different ", t.different)
+    println!(rt; "lfs_dir_fetch {}", t.fetches)?;
+    println!(rt; "lfs_dir_getslice {}", t.slices)?;
+    println!(rt; "lfs_dir_getinfo {}", t.infos)?;
+    println!(rt; "lfs_dir_getgstate {}", t.states)?;
+    println!(rt; "different {}", t.different)
 }
 
 // The list to its end, or a hundred thousand records.

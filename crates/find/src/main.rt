@@ -8,28 +8,23 @@ use text_args::Request;
 
 // The buffer has room for every text, which is a slot's part of a listing. An entry of 4 + n bytes shows at most
 // 4 * (4 + n), as there, and the slot's line of its own 18.
-fn show(rt: &HostRuntime, ask: Request, name: &[u8], kind: u32, pair: &[u8]) -> io::Result<()> {
-    let mut text = [0u8; 131_200];
-    let n = text_find::lfs_dir_find_as(
-        ask.prog_size,
-        ask.numbers,
-        ask.rules,
-        name,
-        kind,
-        pair,
-        &mut text,
-    );
-    text_print::whole(&mut rt.stdout(), &mut rt.stderr(), &text, n as usize)?;
-    Ok(())
-}
+const ROOM: usize = 131_200;
 
 // Of the type and the name that the first two arguments are. No argument of a process is longer than the buffer.
 fn find(rt: &HostRuntime, kind: u32, ask: Request) -> io::Result<()> {
     let mut name = [0u8; 131_072];
     let length = rt.arg(2, &mut name).unwrap_or(0);
-    let mut pair = [0u8; 65_537];
-    let n = text_print::read_full(&mut rt.stdin(), &mut pair)?;
-    show(rt, ask, &name[..length], kind, &pair[..n])
+    text_print::of_pair::<ROOM, _>(rt, |pair, text| {
+        text_find::lfs_dir_find_as(
+            ask.prog_size,
+            ask.numbers,
+            ask.rules,
+            &name[..length],
+            kind,
+            pair,
+            text,
+        )
+    })
 }
 
 // The type and what the pair is to be read as; nothing where the arguments are not understood.

@@ -4,18 +4,12 @@
 #![tactic(auto)]
 
 use std::io;
-use text_args::Request;
 
 // The buffer has room for every text. An entry of 4 + n bytes shows at most 4 * (4 + n): a byte of a name shows four,
 // an empty user attribute of four bytes a line of 16. A slot of its own shows 18, and there are at most 1,023, which by
 // littlefs's rule one name may make. So a block of 32,768 bytes shows less than 4 * 32,768 + 18 * 1,023, and the
 // record's lines have less than 128 bytes.
-fn show(rt: &HostRuntime, ask: Request, pair: &[u8]) -> io::Result<()> {
-    let mut text = [0u8; 150_000];
-    let n = text_listing::lfs_dir_list_as(ask.prog_size, ask.numbers, ask.rules, pair, &mut text);
-    text_print::whole(&mut rt.stdout(), &mut rt.stderr(), &text, n as usize)?;
-    Ok(())
-}
+const ROOM: usize = 150_000;
 
 fn main(rt: HostRuntime) -> io::Result<()> {
     let Some(ask) = text_args::asked(&rt, 1, true) else {
@@ -24,7 +18,7 @@ fn main(rt: HostRuntime) -> io::Result<()> {
             b"usage: list [PROG_SIZE A B [RULES]], both images on standard input\n",
         );
     };
-    let mut pair = [0u8; 65_537];
-    let n = text_print::read_full(&mut rt.stdin(), &mut pair)?;
-    show(&rt, ask, &pair[..n])
+    text_print::of_pair::<ROOM, _>(&rt, |pair, text| {
+        text_listing::lfs_dir_list_as(ask.prog_size, ask.numbers, ask.rules, pair, text)
+    })
 }

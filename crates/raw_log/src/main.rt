@@ -5,22 +5,11 @@
 
 use std::env::Env;
 use std::io;
-use text_args::Request;
 
 // Room for every text. Of what the walk meets a check with one byte behind it shows most for its length, a line of 71
 // bytes and one of 67 for five; so every byte of a block shows less than 28. The other lines of a block have less than
-// 300 bytes, and the last line has at most 30. A function of its own, so that no proof but its own sees so long an
-// array.
-fn room() -> [u8; 1_836_000] {
-    [0u8; 1_836_000]
-}
-
-fn show(rt: &HostRuntime, full: bool, ask: Request, pair: &[u8]) -> io::Result<()> {
-    let mut text = room();
-    let n = text_log::lfs_dir_log(full, ask.prog_size, ask.numbers, pair, &mut text);
-    text_print::whole(&mut rt.stdout(), &mut rt.stderr(), &text, n as usize)?;
-    Ok(())
-}
+// 300 bytes, and the last line has at most 30.
+const ROOM: usize = 1_836_000;
 
 // Whether the first argument is `--full`.
 fn asks_full(rt: &HostRuntime) -> bool {
@@ -38,7 +27,7 @@ fn main(rt: HostRuntime) -> io::Result<()> {
             b"usage: log [--full] [PROG_SIZE A B], both images on standard input\n",
         );
     };
-    let mut pair = [0u8; 65_537];
-    let n = text_print::read_full(&mut rt.stdin(), &mut pair)?;
-    show(&rt, full, ask, &pair[..n])
+    text_print::of_pair::<ROOM, _>(&rt, |pair, text| {
+        text_log::lfs_dir_log(full, ask.prog_size, ask.numbers, pair, text)
+    })
 }

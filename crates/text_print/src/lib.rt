@@ -1,7 +1,7 @@
 // A text on standard output, for the programs that show one, what such a program reads, and how it is used.
 #![tactic(auto)]
 
-ghost use Rattle.std.specs.Prelude.{◌≡◌, IfOk, OnOk, ◌<◌, ◌≤◌, length, leb, take};
+ghost use Rattle.std.specs.Prelude.{◌≡◌, IfOk, OnOk, ◌<◌, ◌≤◌, ◌^◌, length, leb, take};
 ghost use Rattle.std.specs.Io.{ReadsAtMost};
 ghost use Rattle.std.specs.Io.KnownBytes.{Appends, Consumes, Keeps};
 
@@ -50,4 +50,22 @@ pub fn read_full<R: Read>(reader: &mut R, buf: &mut [u8]) -> io::Result<usize>
         done += n;
     }
     Ok(done)
+}
+
+// What a program that shows a text of a pair does: both images are on standard input, one behind the other, of which
+// 65,537 bytes are read, so that a longer input is told from one of 65,536; and the text that `text_of` makes of them
+// goes to standard output. `ROOM` is the room for it, and `text_of` answers how much it would take.
+pub fn of_pair<const ROOM: usize, F: FnOnce(&[u8], &mut [u8]) -> u32>(
+    rt: &HostRuntime,
+    text_of: F,
+) -> io::Result<()>
+    requires room { ROOM < 2 ^ 63 }
+    requires callable { F.IsAlwaysCallable text_of }
+{
+    let mut pair = [0u8; 65_537];
+    let n = read_full(&mut rt.stdin(), &mut pair)?;
+    let mut text = [0u8; ROOM];
+    let length = text_of(&pair[..n], &mut text);
+    whole(&mut rt.stdout(), &mut rt.stderr(), &text, length as usize)?;
+    Ok(())
 }
