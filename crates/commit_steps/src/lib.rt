@@ -9,7 +9,8 @@ ghost use Rattle.sizes.specs.Lent.{of};
 ghost use Rattle.commit_regular.specs.Ends.{CommittedTo};
 ghost use Rattle.commit_lay.specs.Laid.{body_of};
 ghost use Rattle.commit_steps.specs.Steps.{onto, and_then, begun_of, started_of, judged_of, summed_of, forward_summed};
-ghost use Rattle.commit_steps.specs.Steps.{placed_of, tested_of, LaidBehind, lay_of, forward_laid, checked_of, sealed_of};
+ghost use Rattle.commit_steps.specs.Steps.{placed_of, tested_of, LaidBehind, lay_of, forward_laid, checked_of};
+ghost use Rattle.commit_steps.specs.Steps.{sealed_of};
 
 use commit_lay::Run;
 use fetch::lfs_dir_fetch;
