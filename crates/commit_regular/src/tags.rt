@@ -61,7 +61,7 @@ impl Iterator for Tags<'_> {
 
     ghost remaining = { λ s. at_most (s.end - s.at) };
 
-    // A pass over the log is a tenth to a third of a find, a commit or an index: a call for each tag would be seen in it.
+    // Each pass turns here once for each tag, so the step must not stay a call.
     #[inline(always)]
     fn next(&mut self) -> Option<Logged> {
         if self.end <= self.at {

@@ -63,7 +63,7 @@ impl Iterator for Back<'_> {
 
     ghost remaining = { λ s. at_most s.off };
 
-    // The walks turn some thousand times in a lookup: a call for each would be most of it.
+    // A lookup turns here once for each tag on its way, so the step must not stay a call.
     #[inline(always)]
     fn next(&mut self) -> Option<(usize, u32)> {
         let tag = self.tag;

@@ -17,13 +17,12 @@ returns-then-not-passes c = sym (turn_bad _ _ _ _ c.loop-logged.invariant.2 _ _
     (c.in-Some.ensures.steps _) _ c.passes.ensures.good c.if-not-passes.true)
 
 pub loop-logged-preserved : goal.loop-logged-preserved
-loop-logged-preserved c =
-    (
-      tt,
-      tt,
-      (turn_on _ _ _ _ c.loop-logged.invariant.2 _ _ (c.in-Some.ensures.steps _) _ c.passes.ensures.good
-          c.if-not-passes.false _ c.passes.ensures.self_after).ahead,
-    )
+loop-logged-preserved c = (
+  tt,
+  tt,
+  (turn_on _ _ _ _ c.loop-logged.invariant.2 _ _ (c.in-Some.ensures.steps _) _ c.passes.ensures.good
+      c.if-not-passes.false _ c.passes.ensures.self_after).ahead,
+)
 
 pub returns : goal.returns
 returns c =
