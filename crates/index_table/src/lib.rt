@@ -105,12 +105,11 @@ fn count(table: &[u32]) -> usize
     ensures result_value { 2 * result ≡ length (leading table.now) }
     ensures table_value { take (2 * result) table.now ≡ leading table.now }
 {
-    for i in 0..table.len() / 2 {
-        if table[2 * i] == 0 {
-            return i;
-        }
-    }
-    table.len() / 2
+    let (places, _) = table.as_chunks::<2>();
+    places
+        .iter()
+        .position(|place| place[0] == 0)
+        .unwrap_or(places.len())
 }
 
 // ---- what an entry does to a table
