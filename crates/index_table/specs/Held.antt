@@ -36,8 +36,8 @@ pub record Keeps (old new : Places) (F : List ℕ → List ℕ) : Type 0 where
 
 -- there is no room for what F makes of them, and the table is as it was
 pub record Lacks (old new : Places) (F : List ℕ → List ℕ) : Type 0 where
-  pub stays : Stays new old.table
-  pub has : (P : List ℕ) → Has old P → Has new P × (length old.table.now < length (F P))
+  pub same : new ≡ old
+  pub short : (P : List ℕ) → Has old P → length old.table.now < length (F P)
 
 -- the one or the other
 unfoldable pub Goes : (old new : Places) (r : Result Unit Refusal) (F : List ℕ → List ℕ) → Type 0

@@ -18,7 +18,8 @@ const ONE_DOWN: u32 = 0xffff_fc00;
 
 // ---- words
 
-// Each place's id is higher by `by`, counted in a tag's ids.
+// Each place's id is higher by `by`, counted in a tag's ids. By number: of words that are lent in pairs, as
+// chunks_exact_mut does it, a proof knows afterwards only how many they are.
 fn shift_ids(part: &mut [u32], by: u32)
     ensures { part.new ≡ shifted by part.old }
 {
@@ -79,7 +80,7 @@ pub fn rank_of(tag: u32) -> u32
 }
 
 // The first place, from the place `from` on, that is not before the rank; or the one behind the last. Halved by hand:
-// the answer is promised of any words, in order or not, and a place is two of them.
+// the answer is promised of any words, in order or not, and partition_point promises none of words out of order.
 pub fn seek(places: &[u32], rank: u32, from: usize) -> usize
     requires { from ≤ length places.now / 2 }
     ensures { (result ≡ seek_from rank places.now from) × (from ≤ result)
