@@ -11,6 +11,13 @@ pub record Holds (ws : List ℕ) (used : ℕ) (P : List ℕ) : Type 0 where
   pub size : length P ≡ 2 * used
   pub is : ws ≡ padded (length ws) P
 
+-- the table, and how many places of it are in use
+abbrev pub table_of : Places → MutBor (List ℕ)
+table_of p = p.table
+
+abbrev pub used_of : Places → ℕ
+used_of p = p.used
+
 -- the words in use
 abbrev pub in_use : Places → List ℕ
 in_use p = take (2 * p.used) p.table.now

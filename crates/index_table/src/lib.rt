@@ -124,7 +124,7 @@ pub struct Places<'a> {
 }
 
 impl<'a> Places<'a> {
-    ghost use Rattle.index_table.specs.Held.{in_use, Takes, Keeps, Goes};
+    ghost use Rattle.index_table.specs.Held.{used_of, in_use, Takes, Keeps, Goes};
 
     // A table is cleared: no place of it is in use.
     pub fn cleared(table: &'a mut [u32]) -> Places<'a>
@@ -145,7 +145,7 @@ impl<'a> Places<'a> {
 
     // How many places are in use.
     pub fn used(&self) -> usize
-        ensures { result ≡ self.now.used }
+        ensures { result ≡ used_of self.now }
     {
         self.used
     }
