@@ -62,7 +62,7 @@ module _ (at t : ℕ) (G : List ℕ → List ℕ) (e : (P : List ℕ) → G P �
   same : (r : Result Unit Refusal) → Goes old new r G → Goes old new r (after at t)
   unfolding Goes
   same (Ok _) k = kept k
-  same (Err q) k = (k.0, record { stays = k.1.stays; has = λ P h. rw (← e P) (k.1.has P h) })
+  same (Err q) k = (k.0, record { same = k.1.same; short = λ P h. rw (← e P) (k.1.short P h) })
 
 -- ---- it, by the code: j, c and x are the id, the class and the type that the code read
 module _ (at t : ℕ) {j : ℕ} (ej : j ≡ tag_id t) (old : Places) where

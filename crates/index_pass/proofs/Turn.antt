@@ -143,7 +143,7 @@ module _ {b : List ℕ} {start prev end : ℕ} {k : Onwards b start prev end} {s
               let t : ℕ = tag_on b at last in
               let q = met.entry (kind false h) in
               let l : length s.table.now < length (places_after v.P (placed_act at t)) =
-              omega (arith, v.long, rw same at (g.has v.P v.has).1) in
+              omega (arith, v.long, rw same at (g.short v.P v.has)) in
               v.ran ∙ ap (λ (es : List Event). ran_on (length s.table.now) v.P (placed_from at es)) q.is
               ∙ rw (lt-leb (length (places_after v.P (placed_act at t))) (length s.table.now) l)
 
@@ -153,9 +153,9 @@ module _ {b : List ℕ} {start prev end : ℕ} {k : Onwards b start prev end} {s
           unfolding Goes
           entry_full g {z} clear =
               let e : length z.table.now - 0 ≡ length s.table.now =
-              omega (arith, clear.stays.long, g.1.stays.long, v.long) in
+              omega (arith, clear.stays.long, ap (λ (y : Places). length y.table.now) g.1.same, v.long) in
               record {
                 answer = ap Err g.0 ∙ sym (ap indexed_as (ends_full g.1));
-                left = (clear.has v.P (g.1.has v.P v.has).0).is ∙ ap (λ (m : ℕ). replicate m 0) e
+                left = (clear.has v.P (rw g.1.same v.has)).is ∙ ap (λ (m : ℕ). replicate m 0) e
                     ∙ sym (ap (table_as (length s.table.now)) (ends_full g.1));
               }

@@ -5,7 +5,7 @@ use Rattle.format.specs.Log.{committed, log, span, log_end}
 use Rattle.format.specs.Regular.{Regular}
 use Rattle.format.specs.declared.Rules.TheVariants.{Littlefs}
 use Rattle.format.specs.Index.{placed_from, ran_on, indexed_as, table_as}
-use Rattle.index_table.specs.Held.{in_use, Has, Stays}
+use Rattle.index_table.specs.Held.{table_of, in_use, Has, Stays}
 use Rattle.index_table.specs.declared.Places.{Places}
 use Rattle.format.specs.declared.Refusal.{Refusal}
 
@@ -26,16 +26,16 @@ pub record Startable (b : List ℕ) (from prev end : ℕ) (p : Places) : Type 0 
 
 -- the answer and the table are those of the entries run on its places
 abbrev pub ran_from : (b : List ℕ) (from prev end : ℕ) → Onwards b from prev end → Places → Option (List ℕ)
-ran_from b from prev end k p = ran_on (length p.table.now) (in_use p) (placed_from from (on_from b from prev k.sum))
+ran_from b from prev end k p = ran_on (length (table_of p).now) (in_use p) (placed_from from (on_from b from prev k.sum))
 
 pub record Ran (b : List ℕ) (from prev end : ℕ) (k : Onwards b from prev end) (old new : Places) (r : Result ℕ Refusal)
     : Type 0 where
   pub answer : r ≡ indexed_as (ran_from b from prev end k old)
-  pub left : new.table.now ≡ table_as (length old.table.now) (ran_from b from prev end k old)
+  pub left : (table_of new).now ≡ table_as (length (table_of old).now) (ran_from b from prev end k old)
 
 -- whatever the checksum at the start is
 pub record Runs (b : List ℕ) (from prev end : ℕ) (old new : Places) (r : Result ℕ Refusal) : Type 0 where
-  pub stays : Stays new old.table
+  pub stays : Stays new (table_of old)
   pub ran : (k : Onwards b from prev end) → Ran b from prev end k old new r
 
 -- a block whose log ends at `end` and is regular, by littlefs's rule, which is the wider one

@@ -1,55 +1,44 @@
--- The places before the first that is zero, found one by one. Assumes nothing.
-use Rattle.std.proofs.Common.{◌≡◌, ℕ, zero, suc, ◌+◌, ◌-◌, ◌*◌, ◌<◌, ◌≤◌, List, [], ◌∷◌, ◌++◌, length, get_or, take, drop, sym, refl, ap, ◌∙◌, append-nil, le_of_suc-le-suc, not-suc-le-zero, add-zero, arith, length-drop, length-take-le, get_or-drop, eq-eqb, ne_eqb}
+-- The places before the first that is zero, by the first pair of words that has a tag of zero. Assumes nothing.
+use Rattle.std.proofs.Common.{◌≡◌, ℕ, zero, suc, ◌+◌, ◌*◌, ◌/◌, Bool, true, false, not, cond, eqb, ltb, List, [], ◌∷◌, length, get_or, take, None, Some, refl, ap, arith, ltb-false}
+use Rattle.std.proofs.lemmas.List.Sums.{prefix_len-le-length}
+use Rattle.std.specs.List.{position_or_len}
+use Rattle.std.specs.Option.{unwrap_or}
+use Rattle.std.specs.Simd.{first_chunks}
 use Rattle.format.specs.Index.{leading}
 
--- from word i on
-pub leads : ℕ → List ℕ → List ℕ
-leads i w = take i w ++ leading (drop i w)
+-- ---- what is found, or else the length
+pub found_or : {X : Type 0} (p : X → Bool) (xs : List X)
+    → unwrap_or (cond (ltb (position_or_len p xs) (length xs)) (Some (position_or_len p xs)) None) (length xs)
+    ≡ position_or_len p xs
+found_or p xs = go (ltb (position_or_len p xs) (length xs)) refl
+  where
+    go : (b : Bool) → ltb (position_or_len p xs) (length xs) ≡ b
+        → unwrap_or (cond b (Some (position_or_len p xs)) None) (length xs) ≡ position_or_len p xs
+    go true e = refl
+    go false e = omega (arith, prefix_len-le-length (λ x. not (p x)) xs, ltb-false (position_or_len p xs) (length xs) e)
 
-leads_more : (i : ℕ) (w : List ℕ) → suc i < length w → (get_or w i 0 ≡ 0 → ⊥) → leads (suc (suc i)) w ≡ leads i w
-unfolding leads leading
-leads_more i [] h n = absurd (not-suc-le-zero h)
-leads_more zero (x ∷ []) h n = absurd (not-suc-le-zero (le_of_suc-le-suc h))
-leads_more zero (t ∷ o ∷ w) h n = rw (ne_eqb t 0 n)
-leads_more (suc i) (x ∷ w) h n = ap (λ (z : List ℕ). x ∷ z) (leads_more i w (le_of_suc-le-suc h) n)
+-- ---- the words as pairs
+abbrev pub is_free : List ℕ → Bool
+is_free p = eqb (get_or p 0 0) 0
 
-leads_end : (w : List ℕ) → length w ≤ 1 → leading w ≡ []
+pub leads : (n : ℕ) (w : List ℕ) → length w / 2 ≡ n
+    → let i : ℕ = position_or_len is_free (first_chunks 2 n w) in
+    (2 * i ≡ length (leading w)) × (take (2 * i) w ≡ leading w)
 unfolding leading
-leads_end [] h = refl
-leads_end (x ∷ []) h = refl
-leads_end (t ∷ o ∷ w) h = absurd (not-suc-le-zero (le_of_suc-le-suc h))
+leads zero [] h = (refl, refl)
+leads zero (x ∷ []) h = (refl, refl)
+leads zero (t ∷ o ∷ w) h = absurd (omega arith)
+leads (suc n) [] h = absurd (omega arith)
+leads (suc n) (x ∷ []) h = absurd (omega arith)
+leads (suc n) (t ∷ o ∷ w) h = go (eqb t 0) (leads n w (omega arith))
+  where
+    i : ℕ
+    i = position_or_len is_free (first_chunks 2 n w)
 
-leads_zero : (w : List ℕ) → get_or w 0 0 ≡ 0 → leading w ≡ []
-unfolding leading
-leads_zero [] e = refl
-leads_zero (x ∷ []) e = refl
-leads_zero (t ∷ o ∷ w) e = rw (eq-eqb t 0 e)
-
--- ---- the loop of `count`
-pub record Counting (w : List ℕ) (i : ℕ) : Type 0 where
-  pub inside : 2 * i ≤ length w
-  pub so_far : leads (2 * i) w ≡ leading w
-
-pub count_start : (w : List ℕ) → Counting w 0
-unfolding leads
-count_start w = record { inside = omega arith; so_far = refl }
-
-module _ {w : List ℕ} {i : ℕ} (s : Counting w i) where
-  pub count_turn : 1 < length w - 2 * i → (get_or w (2 * i) 0 ≡ 0 → ⊥) → Counting w (i + 1)
-  count_turn h n =
-      let next : 2 * (i + 1) ≡ suc (suc (2 * i)) = omega arith in record {
-        inside = omega arith;
-        so_far = rw next (leads_more (2 * i) w (omega arith) n) ∙ s.so_far;
-      }
-
-  ends : leading (drop (2 * i) w) ≡ [] → (2 * i ≡ length (leading w)) × (take (2 * i) w ≡ leading w)
-  unfolding leads
-  ends e =
-      let all : take (2 * i) w ≡ leading w = sym (rw e (append-nil (take (2 * i) w))) ∙ s.so_far in
-      (sym (length-take-le (2 * i) w s.inside) ∙ ap length all, all)
-
-  pub count_zero : get_or w (2 * i) 0 ≡ 0 → (2 * i ≡ length (leading w)) × (take (2 * i) w ≡ leading w)
-  count_zero e = ends (leads_zero (drop (2 * i) w) (get_or-drop (2 * i) w 0 0 ∙ rw (add-zero (2 * i)) e))
-
-  pub count_end : length w - 2 * i ≤ 1 → (2 * i ≡ length (leading w)) × (take (2 * i) w ≡ leading w)
-  count_end h = ends (leads_end (drop (2 * i) w) (rw (length-drop (2 * i) w) h))
+    go : (b : Bool) → (2 * i ≡ length (leading w)) × (take (2 * i) w ≡ leading w)
+        → let j : ℕ = cond (not b) (1 + i) 0 in
+        (2 * j ≡ length (cond b [] (t ∷ o ∷ leading w))) × (take (2 * j) (t ∷ o ∷ w) ≡ cond b [] (t ∷ o ∷ leading w))
+    go true e = (refl, refl)
+    go false e =
+        let two : 2 * (1 + i) ≡ suc (suc (2 * i)) = omega arith in
+        (omega (arith, e.0), rw two (ap (λ (l : List ℕ). t ∷ o ∷ l) e.1))

@@ -11,6 +11,13 @@ pub record Holds (ws : List ℕ) (used : ℕ) (P : List ℕ) : Type 0 where
   pub size : length P ≡ 2 * used
   pub is : ws ≡ padded (length ws) P
 
+-- the table, and how many places of it are in use
+abbrev pub table_of : Places → MutBor (List ℕ)
+table_of p = p.table
+
+abbrev pub used_of : Places → ℕ
+used_of p = p.used
+
 -- the words in use
 abbrev pub in_use : Places → List ℕ
 in_use p = take (2 * p.used) p.table.now
@@ -36,8 +43,8 @@ pub record Keeps (old new : Places) (F : List ℕ → List ℕ) : Type 0 where
 
 -- there is no room for what F makes of them, and the table is as it was
 pub record Lacks (old new : Places) (F : List ℕ → List ℕ) : Type 0 where
-  pub stays : Stays new old.table
-  pub has : (P : List ℕ) → Has old P → Has new P × (length old.table.now < length (F P))
+  pub same : new ≡ old
+  pub short : (P : List ℕ) → Has old P → length old.table.now < length (F P)
 
 -- the one or the other
 unfoldable pub Goes : (old new : Places) (r : Result Unit Refusal) (F : List ℕ → List ℕ) → Type 0

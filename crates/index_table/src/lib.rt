@@ -18,7 +18,8 @@ const ONE_DOWN: u32 = 0xffff_fc00;
 
 // ---- words
 
-// Each place's id is higher by `by`, counted in a tag's ids.
+// Each place's id is higher by `by`, counted in a tag's ids. By number: of words that are lent in pairs, as
+// chunks_exact_mut does it, a proof knows afterwards only how many they are.
 fn shift_ids(part: &mut [u32], by: u32)
     ensures { part.new ≡ shifted by part.old }
 {
@@ -79,7 +80,7 @@ pub fn rank_of(tag: u32) -> u32
 }
 
 // The first place, from the place `from` on, that is not before the rank; or the one behind the last. Halved by hand:
-// the answer is promised of any words, in order or not, and a place is two of them.
+// the answer is promised of any words, in order or not, and partition_point promises none of words out of order.
 pub fn seek(places: &[u32], rank: u32, from: usize) -> usize
     requires { from ≤ length places.now / 2 }
     ensures { (result ≡ seek_from rank places.now from) × (from ≤ result)
@@ -105,12 +106,11 @@ fn count(table: &[u32]) -> usize
     ensures result_value { 2 * result ≡ length (leading table.now) }
     ensures table_value { take (2 * result) table.now ≡ leading table.now }
 {
-    for i in 0..table.len() / 2 {
-        if table[2 * i] == 0 {
-            return i;
-        }
-    }
-    table.len() / 2
+    let (places, _) = table.as_chunks::<2>();
+    places
+        .iter()
+        .position(|place| place[0] == 0)
+        .unwrap_or(places.len())
 }
 
 // ---- what an entry does to a table
@@ -124,7 +124,7 @@ pub struct Places<'a> {
 }
 
 impl<'a> Places<'a> {
-    ghost use Rattle.index_table.specs.Held.{in_use, Takes, Keeps, Goes};
+    ghost use Rattle.index_table.specs.Held.{used_of, in_use, Takes, Keeps, Goes};
 
     // A table is cleared: no place of it is in use.
     pub fn cleared(table: &'a mut [u32]) -> Places<'a>
@@ -145,7 +145,7 @@ impl<'a> Places<'a> {
 
     // How many places are in use.
     pub fn used(&self) -> usize
-        ensures { result ≡ self.now.used }
+        ensures { result ≡ used_of self.now }
     {
         self.used
     }

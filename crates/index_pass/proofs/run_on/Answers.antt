@@ -1,7 +1,8 @@
 -- `index_pass::run_on` meets its contract. The loop keeps the entries that are still to come, run on the places that
 -- stand in the table (`Going`); what is left of the block falls. Assumes nothing.
-use Rattle.std.proofs.Common.{refl, ◌∙◌, arith}
+use Rattle.std.proofs.Common.{length, refl, ap, ◌∙◌, arith}
 use Rattle.index_table.specs.Held.{Goes}
+use Rattle.index_table.specs.declared.Places.{Places}
 use Rattle.index_pass.proofs.Turn.{starts_going, ends_there, word_inside, tag_small, tag_inside}
 use Rattle.index_pass.proofs.Turn.{check_goes, entry_goes, entry_full}
 use Rattle.index_pass.proofs.run_on.Goals as goal
@@ -30,8 +31,8 @@ pub returns-in-Err : goal.returns-in-Err
 unfolding Goes
 returns-in-Err c = record {
   stays = record {
-    same = c.clear.ensures.stays.same ∙ c.in-Err.ensures.1.stays.same ∙ c.loop-at.invariant.0.same;
-    long = c.clear.ensures.stays.long ∙ c.in-Err.ensures.1.stays.long ∙ c.loop-at.invariant.0.long;
+    same = c.clear.ensures.stays.same ∙ ap (λ (y : Places). y.table.ghost_name) c.in-Err.ensures.1.same ∙ c.loop-at.invariant.0.same;
+    long = c.clear.ensures.stays.long ∙ ap (λ (y : Places). length y.table.now) c.in-Err.ensures.1.same ∙ c.loop-at.invariant.0.long;
   };
   ran = λ k. entry_full (c.loop-at.invariant.1 k) c.loop-at-test.true c.be32.ensures c.lfs_tag_dsize.ensures
       c.is_check.ensures c.if-is_check.false c.in-Err.ensures c.clear.ensures;

@@ -16,11 +16,8 @@ unfolding Goes
 returns-then-self-end-lt2 c = (
   refl,
   record {
-    stays = record { same = refl; long = refl };
-    has = λ P h. (
-      h,
-      set_full h _ _ c.find-place.ensures _ c.is_at.ensures c.if-is_at.false _ _ c.if-self-end-lt2.true,
-    );
+    same = refl;
+    short = λ P h. set_full h _ _ c.find-place.ensures _ c.is_at.ensures c.if-is_at.false _ _ c.if-self-end-lt2.true;
   },
 )
 
