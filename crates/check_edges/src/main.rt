@@ -17,6 +17,7 @@ fn record(rt: &impl Print, m: LfsMdir) -> io::Result<()> {
     println!(rt; " rev {} end {} count {}", m.rev, m.off, m.count)
 }
 
+// The numbers of document 01, and not those of the code that is tested.
 fn refused(rt: &impl Print, r: Refusal) -> io::Result<()> {
     match r {
         Refusal::Invalid => text(rt, b"refused -22\n"),

@@ -47,7 +47,7 @@ fn put_all(b: &mut [u8], run: Run, bytes: &[u8]) -> Run
     w
 }
 
-// A tag, big-endian.
+// A tag, big-endian. This and the next differ in the library's order of bytes alone; at five places they say which.
 pub fn put_be32(b: &mut [u8], run: Run, word: u32) -> Run
     ensures { laid result b.new ≡ puts_of (laid run b.old) (to_be32 word) }
 {

@@ -9,8 +9,9 @@ ghost use Rattle.commit_rules.specs.Rules.{rule_as, passed_by, counted_by};
 use format::Rules;
 use format::types::*;
 
-// Which rule a type falls under.
-#[derive(Clone, Copy)]
+// Which rule a type falls under. `Bad` is a case and no `None`, as in the definition `rule_of`: it has an answer of its
+// own to each question below.
+#[derive(Clone, Copy, Debug, PartialEq, Eq)]
 pub enum Rule {
     Create,
     Delete,

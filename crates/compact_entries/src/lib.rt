@@ -106,7 +106,8 @@ fn slots(old: &[u8], new: &mut [u8], e: Emit, end: usize, etag: u32, count: u32)
     w
 }
 
-// A slot from the places of an index, from the word `from` on: its create, and the entries whose places have its id.
+// A slot from the places of an index, from the word `from` on: its create, and the entries whose places have its id. How
+// many those are is answered, so this counts; two words a place are the table of C.
 fn placed_slot(old: &[u8], new: &mut [u8], e: Emit, id: u32, places: &[u32], from: usize) -> Part
     requires { SlotPlaced old.now e id places.now from }
     ensures after { standing result.emit new.new ≡ emits (standing e new.old) (create_item id

@@ -9,6 +9,7 @@ ghost use Rattle.fetch_walk.specs.Dir.{empty_dir, named, spliced, tailed, forwar
 use format::types::*;
 use format::{LfsFcrc, LfsPair};
 
+// What the record takes from the entries, in the record's own fields.
 #[derive(Clone, Copy)]
 pub struct DirState {
     pub count: u16,

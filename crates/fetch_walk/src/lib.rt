@@ -83,7 +83,8 @@ fn crc_word(seed: u32, sum: u32) -> u32
     crc::lfs_crc(seed, &bytes)
 }
 
-// What a walk leaves; straight: it stopped on an invalid tag straight after a commit.
+// What a walk leaves; straight: it stopped on an invalid tag straight after a commit. There is as much to take where it
+// did not, so it is no Option.
 #[derive(Clone, Copy)]
 pub struct Walked {
     pub taken: Taken,
@@ -111,7 +112,7 @@ pub fn walk_again(b: &[u8], known: Taken) -> Walked
     walk_on(b, from, WalkState { dir, taken: known })
 }
 
-// The walk from a cursor and a state.
+// The walk from a cursor and a state. No iterator: the kind of the tag that it stops at is answered too.
 fn walk_on(b: &[u8], from: Cursor, state: WalkState) -> Walked
     ensures { result ≡ leaves b.now state from }
 {

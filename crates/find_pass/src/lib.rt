@@ -52,7 +52,7 @@ impl Named {
         }
     }
 
-    // A slot is made at `id`.
+    // A slot is made at `id`. As `remove`, but for what is done to a set: a function that is handed it would need its law.
     fn make(&mut self, id: u32)
         requires { id < 1_024 }
         ensures { Keeps self.old.set self.old.any self.new.set self.new.any (made id) }

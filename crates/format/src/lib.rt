@@ -26,7 +26,7 @@ pub struct LfsPair {
 }
 
 // A forward check (the Rust's `LfsFcrc`): whether there is one, of how many bytes behind the log's end, and their
-// checksum. All 0 where there is none. In C the record has them as its last three fields.
+// checksum. All 0 where there is none. In C the record has them as its last three fields, which an Option has not.
 #[repr(C)]
 #[derive(Clone, Copy, Debug, PartialEq, Eq)]
 pub struct LfsFcrc {
@@ -37,7 +37,8 @@ pub struct LfsFcrc {
 
 // The record of a metadata pair, as fetch reads it: the answering block's number first, its revision, where its
 // committed log ends and the tag there, the number of slots, whether the room behind passed its forward check (which
-// does not say that it is empty), the tail (hard where `split`), and the last forward check that is committed.
+// does not say that it is empty), the tail (hard where `split`), and the last forward check that is committed. Its fields
+// stand as C has them, so the two flags are flags.
 #[repr(C)]
 #[derive(Clone, Copy, Debug, PartialEq, Eq)]
 pub struct LfsMdir {

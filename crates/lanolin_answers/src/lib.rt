@@ -98,7 +98,7 @@ pub fn flag(b: bool) -> u32
     if b { 1 } else { 0 }
 }
 
-// The number of an answer that comes with no value.
+// The number of an answer that comes with no value: no `From`, since neither type is of this crate.
 pub fn altered_out(a: Result<(), Refusal>) -> i32
     ensures { result ≡ result_number a }
 {
@@ -180,6 +180,7 @@ fn refused_read(seed: u32, r: Refusal) -> Fetched
     }
 }
 
+// Of two values, so no `From`: a refusal gives the seed back as it came.
 pub fn fetched_out(seed: u32, f: Result<Fetched, Refusal>) -> FetchedOut
     ensures { result ≡ fetched_out seed f }
 {
@@ -236,6 +237,7 @@ fn refused_index(r: Refusal) -> u32
     }
 }
 
+// Of two values, as `fetched_out`.
 pub fn committed_out(seed: u32, c: Result<Fetched, Refusal>) -> CommittedOut
     ensures { result ≡ committed_out seed c }
 {

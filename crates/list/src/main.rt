@@ -11,6 +11,7 @@ use std::io;
 // record's lines have less than 128 bytes.
 const ROOM: usize = 150_000;
 
+// `text_print::of_pair` has what the programs share; the usage is each program's own.
 fn main(rt: HostRuntime) -> io::Result<()> {
     let Some(ask) = text_args::asked(&rt, 1, true) else {
         return text_print::usage(

@@ -100,7 +100,8 @@ pub fn erased_fits(erased: u8) -> bool
     (erased == 0xff) | (erased == 0x00)
 }
 
-// How a call writes: the rule by which the log must be regular is 0 or 1, and the erased byte "0xff or 0x00".
+// How a call writes: the rule by which the log must be regular is 0 or 1, and the erased byte "0xff or 0x00". Both are
+// still numbers here and in what calls this: that they fit is one test with the sizes.
 pub fn writes_fit(rules: u32, erased: u8) -> bool
     ensures { result ≡ writes_fit rules erased }
 {

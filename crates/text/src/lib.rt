@@ -1,6 +1,6 @@
 // Text put into a lent buffer, byte by byte, as far as there is room: bytes, numbers in decimal and in hex, names with
 // their escapes. The length counts on also where the buffer is full. It wraps at 2^32; no listing is so long (crate
-// `text_listing` proves it).
+// `text_listing` proves it). No Display: what is written through one is not told from a buffer that is full.
 #![tactic(auto)]
 
 ghost use Rattle.std.specs.Prelude.{◌≡◌, [], ◌∷◌};
@@ -43,7 +43,8 @@ impl<'a> Text<'a> {
         self.at = self.at.wrapping_add(1);
     }
 
-    // Bytes, one after the other.
+    // Bytes, one after the other. Three methods here put something for each byte: with a closure for what, and its law,
+    // they would be longer.
     #[tactic(auto, unfolding(crate::specs::Put::puts_of))]
     pub fn puts(&mut self, bytes: &[u8])
         ensures { Puts self.old self.new bytes.now }

@@ -49,8 +49,8 @@ pub struct Answering<'a> {
     pub block: &'a [u8],
 }
 
-// What there is to show of an input: the rule is 0 or 1, "any other -22". Fetch refuses two equal numbers, so the first
-// number of the record says which half answers.
+// What there is to show of an input: the rule is 0 or 1, "any other -22", which is tested here. Fetch refuses two equal
+// numbers, so the first number of the record says which half answers.
 pub fn ask(
     prog_size: u32,
     numbers: LfsPair,

@@ -167,7 +167,8 @@ fn block_text(text: &mut Text, b: &[u8], m: LfsMdir, rules: Rules)
 // The listing of both images, one behind the other, as far as `out` has room; the program size, the numbers of the two
 // blocks and the rule by which the log must be regular are given: 0 or 1, "any other -22". The answer is the length of
 // the whole text, so a caller whose buffer was too short knows how long a one to lend. No listing reaches 2^32 bytes,
-// where `text`'s count would wrap.
+// where `text`'s count would wrap. The audit and what is found are shown in the same way: these six lines, with a closure
+// for what is shown and its law, would be no fewer.
 pub fn lfs_dir_list_as(
     prog_size: u32,
     numbers: LfsPair,

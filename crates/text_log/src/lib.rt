@@ -56,7 +56,7 @@ fn check_text(text: &mut Text, full: bool, b: &[u8], place: usize, tag: u32, sum
     full_data(text, full, place + 4, data_of(b, place, tag));
 }
 
-// What the walk from a cursor meets, and why it stops.
+// What the walk from a cursor meets, and why it stops, which an iterator would not tell.
 fn event_texts(text: &mut Text, full: bool, b: &[u8], from: Cursor)
     requires { Reached b.now from.at 0 }
     ensures { Puts text.old text.new (texts_from full b.now from) }

@@ -81,7 +81,8 @@ fn data_line(text: &mut Text, place: u32, bytes: &[u8])
     text.puts(b"\n");
 }
 
-// All lines of the data, which stand at `place`.
+// All lines of the data, which stand at `place`. By the rest, as its definition: through chunks it would be proved of
+// the chunks' list, which no definition has.
 fn data_lines(text: &mut Text, place: usize, bytes: &[u8])
     requires place_bound { place ≤ 2 ^ 16 }
     requires bytes_len_bound { length bytes.now ≤ 1_022 }

@@ -53,6 +53,7 @@ fn dir_walk(
     if DEEPEST < depth {
         return stopped(Refusal::TooDeep, left);
     }
+    // no range: the next directory is the tail of this one
     let mut next = pair;
     let mut spare = left;
     loop {
@@ -102,7 +103,7 @@ fn slot_walk(text: &mut Text, vol: Volume, rules: Rules, depth: u32, dir: Dir, l
     }
 }
 
-// What a tree is asked for: a volume that fits, and the rule; "any other -22".
+// What a tree is asked for: a volume that fits, and the rule; "any other -22", which is tested here.
 #[tactic(auto, unfolding(format::specs::Tree::tree_fits))]
 fn asked<'a>(
     g: Geometry,

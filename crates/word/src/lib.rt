@@ -43,7 +43,8 @@ fn has_word(s: &[u8], at: usize) -> bool
     4 <= s.len() && at <= s.len() - 4
 }
 
-// The little-endian word at an offset.
+// The little-endian word at an offset. One function for either order would be handed the order as a trait with two laws
+// about the bytes, where each of these is a line over the library's own pair, from_le_bytes and from_be_bytes.
 pub fn lfs_le32_at(s: &[u8], at: usize) -> Result<u32, Refusal>
     ensures { result ≡ le32_at s.now at }
 {

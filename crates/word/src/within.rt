@@ -1,4 +1,5 @@
-// Words of 32 bits at an offset that the caller knows to be inside the slice: each function requires it.
+// Words of 32 bits at an offset that the caller knows to be inside the slice: each function requires it, of its own two
+// arguments; no struct holds both, since each read has another offset. One for each order of bytes, as in the library.
 ghost use Rattle.std.specs.Prelude.{◌≡◌, ◌+◌, ◌*◌, ◌^◌, ◌≤◌, length, drop};
 ghost use Rattle.std.proofs.lemmas.List.Edits.{sets};
 ghost use Rattle.format.specs.Word.{le32, be32, to_le32, to_be32};
