@@ -9,7 +9,7 @@ use format::{Fetched, Geometry, LfsPair, Refusal};
 use sizes::Pair;
 
 // Sizes that fit, and "empty or not whole blocks is -22".
-fn volume_fits(g: Geometry, vol: &[u8]) -> bool
+pub fn volume_fits(g: Geometry, vol: &[u8]) -> bool
     ensures { result ≡ volume_fits g vol.now }
 {
     // first, since it divides below
