@@ -14,17 +14,22 @@ const ROOM: usize = 131_200;
 fn find(rt: &HostRuntime, kind: u32, ask: Request) -> io::Result<()> {
     let mut name = [0u8; 131_072];
     let length = rt.arg(2, &mut name).unwrap_or(0);
-    text_print::of_pair::<ROOM, _>(rt, |pair, text| {
-        text_find::lfs_dir_find_as(
-            ask.prog_size,
-            ask.numbers,
-            ask.rules,
-            &name[..length],
-            kind,
-            pair,
-            text,
-        )
-    })
+    text_print::of_pair::<ROOM, _, _, _, _>(
+        &mut rt.stdin(),
+        &mut rt.stdout(),
+        &mut rt.stderr(),
+        |pair, text| {
+            text_find::lfs_dir_find_as(
+                ask.prog_size,
+                ask.numbers,
+                ask.rules,
+                &name[..length],
+                kind,
+                pair,
+                text,
+            )
+        },
+    )
 }
 
 // The type and what the pair is to be read as; nothing where the arguments are not understood.

@@ -19,7 +19,12 @@ fn main(rt: HostRuntime) -> io::Result<()> {
             b"usage: list [PROG_SIZE A B [RULES]], both images on standard input\n",
         );
     };
-    text_print::of_pair::<ROOM, _>(&rt, |pair, text| {
-        text_listing::lfs_dir_list_as(ask.prog_size, ask.numbers, ask.rules, pair, text)
-    })
+    text_print::of_pair::<ROOM, _, _, _, _>(
+        &mut rt.stdin(),
+        &mut rt.stdout(),
+        &mut rt.stderr(),
+        |pair, text| {
+            text_listing::lfs_dir_list_as(ask.prog_size, ask.numbers, ask.rules, pair, text)
+        },
+    )
 }

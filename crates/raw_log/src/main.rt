@@ -27,7 +27,10 @@ fn main(rt: HostRuntime) -> io::Result<()> {
             b"usage: log [--full] [PROG_SIZE A B], both images on standard input\n",
         );
     };
-    text_print::of_pair::<ROOM, _>(&rt, |pair, text| {
-        text_log::lfs_dir_log(full, ask.prog_size, ask.numbers, pair, text)
-    })
+    text_print::of_pair::<ROOM, _, _, _, _>(
+        &mut rt.stdin(),
+        &mut rt.stdout(),
+        &mut rt.stderr(),
+        |pair, text| { text_log::lfs_dir_log(full, ask.prog_size, ask.numbers, pair, text) },
+    )
 }

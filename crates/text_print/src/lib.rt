@@ -1,7 +1,7 @@
 // A text on standard output, for the programs that show one, what such a program reads, and how it is used.
 #![tactic(auto)]
 
-ghost use Rattle.std.specs.Prelude.{◌≡◌, IfOk, OnOk, ◌<◌, ◌≤◌, ◌^◌, length, leb, take};
+ghost use Rattle.std.specs.Prelude.{◌≡◌, ℕ, IfOk, OnOk, ◌<◌, ◌≤◌, ◌^◌, length, leb, take};
 ghost use Rattle.std.specs.Io.{ReadsAtMost};
 ghost use Rattle.std.specs.Io.KnownBytes.{Appends, Consumes, Keeps};
 
@@ -53,20 +53,26 @@ pub fn read_full<R: Read>(reader: &mut R, buf: &mut [u8]) -> io::Result<usize>
     Ok(done)
 }
 
-// What a program that shows a text of a pair does: both images are on standard input, one behind the other, of which
-// 65,537 bytes are read, so that a longer input is told from one of 65,536; and the text that `text_of` makes of them
-// goes to standard output. `ROOM` is the room for it, and `text_of` answers how much it would take.
-pub fn of_pair<const ROOM: usize, F: FnOnce(&[u8], &mut [u8]) -> u32>(
-    rt: &HostRuntime,
+// What a program that shows a text of a pair does: both images are on its input, one behind the other, of which 65,537
+// bytes are read, so that a longer input is told from one of 65,536; and the text that `text_of` makes of them goes to
+// its output. `ROOM` is the room for it, and `text_of` answers how much it would take.
+pub fn of_pair<const ROOM: usize, R: Read, O: Write, E: Write, F: FnOnce(&[u8], &mut [u8]) -> u32>(
+    reader: &mut R,
+    out: &mut O,
+    err: &mut E,
     text_of: F,
 ) -> io::Result<()>
     requires room { ROOM < 2 ^ 63 }
     requires callable { F.IsAlwaysCallable text_of }
+    ensures { OnOk result ((input : _) × (room : _) × (n : ℕ) × (text : _) × F.post text_of input room n text
+        × Consumes (R.remaining reader.old) (R.remaining reader.new) input.now
+        × (n ≤ ROOM → Appends (O.contents out.old) (O.contents out.new) (take n text.now))
+        × (ROOM < n → Keeps (O.contents out.old) (O.contents out.new))) }
 {
     let mut pair = [0u8; 65_537];
-    let n = read_full(&mut rt.stdin(), &mut pair)?;
+    let read = read_full(reader, &mut pair)?;
     let mut text = [0u8; ROOM];
-    let length = text_of(&pair[..n], &mut text);
-    whole(&mut rt.stdout(), &mut rt.stderr(), &text, length as usize)?;
+    let n = text_of(&pair[..read], &mut text);
+    whole(out, err, &text, n as usize)?;
     Ok(())
 }
