@@ -9,6 +9,7 @@ use std::io;
 // can't be read, both, nine bytes at least, and its line at most 35. A byte of a name shows at most four. So a line has
 // at most seven bytes more than four for each byte of its slot, of at most 1,023 slots: a block of 32,768 bytes shows
 // at most 4 * 32,768 + 7 * 1,023, and the three lines behind have at most 89 bytes.
+// The usage and the call are this program's own; what the programs share is `text_print::of_pair`.
 const ROOM: usize = 138_400;
 
 fn main(rt: HostRuntime) -> io::Result<()> {

@@ -5,7 +5,7 @@
 ghost use Rattle.std.specs.Prelude.{◌≡◌, true};
 ghost use Rattle.format.specs.Arith.{npw2, ctz, popc};
 
-// The old shifts and the new counts give the same, whatever the word.
+// The Rust's shifts and the counts give the same, whatever the word.
 pub fn agree(a: u32) -> bool
     ensures { result ≡ true }
 {

@@ -1,4 +1,4 @@
-// Runs the counts of crate `bits` and the old shifts beside each other. That they agree is proved
+// Runs the counts of crate `bits` and the Rust's shifts beside each other. That they agree is proved
 // (`bits_shifts::agree`); that the compiled counts do is seen here: at each corner, and on 2^20 words. `stdout` is what
 // it must print, worked out by samples/make_counts.py.
 #![tactic(auto)]

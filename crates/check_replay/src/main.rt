@@ -70,7 +70,8 @@ const WANT_SIZE: usize = 28;
 
 const BUFFER_SIZE: usize = 30;
 
-// ---- the kinds
+// ---- the kinds: numbers and no enum, since the list may hold any. Another kind is compared as the last one, and
+// counted under none.
 
 const FETCH: u32 = 1;
 

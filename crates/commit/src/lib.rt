@@ -27,6 +27,7 @@ fn each<P: Pass>(entries: &[Entry], dat: &[u8], pass: &mut P) -> Result<(), P::B
 }
 
 // Whether the commit is refused, and else what is to be laid into the block that answers.
+// `rules` and `erased` are the numbers that the call takes; `commit_steps::begin` alone tests them.
 #[tactic(auto, using(crate::proofs::Walks::walked_judged), unfolding(crate::specs::Passes::decided_of))]
 fn decide(
     pair: Pair,
@@ -61,7 +62,8 @@ fn write(b: &mut [u8], entries: &[Entry], dat: &[u8], decided: Laying) -> Laying
     commit_steps::seal(b, laid)
 }
 
-// Both passes, with a limit of stores. Which of the two lent images is written is chosen here.
+// Both passes, with a limit of stores. Which of the two lent images is written is chosen here; they are two slices and
+// no struct of both, as in the calls: `CommitLeaves` says of each what stands in it behind the call.
 fn run(
     g: Geometry,
     b0: &mut [u8],

@@ -47,7 +47,7 @@ fn put_all(b: &mut [u8], run: Run, bytes: &[u8]) -> Run
     w
 }
 
-// A tag, big-endian. This and the next differ in the library's order of bytes alone; at five places they say which.
+// A tag, big-endian. This and the next differ in the library's order of bytes alone, which their names say.
 pub fn put_be32(b: &mut [u8], run: Run, word: u32) -> Run
     ensures { laid result b.new ≡ puts_of (laid run b.old) (to_be32 word) }
 {
@@ -72,6 +72,7 @@ pub fn sum_be32(sum: u32, word: u32) -> u32
 }
 
 // Whether an entry's data are in the buffer: "a removal's offset isn't read".
+// The data are a buffer, an offset and a length, here and below, as the definition `body_of` takes any.
 pub fn in_buffer(dat: &[u8], off: u32, len: u32) -> bool
     ensures { result ≡ in_buffer_of dat.now off len }
 {

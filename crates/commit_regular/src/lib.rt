@@ -30,6 +30,7 @@ fn entered(rule: Rule, grows: bool, count: u32, tag: u32) -> Option<u32>
 }
 
 // The rules as they run over a log: the count that its entries leave so far, and whether names may still make slots.
+// No Option: the count goes on whether or not names may still make slots.
 #[derive(Clone, Copy)]
 pub struct Ruled {
     count: u32,

@@ -106,6 +106,7 @@ fn past_eights(erased: u8, b: &[u8], end: usize) -> usize
 }
 
 // The offset of the first byte from the old end on that isn't erased; where all are, the offset behind them.
+// By number: `end` may lie behind the block, where no slice begins.
 fn first_unerased(erased: u8, b: &[u8], end: usize) -> usize
     ensures { result ≡ first_unerased erased b.now end }
 {
@@ -131,6 +132,7 @@ fn validity_fits(erased: u8, etag: u32) -> bool
 
 // "Tell a misaligned end, an end tag with its top bit set, and a first byte that isn't erased apart, the last with its
 // offset in the block. Test them in that order"; the second "is now 'wrong validity bit'".
+// The bounds are those of a geometry that fits: `Geometry` is C's struct, and holds no proof of it.
 pub fn room(erased: u8, prog: u32, b: &[u8], end: usize, etag: u32) -> Result<(), Refusal>
     requires le_prog { 4 ≤ prog }
     requires b_len_bound { length b.now ≤ 32_768 }

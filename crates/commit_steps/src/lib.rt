@@ -1,6 +1,6 @@
 // A commit, step by step: what is done before its entries, with each entry, between the two passes over them, and
-// behind them. What a pass knows is one value that it steps, so no scratch memory is needed. What judges only reads, and
-// answers a refusal or what goes on; what lays is lent the one block that answers, and can't refuse.
+// behind them. What a pass knows is one value that it steps, so no scratch memory is needed. What judges only reads,
+// and answers a refusal or what goes on; what lays is lent the one block that answers, and can't refuse.
 #![tactic(auto)]
 
 ghost use Rattle.std.specs.Prelude.{◌≡◌, ◌-◌, ◌≤◌, ℕ, List, Result, Ok, length};
@@ -55,8 +55,8 @@ pub struct LayingOnto<'b> {
     pub block: &'b mut [u8],
 }
 
-// A pass over the entries: what it does with each, which comes as plain numbers. `steps` says what that answers and
-// leaves.
+// A pass over the entries: what it does with each, which comes as plain numbers: "read by one thin walker that hands
+// plain numbers to covered functions". `steps` says what that answers and leaves.
 pub trait Pass {
     // What ends the pass early.
     type Bad;
@@ -276,8 +276,8 @@ fn lay_check(b: &mut [u8], l: Laying) -> Laying
     Laying { run, ..l }
 }
 
-// "the number made is the answer": what is left of the limit was not made. Any laying goes, also one with more left than
-// the limit.
+// "the number made is the answer": what is left of the limit was not made. Any laying goes, also one with more left
+// than the limit.
 pub fn made(l: Laying, stores: u32) -> u32
     ensures { result ≡ stores - l.run.left }
 {

@@ -15,6 +15,8 @@ use format::{Fetched, Geometry, Refusal, Rules};
 use sizes::Pair;
 
 // What all three calls do, with a limit of stores and a table. Inlined, so that it shares their frame on the stack.
+// Rule and erased byte are the numbers that the calls take, tested here, once for all three. The images are two slices
+// and no struct of both: `CompactLeaves` says of each what stands in it behind the call.
 #[inline(always)]
 fn run(
     g: Geometry,

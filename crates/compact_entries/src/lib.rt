@@ -25,7 +25,8 @@ use commit_lay::Run;
 use format::types::*;
 use format::{Found, LfsFcrc, LfsMdir, LfsPair};
 
-// Where the writing stands: the stores, the end of what is written, the previous tag and the checksum.
+// Where the writing stands: the stores, the end of what is written, the previous tag and the checksum. That the end is
+// below 2^32 is asked at each step and no invariant: the end that a step leaves may be above it.
 #[derive(Clone, Copy)]
 pub struct Emit {
     pub run: Run,
@@ -58,6 +59,7 @@ fn entry(new: &mut [u8], e: Emit, tag: u32, dat: &[u8], off: u32, len: u32) -> E
 }
 
 // An entry that was found, with the tag that it was found with; or nothing.
+// That it is inside is asked of each found entry: `Found` is C's struct, and holds no block.
 fn found_entry(old: &[u8], new: &mut [u8], e: Emit, h: Option<Found>) -> Emit
     requires { (e.end < 2 ^ 32) × HitIn (length old.now) h }
     ensures { standing result new.new ≡ emits (standing e new.old)
@@ -106,8 +108,8 @@ fn slots(old: &[u8], new: &mut [u8], e: Emit, end: usize, etag: u32, count: u32)
     w
 }
 
-// A slot from the places of an index, from the word `from` on: its create, and the entries whose places have its id. How
-// many those are is answered, so this counts; two words a place are the table of C.
+// A slot from the places of an index, from the word `from` on: its create, and the entries whose places have its id.
+// How many those are is answered, so this counts; two words a place are the table of C.
 fn placed_slot(old: &[u8], new: &mut [u8], e: Emit, id: u32, places: &[u32], from: usize) -> Part
     requires { SlotPlaced old.now e id places.now from }
     ensures after { standing result.emit new.new ≡ emits (standing e new.old) (create_item id
@@ -148,7 +150,8 @@ fn placed_slots(old: &[u8], new: &mut [u8], e: Emit, count: u32, places: &[u32])
     w
 }
 
-// All slots, from the log's places where it is indexed.
+// All slots, from the log's places where it is indexed. What is asked of the places is asked beside them, since it is
+// of the block too, which both passes hold already.
 fn all_slots(
     old: &[u8],
     new: &mut [u8],
@@ -180,6 +183,7 @@ fn tail_type(split: bool) -> u16
 }
 
 // "then tail unless it is soft and both 0xffffffff"
+// The flag and the pair apart, as C's record has them: a soft tail has a pair as well, so it is no Option.
 fn tail(new: &mut [u8], e: Emit, split: bool, pair: LfsPair) -> Emit
     requires { e.end < 2 ^ 32 }
     ensures { standing result new.new ≡ emits (standing e new.old) (tail_items split pair) }
@@ -220,6 +224,7 @@ fn held(old: &[u8], new: &mut [u8], e: Emit, dir: LfsMdir, places: Option<&[u32]
 }
 
 // The forward check, if it is carried.
+// As lay_forward of commit_steps, but over `Emit`, which counts its end also where nothing is stored.
 fn forward(new: &mut [u8], e: Emit, fcrc: LfsFcrc) -> Emit
     requires { e.end < 2 ^ 32 }
     ensures { standing result new.new ≡ emits (standing e new.old) (forward_items fcrc) }

@@ -95,8 +95,8 @@ fn note(seats: &mut [u32; 516], tag: u32, at: usize, slot: usize, id: u32)
 
 // The seats of the slot `id`, from the end of a log and the tag that ends there: two words for each class, the newest
 // entry's tag with the id, and the offset of its first data byte. The array is lent, since a copy of it is most of what
-// a compaction's stack holds; what stands in it before is not read. Words and no pairs, as a table of places has them: the
-// definitions `hit_at` and `noted` are about these words.
+// a compaction's stack holds; what stands in it before is not read. Words and no pairs, as a table of places has them:
+// the definitions `hit_at` and `noted` are about these words.
 pub fn gather_into(b: &[u8], end: usize, etag: u32, id: u32, seats: &mut [u32; 516])
     requires { Gatherable b.now end id }
     ensures { Gathered b.now (map (seen b.now) (back b.now end etag)) id

@@ -31,6 +31,7 @@ fn second_first(rev0: u32, rev1: u32) -> bool
 }
 
 // The erased mark: the last forward check, seen in any commit so far, fits what stands behind the log now.
+// What is asked here and of the next two is of the block's own walk: a struct of both would have no other use.
 fn erased(prog: u32, b: &[u8], w: Walked) -> bool
     requires { Readable prog b.now w }
     ensures { result ≡ erased_by prog b.now w }
@@ -91,8 +92,8 @@ fn answer(prog: u32, pair: LfsPair, rev: u32, b: &[u8], w: Walked) -> Result<Fet
     Ok(read)
 }
 
-// The two blocks in rank: n with its bytes b, and then m with its bytes c. "The first block with a valid commit
-// answers."
+// The two blocks in rank: n with its bytes b, and then m with its bytes c, as the definition takes them. "The first
+// block with a valid commit answers."
 fn in_order(prog: u32, n: u32, b: &[u8], m: u32, c: &[u8], seed: u32) -> Result<Fetched, Refusal>
     requires { Readables prog b.now c.now }
     ensures { result ≡ in_order prog n b.now m c.now seed }

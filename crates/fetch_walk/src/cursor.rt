@@ -18,6 +18,7 @@ pub struct Cursor {
 }
 
 // What stands at a cursor, with the cursor behind it.
+// Four cases and no Result: a walk matches all of them, and none hands a stop on by `?`.
 #[derive(Clone, Copy)]
 pub enum Seen {
     // an entry: its tag

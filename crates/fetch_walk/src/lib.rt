@@ -18,6 +18,7 @@ use dir::DirState;
 use format::types::{CRC_START, FIRST_PREV};
 
 // What the last commit took: "count, tail, split, end and end tag", and the seed. An end of 4: there is no commit.
+// No Option of it: the definition `walked_of` says what each field is without a commit too.
 #[derive(Clone, Copy)]
 pub struct Taken {
     pub dir: DirState,

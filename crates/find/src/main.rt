@@ -11,6 +11,7 @@ use text_args::Request;
 const ROOM: usize = 131_200;
 
 // Of the type and the name that the first two arguments are. No argument of a process is longer than the buffer.
+// The usage and the call are this program's own; what the programs share is `text_print::of_pair`.
 fn find(rt: &HostRuntime, kind: u32, ask: Request) -> io::Result<()> {
     let mut name = [0u8; 131_072];
     let length = rt.arg(2, &mut name).unwrap_or(0);

@@ -34,6 +34,7 @@ fn is_named(b: &[u8], from: usize, tag: u32, name: &[u8], kind: u32) -> bool
 
 // The ids whose slots have the name that is asked for, one bit for each, and whether any slot has had it: as long as
 // none has, there is nothing to move.
+// No Option of the words: with no name yet all are zero, which `lowest` reads as they are.
 #[derive(Drop)]
 struct Named {
     set: [u32; 32],
@@ -52,7 +53,8 @@ impl Named {
         }
     }
 
-    // A slot is made at `id`. As `remove`, but for what is done to a set: a function that is handed it would need its law.
+    // A slot is made at `id`. As `remove`, but for what is done to a set: a function that is handed it would need its
+    // law.
     fn make(&mut self, id: u32)
         requires { id < 1_024 }
         ensures { Keeps self.old.set self.old.any self.new.set self.new.any (made id) }

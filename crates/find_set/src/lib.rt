@@ -9,7 +9,7 @@ ghost use Rattle.find_set.specs.Set.{Is, has, made, removed, assigned, lowest};
 ghost use Rattle.find_set.specs.Digit.{opened, closed};
 
 // A slot is made at `id`: the ids from there on are one higher. From the last word down, so that the top digit of a
-// word is read for the next one before the word moves.
+// word is read for the next one before the word moves. By number: each word takes in a digit of the one before it.
 pub fn insert(words: &mut [u32; 32], id: u32)
     requires { id < 1_024 }
     ensures { Is words.new (made id (has words.old)) }
@@ -23,7 +23,7 @@ pub fn insert(words: &mut [u32; 32], id: u32)
 }
 
 // The slot `id` is removed: the ids above it are one lower. From the last word down: what a word loses at its bottom,
-// the word before it takes in at its top.
+// the word before it takes in at its top. By number, for that too.
 pub fn remove(words: &mut [u32; 32], id: u32)
     requires { id < 1_024 }
     ensures { Is words.new (removed id (has words.old)) }
@@ -51,6 +51,7 @@ pub fn assign(words: &mut [u32; 32], id: u32, is: bool)
 
 // The lowest id of the set, and 1,024 where it is empty: words that are zero have none, and the first other one has the
 // lowest.
+// 1,024 and no None: its clause is the definition `lowest`, which answers so where there is none.
 pub fn first(words: &[u32; 32]) -> u32
     ensures { result ≡ lowest 1_024 0 (has words.now) }
 {
@@ -62,7 +63,8 @@ pub fn first(words: &[u32; 32]) -> u32
     1_024
 }
 
-// A digit comes into word `i` at place `k`, and the top one is lost.
+// A digit comes into word `i` at place `k`, and the top one is lost. The bounds are asked of three functions here
+// alone: types for them would have no other use.
 #[tactic(auto, unfolding(crate::specs::Digit::opened))]
 fn open_word(words: &mut [u32; 32], i: usize, k: u32, digit: u32)
     requires { (i < 32) × (k < 32) × (digit < 2) }

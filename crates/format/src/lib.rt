@@ -17,7 +17,7 @@ pub struct Geometry {
     pub prog_size: u32,
 }
 
-// Two block numbers: the Rust's `[lfs_block_t; 2]`. A struct, since an answer that is an enum can hold no array.
+// Two block numbers: the Rust's `[lfs_block_t; 2]`, and in C a struct.
 #[repr(C)]
 #[derive(Clone, Copy, Debug, PartialEq, Eq)]
 pub struct LfsPair {
@@ -37,8 +37,8 @@ pub struct LfsFcrc {
 
 // The record of a metadata pair, as fetch reads it: the answering block's number first, its revision, where its
 // committed log ends and the tag there, the number of slots, whether the room behind passed its forward check (which
-// does not say that it is empty), the tail (hard where `split`), and the last forward check that is committed. Its fields
-// stand as C has them, so the two flags are flags.
+// does not say that it is empty), the tail (hard where `split`), and the last forward check that is committed. Its
+// fields stand as C has them, so the two flags are flags.
 #[repr(C)]
 #[derive(Clone, Copy, Debug, PartialEq, Eq)]
 pub struct LfsMdir {

@@ -1,6 +1,7 @@
 // littlefs's own names for the numbers of the format, each once: those of lfs_type.rs and types.rs (lfs.h's enum
 // lfs_type), and in plain words those that littlefs writes as bare numbers. `specs/Kind.antt` has the same for the
-// definitions. A type is as wide as lfs_tag_type1, type2 and type3 answer it.
+// definitions. A type is as wide as lfs_tag_type1, type2 and type3 answer it: a number and no enum, since a tag may
+// hold any.
 
 // ---- types
 

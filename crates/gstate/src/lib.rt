@@ -27,6 +27,7 @@ pub fn xored(a: LfsGstate, b: LfsGstate) -> LfsGstate
     }
 }
 
+// By fields, as its definition.
 pub fn is_zero(a: LfsGstate) -> bool
     ensures { result ≡ gstate_zero a }
 {
@@ -111,7 +112,7 @@ pub fn lfs_gstate_needssuperblock(a: &LfsGstate) -> bool
     needs_superblock(*a)
 }
 
-// Per lfs.c lfs_gstate_hasmovehere; the pair as two numbers, as every other call takes it.
+// Per lfs.c lfs_gstate_hasmovehere; the pair as two numbers, as C hands it.
 pub fn lfs_gstate_hasmovehere(a: &LfsGstate, n0: u32, n1: u32) -> bool
     ensures { result ≡ gstate_has_move_here a.now (record { n0 = n0; n1 = n1 }) }
 {

@@ -1,6 +1,5 @@
 // The global state for C callers, who keep it: each export takes it where it stands, by `&` or `&mut`, hands it on to
-// littlefs's function of the same name, and answers a word. Tests answer 1 or 0. An export is two calls and no more; so
-// even a cast is a function here.
+// littlefs's function of the same name, and answers a word. Tests answer 1 or 0. An export is two calls and no more.
 ghost use Rattle.std.specs.Prelude.{◌≡◌};
 ghost use Rattle.format.specs.Answer.{flag_of};
 ghost use Rattle.format.specs.Gstate.{gstate_xor, gstate_zero, gstate_has_orphans, gstate_orphans, gstate_needs_superblock};

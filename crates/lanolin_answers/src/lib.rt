@@ -83,7 +83,7 @@ pub struct IndexedOut {
     pub places: u32,
 }
 
-// What lanolin_tree answers: the length of the whole text, beside a refusal too.
+// What a call answers that writes a text: the length of the whole text, beside a refusal too.
 #[repr(C)]
 #[derive(Clone, Copy)]
 pub struct TextOut {

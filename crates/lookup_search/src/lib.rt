@@ -1,7 +1,8 @@
 // The search of a lookup: the newest entry that a mask and a key match, met on the way back from the end of a block's
 // committed log. This is the loop of traverse.rs lfs_dir_getslice; what is done with the entry that it finds stands in
-// crate `lookup`, and compaction finds its move state by it. The functions require that the end is inside the block,
-// and are for the crates of this repository.
+// `slice` and in crate `lookup`, and compaction finds its move state by it. The functions require that the end is
+// inside the block: beside the record, which is C's struct and holds no block. They are for the crates of this
+// repository.
 #![tactic(auto)]
 
 ghost use Rattle.std.specs.Prelude.{◌≡◌, ◌+◌, ◌^◌, ◌<◌, ◌≤◌, cond, length, if◌then◌else◌};

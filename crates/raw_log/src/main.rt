@@ -18,6 +18,7 @@ fn asks_full(rt: &HostRuntime) -> bool {
     word[..n].starts_with(b"--full") & (n == 6)
 }
 
+// The usage and the call are this program's own; what the programs share is `text_print::of_pair`.
 fn main(rt: HostRuntime) -> io::Result<()> {
     let full = asks_full(&rt);
     let from = if full { 2 } else { 1 };

@@ -94,6 +94,7 @@ impl<'a> Pair<'a> {
 }
 
 // "Any other erased byte is -22."
+// A byte and no enum: it is compared with bytes and fills a block, and a call takes any and refuses by -22.
 pub fn erased_fits(erased: u8) -> bool
     ensures { result ≡ erased_fits erased }
 {
@@ -101,7 +102,7 @@ pub fn erased_fits(erased: u8) -> bool
 }
 
 // How a call writes: the rule by which the log must be regular is 0 or 1, and the erased byte "0xff or 0x00". Both are
-// still numbers here and in what calls this: that they fit is one test with the sizes.
+// numbers here and in what calls this: that they fit is one test with the sizes.
 pub fn writes_fit(rules: u32, erased: u8) -> bool
     ensures { result ≡ writes_fit rules erased }
 {

@@ -9,7 +9,8 @@ use format::LfsPair;
 use std::env::{Env, FillError};
 use text_input::{INPUT_PAIR, INPUT_PROG_SIZE, INPUT_RULES};
 
-// The program size and the block numbers of the pair to be shown, and the rule by which its log must be regular.
+// The program size and the block numbers of the pair to be shown, and the rule by which its log must be regular: still
+// a number, since the texts' calls take any, and show -22 for what is neither 0 nor 1.
 #[derive(Clone, Copy)]
 pub struct Request {
     pub prog_size: u32,
@@ -27,7 +28,8 @@ fn digit_behind(value: u32, digit: u8) -> Option<u32>
     value.checked_mul(10)?.checked_add((digit - b'0') as u32)
 }
 
-// The number that a text is in decimal: some digits and nothing else, and less than 2^32.
+// The number that a text is in decimal: some digits and nothing else, and less than 2^32. By hand: the library's parse
+// takes a sign in front too.
 pub fn number(text: &[u8]) -> Option<u32>
     ensures { result ≡ number_of text.now }
 {
@@ -42,6 +44,7 @@ pub fn number(text: &[u8]) -> Option<u32>
 }
 
 // How many arguments the program was started with, its own name among them.
+// By number: the library's list of arguments is on the heap.
 pub fn count<E: Env>(env: &E) -> usize {
     for i in 0..usize::MAX {
         if let Err(FillError::NotPresent) = env.arg(i, &mut []) {

@@ -67,6 +67,7 @@ fn is_deadline(attribute: Option<Found>) -> bool
 }
 
 // "The name as in the listing; `-` where there is none."
+// That it is inside is asked here and below: `Found` is C's struct, and holds no block.
 #[tactic(auto, unfolding(format::specs::Audit::name_or_dash, theory::specs::Lookup::ByMask::holds))]
 fn name_or_dash(text: &mut Text, b: &[u8], name: Option<Found>)
     requires { HitIn (length b.now) name }
@@ -131,6 +132,7 @@ fn slot_audit(text: &mut Text, a: &mut Audit, b: &[u8], id: u32, seats: &[u32; 5
 }
 
 // All slots of the log that ends at `end` with the tag `etag`, by rising id.
+// As the listing's loop: its two lines, with a closure for a slot and its law, would be no fewer.
 fn slot_audits(text: &mut Text, b: &[u8], end: usize, etag: u32, count: u32) -> Audit
     requires { Slots b.now end etag count }
     ensures { SlotsAudited text.old text.new result (dir_of (log b.now)) }
@@ -172,6 +174,7 @@ fn block_audit(text: &mut Text, b: &[u8], m: LfsMdir, rules: Rules)
 
 // Both images, one behind the other, the program size, the numbers of the two blocks and the rule, as the listing takes
 // them.
+// As the listing's: its six lines, with a closure for what is shown and its law, would be no fewer.
 pub fn lfs_dir_audit_as(
     prog_size: u32,
     numbers: LfsPair,
@@ -192,6 +195,7 @@ pub fn lfs_dir_audit_as(
 }
 
 // The audit of document 01's own input: "program size 16, numbers 0 and 1", by its own rule.
+// As the listing's: a promise has each by its name, and each is one line.
 pub fn lfs_dir_audit(input: &[u8], out: &mut [u8]) -> u32
     ensures value { result ≡ length (audit_of input.now) }
     ensures out_after { out.new ≡ written_to out.old (audit_of input.now) }

@@ -32,6 +32,7 @@ fn found_text(text: &mut Text, b: &[u8], m: LfsMdir, rules: Rules, name: &[u8], 
 // Of both images, one behind the other, as far as `out` has room; the program size, the numbers of the two blocks, the
 // rule by which the log must be regular (0 or 1, "any other -22"), the name and its type are given. The answer is the
 // length of the whole text, as the listing's.
+// As the listing's: its lines, with a closure for what is shown and its law, would be no fewer.
 pub fn lfs_dir_find_as(
     prog_size: u32,
     numbers: LfsPair,

@@ -23,7 +23,8 @@ use text_input::{INPUT_PAIR, INPUT_PROG_SIZE, INPUT_RULES};
 // The class of the first user attribute: a name and a struct come before.
 const ATTRIBUTES: usize = 2;
 
-// "id, name type, name, ..; a missing part prints `-` per field"
+// "id, name type, name, ..; a missing part prints `-` per field". That what was found is inside is asked here and
+// below: `Found` is C's struct, and the seats are an array of words; neither holds a block.
 #[tactic(auto, unfolding(format::specs::Listing::name_fields, theory::specs::Lookup::ByMask::holds, text::specs::Put::puts_of), using(text::proofs::Joined::puts_append))]
 pub fn name_fields(text: &mut Text, b: &[u8], name: Option<Found>)
     requires { HitIn (length b.now) name }
@@ -115,6 +116,7 @@ fn slot_lines(text: &mut Text, b: &[u8], end: usize, etag: u32, count: u32)
 }
 
 // "A tail prints `soft` or `hard` and two decimals; `none` is soft, both 0xffffffff."
+// The flag and the pair apart, as C's record has them: a soft tail has a pair as well, so it is no Option.
 #[tactic(auto, unfolding(format::specs::Listing::tail_line), using(text::proofs::Joined::puts_append))]
 fn tail_line(text: &mut Text, split: bool, pair: LfsPair)
     ensures { Puts text.old text.new (tail_line split pair) }
@@ -167,8 +169,8 @@ fn block_text(text: &mut Text, b: &[u8], m: LfsMdir, rules: Rules)
 // The listing of both images, one behind the other, as far as `out` has room; the program size, the numbers of the two
 // blocks and the rule by which the log must be regular are given: 0 or 1, "any other -22". The answer is the length of
 // the whole text, so a caller whose buffer was too short knows how long a one to lend. No listing reaches 2^32 bytes,
-// where `text`'s count would wrap. The audit and what is found are shown in the same way: these six lines, with a closure
-// for what is shown and its law, would be no fewer.
+// where `text`'s count would wrap. The audit and what is found are shown in the same way: these six lines, with a
+// closure for what is shown and its law, would be no fewer.
 pub fn lfs_dir_list_as(
     prog_size: u32,
     numbers: LfsPair,

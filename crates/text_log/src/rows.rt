@@ -23,6 +23,7 @@ fn cell(text: &mut Text, bytes: &[u8], i: usize)
 }
 
 // So many places, with the bytes in them.
+// By number: the places behind the last byte are shown too, blank.
 fn hex_cells(text: &mut Text, places: usize, bytes: &[u8])
     ensures { Puts text.old text.new (hex_cells places bytes.now) }
 {

@@ -36,8 +36,8 @@ pub fn usage<E: Write>(err: &mut E, line: &[u8]) -> io::Result<()>
     err.write_all(line)
 }
 
-// What there is to read, as far as the buffer has room: how many bytes it put at the start of it. Reads may be short, so
-// there is nothing to count through; read_exact refuses a shorter input.
+// What there is to read, as far as the buffer has room: how many bytes it put at the start of it. Reads may be short,
+// so there is nothing to count through; read_exact refuses a shorter input.
 pub fn read_full<R: Read>(reader: &mut R, buf: &mut [u8]) -> io::Result<usize>
     ensures bound { ReadsAtMost result buf.new }
     ensures bytes { IfOk result (λ n. Consumes (R.remaining reader.old) (R.remaining reader.new) (take n buf.new)) }

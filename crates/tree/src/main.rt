@@ -21,8 +21,8 @@ fn show_refusal(rt: &HostRuntime, r: Refusal) -> io::Result<()> {
     Ok(())
 }
 
-// Room for a text, and for a volume and a byte more. Functions of their own, so that no proof but their own sees so long
-// an array.
+// Room for a text, and for a volume and a byte more. Functions of their own, so that no proof but their own sees so
+// long an array.
 fn text_room() -> [u8; 524_288] {
     [0u8; 524_288]
 }

@@ -1,6 +1,5 @@
 // One pair of a tree (document 02, L9): opened, the entries of its slots, and a line of the walk's text. The functions
-// ask that the volume fits, or that the block was fetched from and its log is regular, and are for the crates of this
-// repository.
+// ask that the block was fetched from and its log is regular, and are for the crates of this repository.
 #![tactic(auto)]
 
 ghost use Rattle.std.specs.Prelude.{◌≡◌, length};

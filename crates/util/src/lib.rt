@@ -79,7 +79,7 @@ pub fn lfs_pair_cmp(paira: LfsPair, pairb: LfsPair) -> i32
     if shares { 0 } else { 1 }
 }
 
-// Per lfs.c lfs_pair_issync: the same two blocks, in either order.
+// Per lfs.c lfs_pair_issync: the same two blocks, in either order; by fields, as lfs.c and its definition.
 pub fn lfs_pair_issync(paira: LfsPair, pairb: LfsPair) -> bool
     ensures { result ≡ pair_sync paira pairb }
 {

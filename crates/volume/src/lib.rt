@@ -1,5 +1,5 @@
-// A lent volume of equal blocks that fits its geometry: its blocks, and a pair that is fetched in it. Document 02 has it
-// first in L9: "a lent volume of equal blocks (empty or not whole blocks is -22, here and below)".
+// A lent volume of equal blocks that fits its geometry: its blocks, and a pair that is fetched in it. Document 02 has
+// it first in L9: "a lent volume of equal blocks (empty or not whole blocks is -22, here and below)".
 #![tactic(auto)]
 
 ghost use Rattle.std.specs.Prelude.{◌≡◌, true, ◌<◌};
