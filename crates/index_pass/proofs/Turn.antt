@@ -2,7 +2,7 @@
 -- Assumes nothing.
 use mathlib.Core.Path.{◌≡◌, refl, sym, ap, ◌∙◌}
 use mathlib.Core.List.{List, [], ◌∷◌}
-use Prim.Native.Nat.{ℕ, ◌+◌, ◌-◌, ◌/◌, ◌≤◌, ◌<◌}
+use Prim.Native.Nat.{ℕ, ◌-◌, ◌/◌, ◌≤◌, ◌<◌}
 use native.Mathlib.Omega.{arith}
 use lib.ListN.{length, replicate, length-append}
 use borrow.Author.Tests.{le-leb, lt-leb}
@@ -11,13 +11,14 @@ use Rattle.format.specs.Log.{event_length}
 use Rattle.format.specs.Directory.{Act, skip}
 use Rattle.format.specs.Index.{placed_act, placed_from, places_after, padded, ran_on, indexed_as, table_as}
 use Rattle.format.specs.declared.Refusal.{Refusal}
+use Rattle.commit_regular.specs.Ends.{Onwards}
 use Rattle.commit_regular.specs.Left.{Starts, On, left, event_of, Meets}
 use Rattle.commit_regular.specs.declared.tags.Logged.{Logged}
 use Rattle.commit_regular.specs.declared.tags.Logged.TheVariants.{Entry, Check}
 use Rattle.commit_regular.specs.declared.tags.Tags.{Tags}
 use Rattle.index_table.specs.Held.{in_use, Has, Keeps, Lacks, Goes}
 use Rattle.index_table.specs.declared.Places.{Places}
-use Rattle.index_pass.specs.Run.{Onwards, Startable, ran_from, Ran}
+use Rattle.index_pass.specs.Run.{Startable, ran_from, Ran}
 use Rattle.index_pass.proofs.Entry.{after}
 use Rattle.std.specs.Prelude.{Err, Ok, None, Some}
 

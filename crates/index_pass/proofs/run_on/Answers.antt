@@ -7,9 +7,6 @@ use Rattle.index_table.specs.declared.Places.{Places}
 use Rattle.index_pass.proofs.Turn.{starts_going, ends_there, check_goes, entry_goes, entry_full}
 use Rattle.index_pass.proofs.run_on.Goals as goal
 
-pub behind-logged-items-requires : goal.behind-logged-items-requires
-behind-logged-items-requires c = record { sum = c.requires.onwards.sum; ends = c.requires.onwards.ends }
-
 pub loop-logged-init : goal.loop-logged-init
 loop-logged-init c = (
   tt,

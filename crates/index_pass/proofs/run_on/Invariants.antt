@@ -1,7 +1,7 @@
 -- `index_pass::run_on` meets its contract. The loop keeps the entries that are left, run on the places that stand in
 -- the table (`Going`). Assumes nothing.
 use Rattle.index_table.specs.Held.{Stays}
-use Rattle.index_pass.specs.Run.{Onwards}
+use Rattle.commit_regular.specs.Ends.{Onwards}
 use Rattle.index_pass.proofs.Turn.{Going}
 use Rattle.index_pass.proofs.run_on.Given as goal
 
