@@ -16,13 +16,13 @@ use Rattle.format.specs.declared.Rules.{Rules}
 use Rattle.format.specs.declared.Refusal.TheVariants.{Irregular}
 use Rattle.fetch_walk.specs.Block.{walked_of, walked_again}
 use Rattle.fetch_walk.specs.declared.Walked.{Walked}
-use Rattle.commit_regular.specs.Ends.{CommittedTo}
+use Rattle.commit_regular.specs.Ends.{CommittedTo, Onwards}
 use Rattle.index_theory.specs.Ends.{between_ends, new_acts_lem, end_next}
 use Rattle.index_table.specs.Held.{in_use, Takes}
 use Rattle.index_table.specs.declared.Places.{Places}
 use Rattle.index_table.proofs.Holding.{held}
 use Rattle.std.specs.Borrow.{MutBor}
-use Rattle.index_pass.specs.Run.{Onwards, Startable, Runs}
+use Rattle.index_pass.specs.Run.{Startable, Runs}
 use Rattle.index.specs.Blocks.{InBlock, extended_in, extended_table}
 use Rattle.index.proofs.Block.{front, front_is, refuses, accepts, no_end_low, no_end, an_end, walked_end}
 use Rattle.index.proofs.Block.{front_committed, not_indexable, is_indexable, front_buildable}

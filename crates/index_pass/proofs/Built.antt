@@ -9,9 +9,10 @@ use Rattle.format.specs.Walk.{walk}
 use Rattle.format.specs.Log.{log}
 use Rattle.format.specs.Index.{placed_from, ran_on, indexed_as, table_as, built}
 use Rattle.index_theory.specs.Ran.{built_is}
+use Rattle.commit_regular.specs.Ends.{Onwards}
 use Rattle.index_table.specs.Held.{in_use, Takes}
 use Rattle.index_table.specs.declared.Places.{Places}
-use Rattle.index_pass.specs.Run.{Onwards, Startable, Runs, Buildable}
+use Rattle.index_pass.specs.Run.{Startable, Runs, Buildable}
 use Rattle.std.specs.Borrow.{MutBor}
 use Rattle.std.specs.Prelude.{Result}
 use Rattle.format.specs.declared.Refusal.{Refusal}

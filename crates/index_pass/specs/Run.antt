@@ -1,22 +1,13 @@
 -- What the pass asks and what it leaves. Assumes nothing.
-use Rattle.std.specs.Prelude.{◌≡◌, true, List, ℕ, ◌+◌, ◌^◌, ◌≤◌, length, drop, Option, Result}
-use Rattle.format.specs.Walk.{Event, walk_from}
-use Rattle.format.specs.Log.{committed, log, span, log_end}
+use Rattle.std.specs.Prelude.{◌≡◌, true, List, ℕ, ◌^◌, ◌≤◌, length, Option, Result}
+use Rattle.format.specs.Log.{log, log_end}
 use Rattle.format.specs.Regular.{Regular}
 use Rattle.format.specs.declared.Rules.TheVariants.{Littlefs}
 use Rattle.format.specs.Index.{placed_from, ran_on, indexed_as, table_as}
+use Rattle.commit_regular.specs.Ends.{committed_from, Onwards}
 use Rattle.index_table.specs.Held.{table_of, in_use, Has, Stays}
 use Rattle.index_table.specs.declared.Places.{Places}
 use Rattle.format.specs.declared.Refusal.{Refusal}
-
--- what is committed from a place on, by the previous tag and the checksum there
-abbrev pub on_from : List ℕ → ℕ → ℕ → ℕ → List Event
-on_from b at prev sum = committed (walk_from sum prev (drop at b))
-
--- it ends at `end`, with some checksum at the start
-pub record Onwards (b : List ℕ) (from prev end : ℕ) : Type 0 where
-  pub sum : ℕ
-  pub ends : from + span (on_from b from prev sum) ≡ end
 
 -- the entries to run, a block that is not too long, and a table whose places in use have only zeros behind them
 pub record Startable (b : List ℕ) (from prev end : ℕ) (p : Places) : Type 0 where
@@ -26,7 +17,7 @@ pub record Startable (b : List ℕ) (from prev end : ℕ) (p : Places) : Type 0 
 
 -- the answer and the table are those of the entries run on its places
 abbrev pub ran_from : (b : List ℕ) (from prev end : ℕ) → Onwards b from prev end → Places → Option (List ℕ)
-ran_from b from prev end k p = ran_on (length (table_of p).now) (in_use p) (placed_from from (on_from b from prev k.sum))
+ran_from b from prev end k p = ran_on (length (table_of p).now) (in_use p) (placed_from from (committed_from b from prev k.sum))
 
 pub record Ran (b : List ℕ) (from prev end : ℕ) (k : Onwards b from prev end) (old new : Places) (r : Result ℕ Refusal)
     : Type 0 where

@@ -8,7 +8,7 @@ ghost use Rattle.format.specs.Index.{placed_act, places_after, indexed_as, table
 ghost use Rattle.index_table.specs.Held.{Goes};
 ghost use Rattle.index_pass.specs.Run.{Startable, Runs, Buildable};
 
-use fetch_walk::cursor;
+use commit_regular::tags::{Logged, Tags};
 use format::Refusal;
 use format::types::*;
 use index_table::Places;
@@ -48,22 +48,13 @@ pub fn run_on(
     requires { Startable b.now from prev end places.old }
     ensures { Runs b.now from prev end places.old places.new result }
 {
-    let mut at = from;
-    let mut last = prev;
-    // no range: how far the next entry is, its tag says
-    while at < end {
-        let tag = word::within::be32(b, at) ^ last;
-        let next = at + tag::lfs_tag_dsize(tag) as usize;
-        if cursor::is_check(tag) {
-            last = cursor::flipped(tag);
-        } else {
+    for logged in Tags::behind(b, from, prev, end) {
+        if let Logged::Entry(tag, at) = logged {
             if let Err(full) = follow(places, tag, at) {
                 places.clear();
                 return Err(full);
             }
-            last = tag;
         }
-        at = next;
     }
     Ok(places.used())
 }

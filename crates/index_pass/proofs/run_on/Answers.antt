@@ -1,75 +1,67 @@
--- `index_pass::run_on` meets its contract. The loop keeps the entries that are still to come, run on the places that
--- stand in the table (`Going`); what is left of the block falls. Assumes nothing.
+-- `index_pass::run_on` meets its contract. The loop keeps the entries that are left, run on the places that stand in
+-- the table (`Going`). Assumes nothing.
 use Rattle.std.proofs.Common.{length, refl, ap, ◌∙◌, arith}
+use Rattle.format.proofs.Words.{tag_length_ge}
 use Rattle.index_table.specs.Held.{Goes}
 use Rattle.index_table.specs.declared.Places.{Places}
-use Rattle.index_pass.proofs.Turn.{starts_going, ends_there, word_inside, tag_small, tag_inside}
-use Rattle.index_pass.proofs.Turn.{check_goes, entry_goes, entry_full}
+use Rattle.index_pass.proofs.Turn.{starts_going, ends_there, check_goes, entry_goes, entry_full}
 use Rattle.index_pass.proofs.run_on.Goals as goal
 
-pub loop-at-init : goal.loop-at-init
-loop-at-init c = (record { same = refl; long = refl }, starts_going c.requires)
-
-pub be32-requires : goal.be32-requires
-be32-requires c = word_inside (c.loop-at.invariant.1 c.requires.onwards) c.loop-at-test.true
-
-pub overflow_add-next : goal.overflow_add-next
-overflow_add-next c =
-    let t = tag_inside (c.loop-at.invariant.1 c.requires.onwards) c.loop-at-test.true c.be32.ensures
-    c.lfs_tag_dsize.ensures in
-    omega (arith, t.0)
-
-pub flipped-last-requires : goal.flipped-last-requires
-flipped-last-requires c = tag_small (c.loop-at.invariant.1 c.requires.onwards) c.loop-at-test.true c.be32.ensures
+pub loop-logged-init : goal.loop-logged-init
+loop-logged-init c = (
+  tt,
+  tt,
+  record { same = refl; long = refl },
+  λ k. rw c.into_iter-logged-iterator.ensures.into_iter_gives (starts_going c.requires k c.behind-logged-items.ensures),
+)
 
 pub follow-requires : goal.follow-requires
 follow-requires c =
-    let v = c.loop-at.invariant.1 c.requires.onwards in
-    (tag_small v c.loop-at-test.true c.be32.ensures, omega (arith, word_inside v c.loop-at-test.true, c.requires.small))
+    let v = c.loop-logged.invariant.3 c.requires.onwards in
+    let m = rw c.in-Entry.is at (c.in-Some.ensures.steps v.on) in
+    let inside = rw v.block at m.stands.1 in
+    (m.stands.2, omega (arith, inside, tag_length_ge c.in-Entry.tag, c.requires.small))
 
 pub returns-in-Err : goal.returns-in-Err
 unfolding Goes
 returns-in-Err c = record {
   stays = record {
-    same = c.clear.ensures.stays.same ∙ ap (λ (y : Places). y.table.ghost_name) c.in-Err.ensures.1.same ∙ c.loop-at.invariant.0.same;
-    long = c.clear.ensures.stays.long ∙ ap (λ (y : Places). length y.table.now) c.in-Err.ensures.1.same ∙ c.loop-at.invariant.0.long;
+    same = c.clear.ensures.stays.same ∙ ap (λ (y : Places). y.table.ghost_name) c.in-Err.ensures.1.same ∙ c.loop-logged.invariant.2.same;
+    long = c.clear.ensures.stays.long ∙ ap (λ (y : Places). length y.table.now) c.in-Err.ensures.1.same ∙ c.loop-logged.invariant.2.long;
   };
-  ran = λ k. entry_full (c.loop-at.invariant.1 k) c.loop-at-test.true c.be32.ensures c.lfs_tag_dsize.ensures
-      c.is_check.ensures c.if-is_check.false c.in-Err.ensures c.clear.ensures;
+  ran = λ k.
+      let v = c.loop-logged.invariant.3 k in
+      entry_full v (rw c.in-Entry.is at (c.in-Some.ensures.steps v.on)) c.in-Err.ensures c.clear.ensures;
 }
 
-pub loop-at-smaller-then-is_check : goal.loop-at-smaller-then-is_check
-loop-at-smaller-then-is_check c =
-    let t = tag_inside (c.loop-at.invariant.1 c.requires.onwards) c.loop-at-test.true c.be32.ensures
-    c.lfs_tag_dsize.ensures in
-    omega (arith, t.1)
-
-pub loop-at-preserved-then-is_check : goal.loop-at-preserved-then-is_check
-loop-at-preserved-then-is_check c = (
-  c.loop-at.invariant.0,
-  λ k. check_goes (c.loop-at.invariant.1 k) c.loop-at-test.true c.be32.ensures c.lfs_tag_dsize.ensures
-      c.is_check.ensures c.if-is_check.true c.flipped-last.ensures,
+pub loop-logged-preserved-in_default-follow : goal.loop-logged-preserved-in_default-follow
+unfolding Goes
+loop-logged-preserved-in_default-follow c = (
+  tt,
+  tt,
+  record {
+    same = c.in_default-follow.ensures.stays.same ∙ c.loop-logged.invariant.2.same;
+    long = c.in_default-follow.ensures.stays.long ∙ c.loop-logged.invariant.2.long;
+  },
+  λ k.
+      let v = c.loop-logged.invariant.3 k in
+      entry_goes v (rw c.in-Entry.is at (c.in-Some.ensures.steps v.on)) c.in_default-follow.ensures,
 )
 
-pub loop-at-smaller : goal.loop-at-smaller
-loop-at-smaller c =
-    let t = tag_inside (c.loop-at.invariant.1 c.requires.onwards) c.loop-at-test.true c.be32.ensures
-    c.lfs_tag_dsize.ensures in
-    omega (arith, t.1)
-
-pub loop-at-preserved : goal.loop-at-preserved
-unfolding Goes
-loop-at-preserved c = (
-  record {
-    same = c.in_default.ensures.stays.same ∙ c.loop-at.invariant.0.same;
-    long = c.in_default.ensures.stays.long ∙ c.loop-at.invariant.0.long;
-  },
-  λ k. entry_goes (c.loop-at.invariant.1 k) c.loop-at-test.true c.be32.ensures c.lfs_tag_dsize.ensures
-      c.is_check.ensures c.if-is_check.false c.in_default.ensures,
+pub loop-logged-preserved : goal.loop-logged-preserved
+loop-logged-preserved c = (
+  tt,
+  tt,
+  c.loop-logged.invariant.2,
+  λ k.
+      let v = c.loop-logged.invariant.3 k in
+      check_goes v _ c.in_default.not-Entry (c.in-Some.ensures.steps v.on),
 )
 
 pub returns : goal.returns
 returns c = record {
-  stays = c.loop-at.invariant.0;
-  ran = λ k. rw c.used.ensures (ends_there (c.loop-at.invariant.1 k) c.loop-at-test.false);
+  stays = c.loop-logged.invariant.2;
+  ran = λ k.
+      let v = c.loop-logged.invariant.3 k in
+      rw c.used.ensures (ends_there v (c.in-None.ensures.steps v.on));
 }
