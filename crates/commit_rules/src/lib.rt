@@ -69,7 +69,7 @@ fn count_after(rule: Rule, count: u32) -> u32
 {
     match rule {
         Rule::Create => count + 1,
-        Rule::Delete => { if count == 0 { 0 } else { count - 1 } }
+        Rule::Delete => count.saturating_sub(1),
         _ => count,
     }
 }
@@ -106,10 +106,7 @@ pub fn grows_after(rule: Rule, grows: bool) -> bool
 pub fn grows(rules: Rules) -> bool
     ensures { result ≡ grows rules }
 {
-    match rules {
-        Rules::Document => false,
-        Rules::Littlefs => true,
-    }
+    rules == Rules::Littlefs
 }
 
 // "every check tag's size is 4 to 1,022"

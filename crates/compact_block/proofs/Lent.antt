@@ -3,7 +3,7 @@
 use Rattle.std.proofs.Common.{◌≡◌, ℕ, ◌-◌, ◌*◌, ◌≤◌, Bool, true, false, not, List, length, take, sym, refl, ◌∙◌, arith}
 use borrow.Author.Tests.{not-true, not-false}
 use Rattle.format.specs.Log.{log}
-use Rattle.format.specs.Regular.{Regular, rules_of}
+use Rattle.format.specs.Regular.{Regular}
 use Rattle.format.specs.declared.Rules.{Rules}
 use Rattle.format.specs.declared.Rules.TheVariants.{Littlefs}
 use Rattle.format.specs.Compaction.{CompactVerdict, compactable, compact_made}

@@ -20,19 +20,11 @@ use compact_entries::Emit;
 use format::types::{CRC_START, FIRST_PREV};
 use format::{LfsMdir, Refusal, Rules};
 
-// The checksum behind the revision's four bytes.
-fn sum_rev(rev: u32) -> u32
-    ensures { result ≡ crc all_ones (to_le32 rev) }
-{
-    let bytes = word::le_bytes(rev);
-    crc::lfs_crc(CRC_START, &bytes)
-}
-
 // Where the entries begin: behind the revision, "The previous tag starts at 0xffffffff".
 fn begin(rev: u32, run: Run) -> Emit
     ensures { result ≡ begins rev run }
 {
-    let sum = sum_rev(rev);
+    let sum = fetch_walk::crc_word(CRC_START, rev);
     Emit {
         run,
         end: 4,

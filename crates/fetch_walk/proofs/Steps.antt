@@ -1,53 +1,23 @@
 -- The directory record's steps: each kind of entry moves the parts that its folds say and no other. Assumes nothing.
-use mathlib.Core.Path.{◌≡◌, refl, sym, ap, ◌∙◌}
+use mathlib.Core.Path.{◌≡◌, refl, sym, ◌∙◌}
 use mathlib.Core.Bool.{Bool, true, false, cond, ◌||◌}
 use mathlib.Core.List.{List}
-use Prim.Native.Nat.{ℕ, ◌+◌, ◌-◌, ◌/◌, ◌%◌, ◌^◌, ◌<◌, ◌≤◌}
+use Prim.Native.Nat.{ℕ, ◌-◌, ◌/◌, ◌%◌, ◌^◌}
 use native.Mathlib.Omega.{arith}
-use lib.IntN.{ℤ, pos, negsuc}
 use lib.Dec.{eqb}
 use lib.ListN.{take, drop}
 use mir.Syntax.{w8}
-use mir.Val.{SFits, to_z}
+use mir.Val.{to_z}
 use borrow.Author.Tests.{eq-eqb, ne_eqb}
-use Rattle.format.specs.Tag.{tag_type1, tag_type2, tag_type3, tag_chunk, tag_splice, tag_id, tag_length}
+use Rattle.format.specs.Tag.{tag_type1, tag_type2, tag_type3, tag_chunk, tag_id, tag_length}
 use Rattle.format.specs.Kind.{is_name, is_splice, is_tail, is_forward}
 use Rattle.format.specs.Walk.{read_behind, body_length, body_of}
 use Rattle.format.specs.Count.{count_named, count_spliced}
 use Rattle.format.specs.Record.{counted, pair_in, forward_in}
 use Rattle.format.proofs.Parts.{le32_take, le32_take_second}
 use Rattle.format.proofs.Classes.{behind_wide}
-use Rattle.tag.specs.Splice.{from_lowest}
-use Rattle.tag.proofs.Splice.{splice_fits}
-use Rattle.fetch_walk.specs.Dir.{with_count, named, spliced, tailed, forwarded, entered}
+use Rattle.fetch_walk.specs.Dir.{named, spliced, tailed, forwarded, entered}
 use Rattle.fetch_walk.specs.declared.dir.DirState.{DirState}
-
--- ---- the count
-module _ (t r : ℕ) (d : DirState) (e : r ≡ tag_id t) where
-  pub name_more : d.count < r + 1 → with_count (r + 1) d ≡ named t d
-  unfolding named
-  name_more h = let m : r + 1 ≡ count_named d.count (tag_id t) = omega arith in ap (λ (n : ℕ). with_count n d) m
-
-  pub name_same : r + 1 ≤ d.count → d ≡ named t d
-  unfolding named
-  name_same h = let m : d.count ≡ count_named d.count (tag_id t) = omega arith in ap (λ (n : ℕ). with_count n d) m
-
--- the count plus the splice z; r is how far that lies above -128
-module _ (n r : ℕ) where
-  none : (z : ℤ) → r ≡ from_lowest z → n + r < 128 → 0 ≡ count_spliced n z
-  none (pos m) e h = absurd (omega arith)
-  none (negsuc m) e h = omega arith
-
-  some : (z : ℤ) → SFits w8 z → r ≡ from_lowest z → 128 ≤ n + r → (n + r - 128) % 65_536 ≡ count_spliced n z
-  some (pos m) f e h = omega arith
-  some (negsuc m) f e h = let l : m < 2 ^ 7 = f.sfits in omega arith
-
-  pub splice_none : (t : ℕ) → r ≡ from_lowest (tag_splice t) → n + r < 128 → 0 ≡ count_spliced n (tag_splice t)
-  splice_none t = none (tag_splice t)
-
-  pub splice_some : (t : ℕ) → r ≡ from_lowest (tag_splice t) → 128 ≤ n + r
-      → (n + r - 128) % 65_536 ≡ count_spliced n (tag_splice t)
-  splice_some t = some (tag_splice t) (splice_fits t)
 
 -- ---- the types are apart
 kinds_apart : (t : ℕ) → t / 2 ^ 28 % 8 ≡ 6 → t / 2 ^ 27 % 16 ≡ 10 → ⊥

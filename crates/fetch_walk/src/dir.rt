@@ -39,13 +39,12 @@ impl DirState {
     }
 
     // "Name: count becomes at least id + 1."
+    #[tactic(auto, unfolding(crate::specs::Dir::named))]
     pub fn name(mut self, tag: u32) -> Self
         ensures { result ≡ named tag self }
     {
         let least = tag::lfs_tag_id(tag) + 1;
-        if self.count < least {
-            self.count = least;
-        }
+        self.count = self.count.max(least);
         self
     }
 
@@ -114,9 +113,5 @@ fn splice_count(count: u16, tag: u32) -> u16
     ensures { result ≡ count_spliced count (tag_splice tag) }
 {
     let n = count as u32 + tag::splice_from_lowest(tag);
-    if n < 128 {
-        0
-    } else {
-        ((n - 128) % 65_536) as u16
-    }
+    (n.saturating_sub(128) % 65_536) as u16
 }

@@ -76,8 +76,9 @@ impl WalkState {
     }
 }
 
-// "the seed takes the checksum's four bytes"
-fn crc_word(seed: u32, sum: u32) -> u32
+// A word's four bytes, taken by a checksum: "the seed takes the checksum's four bytes", and a block's first commit begins
+// with its revision.
+pub fn crc_word(seed: u32, sum: u32) -> u32
     ensures { result ≡ crc seed (to_le32 sum) }
 {
     let bytes = word::le_bytes(sum);

@@ -307,11 +307,7 @@ impl From<Result<Option<u32>, Refusal>> for NamedOut {
 fn in_word(n: usize) -> u32
     ensures { result ≡ min n all_ones }
 {
-    if n < 0xffff_ffff {
-        n as u32
-    } else {
-        0xffff_ffff
-    }
+    n.min(0xffff_ffff) as u32
 }
 
 impl From<Result<usize, Refusal>> for IndexedOut {

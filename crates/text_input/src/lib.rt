@@ -63,6 +63,7 @@ pub fn ask(
 {
     let rules = Rules::try_from(rules)?;
     let dir = fetch_input(prog_size, numbers, input)?.dir;
+    // no Pair::block_of: what would answer the Pair here and in fetch_input needs a clause for each of its fields
     let (first, second) = input.split_at(input.len() / 2);
     let block = if dir.pair.n0 == numbers.n0 {
         first

@@ -12,13 +12,9 @@ pub returns-in-Create : goal.returns-in-Create
 unfolding count_after
 returns-in-Create c = rw c.in-Create.is (omega arith)
 
-pub returns-then-count-eq0 : goal.returns-then-count-eq0
+pub returns-in-Delete : goal.returns-in-Delete
 unfolding count_after
-returns-then-count-eq0 c = rw c.in-Delete.is (omega arith)
-
-pub returns-else-count-eq0 : goal.returns-else-count-eq0
-unfolding count_after
-returns-else-count-eq0 c = rw c.in-Delete.is (omega arith)
+returns-in-Delete c = rw c.in-Delete.is c.saturating_sub.ensures
 
 pub returns-in_default : goal.returns-in_default
 returns-in_default c = count_stays c.args.rule c.args.count c.in_default.not-Create c.in_default.not-Delete

@@ -5,4 +5,4 @@ use Rattle.compact_block.proofs.begin.Goals as goal
 
 pub returns : goal.returns
 unfolding begins
-returns c = λ i. record { run = c.args.run; end = 4; prev = all_ones; sum = c.sum_rev-sum.ensures i }
+returns c = λ i. record { run = c.args.run; end = 4; prev = all_ones; sum = c.crc_word-sum.ensures i }

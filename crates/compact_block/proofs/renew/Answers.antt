@@ -1,6 +1,6 @@
 -- `compact_block::renew` meets its contract: a log that is irregular, or the compaction with the table's places, or
 -- without. Assumes nothing.
-use Rattle.std.proofs.Common.{arith, ap, not, refl, sym, ◌∙◌}
+use Rattle.std.proofs.Common.{ap, not, refl}
 use Rattle.std.specs.Prelude.{option_copied}
 use Rattle.compact_entries.specs.Placed.{Indexes}
 use Rattle.compact_block.proofs.Lent.{renew_irregular, renew_done, renew_regular, renew_builds}

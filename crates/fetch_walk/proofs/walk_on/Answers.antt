@@ -1,7 +1,6 @@
 -- `fetch_walk::walk_on` meets its contract. The loop keeps what the walk from here leaves on the state now; the block's
 -- rest shrinks. Assumes nothing.
 use mathlib.Core.Path.{◌≡◌, refl, sym, ◌∙◌}
-use Prim.Native.Nat.{◌-◌}
 use native.Mathlib.Omega.{arith}
 use Rattle.fetch_walk.specs.Next.{next_of}
 use Rattle.fetch_walk.specs.declared.cursor.Seen.TheVariants.{Entry, Check}
