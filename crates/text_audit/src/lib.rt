@@ -13,13 +13,12 @@ ghost use Rattle.format.specs.Look.{HitIn};
 ghost use Rattle.theory.specs.Lookup.ByMask.{holds};
 ghost use Rattle.text.specs.Put.{Puts};
 ghost use Rattle.compact_slot.specs.Slots.{Slots, slot_in, AllInside};
-ghost use Rattle.text_input.specs.Input.{Listable};
 ghost use Rattle.text_audit.specs.Audited.{Told, Few, SlotAudited, SlotsAudited};
 
 use format::types::*;
-use format::{Found, LfsMdir, LfsPair, Refusal, Rules};
+use format::{Found, LfsPair, Refusal};
 use text::Text;
-use text_input::{INPUT_PAIR, INPUT_PROG_SIZE, INPUT_RULES};
+use text_input::{Answering, INPUT_PAIR, INPUT_PROG_SIZE, INPUT_RULES};
 
 // The class of the deadline, the user attribute 0x74: a name and a struct come before.
 const DEADLINE: usize = 2 + 0x74;
@@ -159,17 +158,16 @@ fn total_lines(text: &mut Text, a: Audit, count: u32)
 
 // "A log that isn't regular has no directory: -202, and nothing else."
 #[tactic(auto, unfolding(format::specs::Audit::block_audit))]
-fn block_audit(text: &mut Text, b: &[u8], m: LfsMdir, rules: Rules)
-    requires { Listable b.now m }
-    ensures { Puts text.old text.new (block_audit rules m b.now) }
+fn block_audit(text: &mut Text, a: Answering)
+    ensures { Puts text.old text.new (block_audit a.entry.rules a.entry.dir a.entry.block.now) }
 {
-    let end = m.off as usize;
-    if !commit_regular::log_regular(b, end, rules) {
+    let end = a.dir.off as usize;
+    if !commit_regular::log_regular(a.block, end, a.rules) {
         return text_input::refused(text, Refusal::Irregular);
     }
-    let count = m.count as u32;
-    let a = slot_audits(text, b, end, m.etag, count);
-    total_lines(text, a, count);
+    let count = a.dir.count as u32;
+    let audit = slot_audits(text, a.block, end, a.dir.etag, count);
+    total_lines(text, audit, count);
 }
 
 // Both images, one behind the other, the program size, the numbers of the two blocks and the rule, as the listing takes
@@ -188,7 +186,7 @@ pub fn lfs_dir_audit_as(
 {
     let mut text = Text::new(out);
     match text_input::ask(prog_size, numbers, rules, input) {
-        Ok(a) => block_audit(&mut text, a.block, a.dir, a.rules),
+        Ok(a) => block_audit(&mut text, a),
         Err(r) => text_input::refused(&mut text, r),
     }
     text.len()

@@ -6,23 +6,23 @@ ghost use Rattle.std.specs.Prelude.{◌≡◌, length};
 ghost use Rattle.format.specs.Listing.{written_to};
 ghost use Rattle.format.specs.FindText.{found_text, find_text_as};
 ghost use Rattle.text.specs.Put.{Puts};
-ghost use Rattle.text_input.specs.Input.{Listable};
 
-use format::{LfsMdir, LfsPair, Refusal, Rules};
+use format::{LfsPair, Refusal};
 use text::Text;
+use text_input::Answering;
 
 // Of the block that fetch answers from: "the slot's line and its attributes as the listing does, or .. that there is
 // none".
 #[tactic(auto, unfolding(format::specs::FindText::found_text, format::specs::FindText::named_text))]
-fn found_text(text: &mut Text, b: &[u8], m: LfsMdir, rules: Rules, name: &[u8], kind: u32)
-    requires { Listable b.now m }
-    ensures { Puts text.old text.new (found_text rules name.now kind m b.now) }
+fn found_text(text: &mut Text, a: Answering, name: &[u8], kind: u32)
+    ensures { Puts text.old text.new
+        (found_text a.entry.rules name.now kind a.entry.dir a.entry.block.now) }
 {
-    let end = m.off as usize;
-    match find_pass::find_in(b, end, rules, name, kind) {
+    let end = a.dir.off as usize;
+    match find_pass::find_in(a.block, end, a.rules, name, kind) {
         Ok(Some(id)) => {
-            let seats = compact_slot::gather(b, end, m.etag, id);
-            text_listing::slot_text(text, b, id, &seats);
+            let seats = compact_slot::gather(a.block, end, a.dir.etag, id);
+            text_listing::slot_text(text, a.block, id, &seats);
         }
         Ok(None) => text.puts(b"none\n"),
         Err(r) => text_input::refused(text, r),
@@ -52,7 +52,7 @@ pub fn lfs_dir_find_as(
         return text.len();
     }
     match text_input::ask(prog_size, numbers, rules, input) {
-        Ok(a) => found_text(&mut text, a.block, a.dir, a.rules, name, kind),
+        Ok(a) => found_text(&mut text, a, name, kind),
         Err(r) => text_input::refused(&mut text, r),
     }
     text.len()

@@ -1,14 +1,12 @@
 -- What the functions over an input ask and leave. Assumes nothing.
-use Rattle.std.specs.Prelude.{◌≡◌, List, ℕ, ◌^◌, ◌≤◌, length, Err, Ok, Result}
+use Rattle.std.specs.Prelude.{◌≡◌, List, ℕ, ◌^◌, ◌≤◌, length}
 use Rattle.format.specs.Log.{log, log_end, log_end_tag}
 use Rattle.format.specs.Record.{count_of}
 use Rattle.format.specs.Regular.{rules_of}
-use Rattle.format.specs.Listing.{refused_line, ruled_text, fetched_text, fetch_input}
+use Rattle.format.specs.Listing.{ruled_text, fetched_text, fetch_input}
 use Rattle.format.specs.declared.LfsMdir.{LfsMdir}
 use Rattle.format.specs.declared.LfsPair.{LfsPair}
-use Rattle.format.specs.declared.Refusal.{Refusal}
 use Rattle.format.specs.declared.Rules.{Rules}
-use Rattle.text_input.specs.declared.Answering.{Answering}
 
 -- the record of the block, as far as a text walks by it
 pub record Listable (b : List ℕ) (m : LfsMdir) : Type 0 where
@@ -22,8 +20,3 @@ pub record Listable (b : List ℕ) (m : LfsMdir) : Type 0 where
 abbrev pub input_text : (Rules → LfsMdir → List ℕ → List ℕ) → ℕ → LfsPair → ℕ → List ℕ → List ℕ
 input_text shows prog p rules input =
     ruled_text rules (fetched_text (shows (rules_of rules)) p input (fetch_input prog p input))
-
--- the same of what was read of it
-abbrev pub answer_text : (Rules → LfsMdir → List ℕ → List ℕ) → Result Answering Refusal → List ℕ
-answer_text shows (Err r) = refused_line r
-answer_text shows (Ok a) = shows a.rules a.dir a.block.now

@@ -2,17 +2,22 @@
 // pair begins with. Any bytes may be given.
 #![tactic(auto)]
 
-ghost use Rattle.std.specs.Prelude.{◌≡◌, ℕ, List, IfOk, length};
+ghost use Rattle.std.specs.Prelude.{◌≡◌, ℕ, List, length};
 ghost use Rattle.format.specs.declared.LfsMdir.{LfsMdir};
 ghost use Rattle.format.specs.declared.Rules.{Rules};
 ghost use Rattle.format.specs.Listing.{refused_line, fetch_input};
 ghost use Rattle.format.specs.Look.{bytes_of, FoundIn};
 ghost use Rattle.text.specs.Put.{Puts};
-ghost use Rattle.text_input.specs.Input.{Listable, input_text, answer_text};
+ghost use Rattle.text_input.specs.Input.{input_text};
+ghost use Rattle.text_input.specs.Answer.{answer_text};
 
-use format::{Fetched, Found, Geometry, LfsMdir, LfsPair, Refusal, Rules};
+use format::{Fetched, Found, Geometry, LfsPair, Refusal, Rules};
 use sizes::Pair;
 use text::Text;
+
+mod answering;
+
+pub use answering::Answering;
 
 // Document 01's own input: "program size 16, numbers 0 and 1".
 pub const INPUT_PROG_SIZE: u32 = 16;
@@ -41,14 +46,6 @@ pub fn fetch_input(prog_size: u32, numbers: LfsPair, input: &[u8]) -> Result<Fet
     fetch::lfs_dir_fetch(Pair { g, b0, b1, n0, n1 }, 0, 0)
 }
 
-// The block that answers, its record, and the rule by which its log is to be regular.
-#[derive(Drop)]
-pub struct Answering<'a> {
-    pub rules: Rules,
-    pub dir: LfsMdir,
-    pub block: &'a [u8],
-}
-
 // What there is to show of an input: the rule is 0 or 1, "any other -22", which is tested here. Fetch refuses two equal
 // numbers, so the first number of the record says which half answers.
 pub fn ask(
@@ -57,7 +54,6 @@ pub fn ask(
     rules: u32,
     input: &[u8],
 ) -> Result<Answering<'_>, Refusal>
-    ensures listable { IfOk result (λ a. Listable a.block.now a.dir) }
     ensures shown { (shows : Rules → LfsMdir → List ℕ → List ℕ)
         → answer_text shows result ≡ input_text shows prog_size numbers rules input.now }
 {

@@ -13,12 +13,11 @@ ghost use Rattle.text.specs.Put.{Puts};
 ghost use Rattle.format.specs.Look.{HitIn};
 ghost use Rattle.theory.specs.Lookup.ByMask.{holds};
 ghost use Rattle.compact_slot.specs.Slots.{Slots, slot_in, AllInside};
-ghost use Rattle.text_input.specs.Input.{Listable};
 
 use format::types::LFS_BLOCK_NULL;
-use format::{Found, LfsMdir, LfsPair, Refusal, Rules};
+use format::{Found, LfsMdir, LfsPair, Refusal};
 use text::Text;
-use text_input::{INPUT_PAIR, INPUT_PROG_SIZE, INPUT_RULES};
+use text_input::{Answering, INPUT_PAIR, INPUT_PROG_SIZE, INPUT_RULES};
 
 // The class of the first user attribute: a name and a struct come before.
 const ATTRIBUTES: usize = 2;
@@ -154,16 +153,15 @@ fn record_lines(text: &mut Text, m: LfsMdir)
 
 // "for -202 after the erased line"
 #[tactic(auto, unfolding(format::specs::Listing::block_text, format::specs::Listing::dir_lines), using(text::proofs::Joined::puts_append))]
-fn block_text(text: &mut Text, b: &[u8], m: LfsMdir, rules: Rules)
-    requires { Listable b.now m }
-    ensures { Puts text.old text.new (block_text rules m b.now) }
+fn block_text(text: &mut Text, a: Answering)
+    ensures { Puts text.old text.new (block_text a.entry.rules a.entry.dir a.entry.block.now) }
 {
-    record_lines(text, m);
-    let end = m.off as usize;
-    if !commit_regular::log_regular(b, end, rules) {
+    record_lines(text, a.dir);
+    let end = a.dir.off as usize;
+    if !commit_regular::log_regular(a.block, end, a.rules) {
         return text_input::refused(text, Refusal::Irregular);
     }
-    slot_lines(text, b, end, m.etag, m.count as u32);
+    slot_lines(text, a.block, end, a.dir.etag, a.dir.count as u32);
 }
 
 // The listing of both images, one behind the other, as far as `out` has room; the program size, the numbers of the two
@@ -184,7 +182,7 @@ pub fn lfs_dir_list_as(
 {
     let mut text = Text::new(out);
     match text_input::ask(prog_size, numbers, rules, input) {
-        Ok(a) => block_text(&mut text, a.block, a.dir, a.rules),
+        Ok(a) => block_text(&mut text, a),
         Err(r) => text_input::refused(&mut text, r),
     }
     text.len()
