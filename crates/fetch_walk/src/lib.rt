@@ -76,8 +76,8 @@ impl WalkState {
     }
 }
 
-// A word's four bytes, taken by a checksum: "the seed takes the checksum's four bytes", and a block's first commit begins
-// with its revision.
+// A word's four bytes, taken by a checksum: "the seed takes the checksum's four bytes", and a block's first commit
+// begins with its revision.
 pub fn crc_word(seed: u32, sum: u32) -> u32
     ensures { result ≡ crc seed (to_le32 sum) }
 {
