@@ -3,12 +3,10 @@ use mathlib.Core.Path.{◌≡◌, refl, sym, ap, ◌∙◌, subst}
 use mathlib.Core.Bool.{Bool, true, false, not, cond}
 use mathlib.Core.List.{List}
 use mathlib.Core.Logic.{inl}
-use Prim.Native.Nat.{ℕ, ◌-◌, ◌≤◌}
-use native.Mathlib.Omega.{arith}
-use lib.Dec.{eqb}
+use Prim.Native.Nat.{ℕ, ◌-◌}
 use lib.ListN.{length}
 use Rattle.std.specs.Prelude.{Err, Ok, Result}
-use Rattle.format.specs.Fetch.{fetch_of}
+use Rattle.format.specs.Fetch.{images_fit, fetch_of}
 use Rattle.format.specs.Refetch.{refetch_of}
 use Rattle.format.specs.Lookup.{block_of}
 use Rattle.format.specs.Regular.{rules_of}
@@ -16,44 +14,38 @@ use Rattle.format.specs.Writer.{Verdict, answer_of, verdict_of, unlimited, commi
 use Rattle.format.specs.Writer.{commit_fits}
 use Rattle.format.specs.Stopped.{CommitStopped, CommitLeaves, CommitStoresLeaves}
 use Rattle.format.specs.declared.Geometry.{Geometry}
-use Rattle.format.specs.declared.LfsMdir.{LfsMdir}
 use Rattle.format.specs.declared.Entry.{Entry}
 use Rattle.format.specs.declared.Fetched.{Fetched}
 use Rattle.format.specs.declared.Refusal.{Refusal}
 use Rattle.format.specs.declared.Refusal.TheVariants.{Invalid}
-use Rattle.sizes.proofs.Sized.{Sized, images_sized}
 use Rattle.theory.specs.Commit.AcceptedVerdict.{fits_images}
 use Rattle.theory.proofs.Stopped.Commit.{stopped_commit}
 use Rattle.theory.proofs.Stopped.Refetch.{refetch_behind}
-use Rattle.commit_steps.specs.Steps.{and_then, started_of, begun_of}
+use Rattle.commit_steps.specs.Steps.{and_then, started_of, begun_of, decided_of, placed_of}
 use Rattle.commit_steps.specs.declared.Judging.{Judging}
 use Rattle.commit_steps.specs.declared.Laying.{Laying}
 use Rattle.commit.specs.Passes.{Left, left, ran_of}
 use Rattle.commit.proofs.Whole.{Ran, ran_images, ran_answers, ran_made, ran}
 
--- ---- what `place` asks: a commit that is begun has tested the sizes
+-- ---- a commit that is begun has tested the sizes, so they are no refusal between the passes
 module _ (g : Geometry) (b0 b1 : List ℕ) (n0 n1 count seed rules byte n : ℕ) (dat : List ℕ) (j : Judging)
     (begun : begun_of g b0 b1 n0 n1 count seed rules byte n dat ≡ Ok j) where
-  pub begun_sized : Sized g (length b0) (length b1)
+  begun_fits : images_fit g (length b0) (length b1) ≡ true
   unfolding begun_of
-  begun_sized = go (commit_fits g (length b0) (length b1) n0 n1 rules byte n (length dat)) refl begun
+  begun_fits = go (commit_fits g (length b0) (length b1) n0 n1 rules byte n (length dat)) refl begun
     where
       go : (x : Bool) → commit_fits g (length b0) (length b1) n0 n1 rules byte n (length dat) ≡ x
           → cond (not x) (Err Invalid)
           (and_then (fetch_of g b0 b1 n0 n1 count seed)
           (λ f. started_of (rules_of rules) (block_of b0 b1 n0 f.dir) f)) ≡ Ok j
-          → Sized g (length b0) (length b1)
+          → images_fit g (length b0) (length b1) ≡ true
       go false e h = cc
-      go true e h = images_sized g (length b0) (length b1)
-          (fits_images g (length b0) (length b1) n0 n1 rules byte n (length dat) e)
+      go true e h = fits_images g (length b0) (length b1) n0 n1 rules byte n (length dat) e
 
-  -- b is the block of a record
-  pub block_long : (m : LfsMdir) (b : List ℕ) → b ≡ block_of b0 b1 n0 m → length b ≤ 32_768
-  block_long m b e = rw e (go (eqb m.pair.n0 n0))
-    where
-      go : (x : Bool) → length (cond x b0 b1) ≤ 32_768
-      go true = let s = begun_sized in omega (arith, s.first, s.geometry.block_high)
-      go false = let s = begun_sized in omega (arith, s.second, s.geometry.block_high)
+  pub begun_decides : (k : Judging) (stores : ℕ)
+      → decided_of g b0 b1 n0 n1 byte k stores ≡ placed_of byte k g.prog_size (block_of b0 b1 n0 k.old.dir) stores
+  unfolding decided_of
+  begun_decides k stores = rw begun_fits
 
 -- ---- the answers: t, x and y are what `run` answers and leaves
 module _ (g : Geometry) (b0 b1 : List ℕ) (n0 n1 count seed rules byte : ℕ) (es : List Entry) (dat : List ℕ) where

@@ -44,8 +44,7 @@ fn decide(
 {
     let mut j = commit_steps::begin(pair, block_count, seed, rules, erased, entries.len(), dat)?;
     each(entries, dat, &mut j)?;
-    let b = pair.block_of(j.old.dir);
-    commit_steps::place(erased, j, pair.g.prog_size, b, stores)
+    commit_steps::decide(erased, j, pair, stores)
 }
 
 // Every entry, and what is behind them. Nothing ends the second pass early, so `Ok` is all that the walker answers.

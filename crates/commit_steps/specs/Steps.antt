@@ -6,7 +6,7 @@ use Rattle.format.specs.Word.{to_be32, to_le32, xor, all_ones, plus32}
 use Rattle.format.specs.Tag.{tag_length, mk_tag}
 use Rattle.format.specs.Crc.{crc}
 use Rattle.format.specs.Log.{log}
-use Rattle.format.specs.Fetch.{fetch_of}
+use Rattle.format.specs.Fetch.{images_fit, fetch_of}
 use Rattle.format.specs.Lookup.{block_of}
 use Rattle.format.specs.Regular.{Regular, rules_of}
 use Rattle.format.specs.Commit.{check_tag}
@@ -112,6 +112,12 @@ unfoldable pub placed_of : ℕ → Judging → ℕ → List ℕ → ℕ → Resu
 placed_of e j prog b stores =
     let f : LfsFcrc = carried_for e prog (length b) (j.old.dir.off + j.size) in
     tested_of e (forward_summed j f) f prog b stores
+
+-- of any pair: the record's block is judged, if the sizes fit
+unfoldable pub decided_of : Geometry → List ℕ → List ℕ → ℕ → ℕ → ℕ → Judging → ℕ → Result Laying Refusal
+decided_of g b0 b1 n0 n1 e j stores =
+    cond (not (images_fit g (length b0) (length b1))) (Err Invalid)
+    (placed_of e j g.prog_size (block_of b0 b1 n0 j.old.dir) stores)
 
 -- ---- an entry: laid
 abbrev pub laid_to : Laying → ℕ → Laid → Onto

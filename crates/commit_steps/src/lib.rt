@@ -9,8 +9,8 @@ ghost use Rattle.sizes.specs.Lent.{of};
 ghost use Rattle.commit_regular.specs.Ends.{CommittedTo};
 ghost use Rattle.commit_lay.specs.Laid.{body_of};
 ghost use Rattle.commit_steps.specs.Steps.{onto, and_then, begun_of, started_of, judged_of, summed_of, forward_summed};
-ghost use Rattle.commit_steps.specs.Steps.{placed_of, tested_of, LaidBehind, lay_of, forward_laid, checked_of};
-ghost use Rattle.commit_steps.specs.Steps.{sealed_of};
+ghost use Rattle.commit_steps.specs.Steps.{decided_of, placed_of, tested_of, LaidBehind, lay_of};
+ghost use Rattle.commit_steps.specs.Steps.{forward_laid, checked_of, sealed_of};
 
 use commit_lay::Run;
 use fetch::lfs_dir_fetch;
@@ -159,10 +159,28 @@ fn sum_forward(j: Judging, fcrc: LfsFcrc) -> Judging
     sum_up(j, j.count, commit_room::LFS_FORWARD_TAG, &dat, 0, 8)
 }
 
-// Between the passes, what is to be laid: the entries, and behind them the forward check if there is room for it.
-// `stores` is the limit.
+// Between the passes: good entries are refused here, or it is answered what is to be laid. The pair may be any: sizes
+// that don't fit are -22. `stores` is the limit.
+#[tactic(auto, unfolding(crate::specs::Steps::decided_of))]
+pub fn decide(erased: u8, j: Judging, pair: Pair, stores: u32) -> Result<Laying, Refusal>
+    ensures { result ≡ of pair.entry decided_of erased j stores }
+{
+    if sizes::images_fit(pair.g, pair.b0.len(), pair.b1.len()) {
+        place(
+            erased,
+            j,
+            pair.g.prog_size,
+            pair.block_of(j.old.dir),
+            stores,
+        )
+    } else {
+        Err(Refusal::Invalid)
+    }
+}
+
+// What is to be laid: the entries, and behind them the forward check if there is room for it.
 #[tactic(auto, unfolding(crate::specs::Steps::placed_of))]
-pub fn place(erased: u8, j: Judging, prog: u32, b: &[u8], stores: u32) -> Result<Laying, Refusal>
+fn place(erased: u8, j: Judging, prog: u32, b: &[u8], stores: u32) -> Result<Laying, Refusal>
     requires le_prog { 4 ≤ prog }
     requires prog_bound { prog ≤ 512 }
     requires b_len_bound { length b.now ≤ 32_768 }

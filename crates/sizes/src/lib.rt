@@ -46,6 +46,17 @@ pub fn too_high(block_count: u32, n: u32) -> bool
     (block_count != 0) & (block_count <= n)
 }
 
+// A record that a lookup takes, or a refetch: its pair is the two numbers, in either order, and its end does not pass
+// the block.
+#[tactic(auto, unfolding(format::specs::Lookup::record_fits))]
+pub fn record_fits(g: Geometry, len0: usize, len1: usize, n0: u32, n1: u32, dir: LfsMdir) -> bool
+    ensures { result ≡ record_fits g len0 len1 n0 n1 dir }
+{
+    pair_fits(g, len0, len1, n0, n1)
+        & util::lfs_pair_issync(dir.pair, LfsPair { n0, n1 })
+        & (dir.off <= g.block_size)
+}
+
 // A metadata pair, as a call that reads is lent it: the sizes, both images, and their block numbers.
 #[derive(Clone, Copy)]
 pub struct Pair<'a> {
@@ -64,21 +75,11 @@ impl<'a> Pair<'a> {
         pair_fits(self.g, self.b0.len(), self.b1.len(), self.n0, self.n1)
     }
 
-    // And the record is one that a lookup takes, or a refetch: its pair is the two numbers, in either order, and its
-    // end does not pass the block.
-    #[tactic(auto, unfolding(format::specs::Lookup::record_fits))]
+    // And the record is one that a lookup takes, or a refetch.
     pub fn takes(self, dir: LfsMdir) -> bool
         ensures { result ≡ of self.entry (λ g b0 b1. record_fits g (length b0) (length b1)) dir }
     {
-        self.fits()
-            & util::lfs_pair_issync(
-                dir.pair,
-                LfsPair {
-                    n0: self.n0,
-                    n1: self.n1,
-                },
-            )
-            & (dir.off <= self.g.block_size)
+        record_fits(self.g, self.b0.len(), self.b1.len(), self.n0, self.n1, dir)
     }
 
     // The block that a record was read from: the image with the record's first number.
