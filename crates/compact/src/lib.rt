@@ -38,10 +38,10 @@ fn run(
     ensures table_after { table.new ≡ compact_table g b0.old b1.old n0 n1 block_count seed
         rules erased table.old }
 {
-    let rules = Rules::try_from(rules)?;
-    if !sizes::erased_fits(erased) {
+    if !sizes::writes_fit(rules, erased) {
         return Err(Refusal::Invalid);
     }
+    let rules = Rules::try_from(rules)?;
     let pair = Pair { g, b0, b1, n0, n1 };
     let dir = fetch::lfs_dir_fetch(pair, block_count, seed)?.dir;
     if dir.pair.n0 == n0 {
