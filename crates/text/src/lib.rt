@@ -9,11 +9,11 @@ ghost use Rattle.format.specs.Listing.{name_byte, name_bytes, number_line, integ
 ghost use Rattle.format.specs.RawLog.{hex_word};
 ghost use Rattle.text.specs.Put.{Puts, Starts};
 
-// A text in a lent buffer, and its length so far.
+// A text in a lent buffer, and its length so far. Any buffer and any length go: a text may be gone on with.
 #[derive(Drop)]
 pub struct Text<'a> {
-    out: &'a mut [u8],
-    at: u32,
+    pub out: &'a mut [u8],
+    pub at: u32,
 }
 
 impl<'a> Text<'a> {

@@ -53,6 +53,27 @@ pub fn read_full<R: Read>(reader: &mut R, buf: &mut [u8]) -> io::Result<usize>
     Ok(done)
 }
 
+// The text that `text_of` makes of an input, in the room for it, shown whole or not at all. A function of its own,
+// behind the read: so long an array is zeroed with the frame that it stands in, and then once more where it is made,
+// unless the two are next to each other.
+fn show<const ROOM: usize, O: Write, E: Write, F: FnOnce(&[u8], &mut [u8]) -> u32>(
+    out: &mut O,
+    err: &mut E,
+    input: &[u8],
+    text_of: F,
+) -> io::Result<()>
+    requires room { ROOM < 2 ^ 63 }
+    requires callable { F.IsAlwaysCallable text_of }
+    ensures { OnOk result ((room : _) × (n : ℕ) × (text : _) × F.post text_of input.entry room n text
+        × (n ≤ ROOM → Appends (O.contents out.old) (O.contents out.new) (take n text.now))
+        × (ROOM < n → Keeps (O.contents out.old) (O.contents out.new))) }
+{
+    let mut text = [0u8; ROOM];
+    let n = text_of(input, &mut text);
+    whole(out, err, &text, n as usize)?;
+    Ok(())
+}
+
 // What a program that shows a text of a pair does: both images are on its input, one behind the other, of which 65,537
 // bytes are read, so that a longer input is told from one of 65,536; and the text that `text_of` makes of them goes to
 // its output. `ROOM` is the room for it, and `text_of` answers how much it would take.
@@ -71,8 +92,5 @@ pub fn of_pair<const ROOM: usize, R: Read, O: Write, E: Write, F: FnOnce(&[u8], 
 {
     let mut pair = [0u8; 65_537];
     let read = read_full(reader, &mut pair)?;
-    let mut text = [0u8; ROOM];
-    let n = text_of(&pair[..read], &mut text);
-    whole(out, err, &text, n as usize)?;
-    Ok(())
+    show::<ROOM, _, _, _>(out, err, &pair[..read], text_of)
 }
