@@ -111,7 +111,9 @@ fn in_order(prog: u32, n: u32, b: &[u8], m: u32, c: &[u8], seed: u32) -> Result<
     Err(Refusal::Corrupt)
 }
 
-// Per lfs.c lfs_dir_fetch. Any geometry, images, numbers, block count and seed: "Fetch tests -22, -84, -2."
+// Per lfs.c lfs_dir_fetch. Any geometry, images, numbers, block count and seed: "Fetch tests -22, -84, -2." Inlined, so
+// that a call holds its pair on the stack once.
+#[inline(always)]
 pub fn lfs_dir_fetch(pair: Pair, block_count: u32, seed: u32) -> Result<Fetched, Refusal>
     ensures { result ≡ of pair.entry fetch_of block_count seed }
 {

@@ -117,7 +117,9 @@ impl Named {
 }
 
 // The pass over the log that ends at `end`, by a rule: the lowest id whose name is the one that is asked for. The rules
-// run against the count as in crate `commit_regular`, and the first bad entry or check ends the pass.
+// run against the count as in crate `commit_regular`, and the first bad entry or check ends the pass. Never inlined, so
+// that the set is not on the stack while fetch runs.
+#[inline(never)]
 pub fn find_in(
     b: &[u8],
     end: usize,
