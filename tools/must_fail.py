@@ -51,14 +51,14 @@ def is_fact(error):
 
 
 def function_at(text, place):
-    """The function of a source that a place in it belongs to."""
+    """The function of a source that a place in it belongs to, and which of the source's functions it is."""
     names = re.findall(r"\bfn (\w+)", text[:place])
-    return names[-1] if names else ""
+    return (names[-1], len(names)) if names else ("", 0)
 
 
 def applied(crate, edit):
     """The texts of the files that an edit changes, as it makes them, and the functions of src/ that it makes wrong."""
-    texts, wrong, file, old = {}, set(), "", ""
+    texts, wrong, file, old = {}, {}, "", ""
     with open(edit, encoding="utf-8") as lines:
         for line in lines.read().splitlines():
             if line.startswith("file: "):
@@ -74,7 +74,10 @@ def applied(crate, edit):
                 if text.count(old) != 1:
                     sys.exit(f"{edit}: '{old}' stands in {file} {text.count(old)} times")
                 if file.startswith("src/"):
-                    wrong.add((file, function_at(text, text.find(old) + len(old))))
+                    name, which = function_at(text, text.find(old) + len(old))
+                    if wrong.setdefault((file, name), which) != which:
+                        sys.exit(f"{edit}: {file} has two functions {name}, which what rt says doesn't tell apart: "
+                                 "a wrong answer of each needs an edit of its own")
                 texts[path] = text.replace(old, line[len("new: "):])
     return texts, sorted(wrong)
 
