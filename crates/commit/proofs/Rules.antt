@@ -3,7 +3,8 @@ use mathlib.Core.Path.{◌≡◌, refl, sym, ap, ◌∙◌, subst}
 use mathlib.Core.Bool.{Bool, true, false, not, cond}
 use mathlib.Core.List.{List}
 use mathlib.Core.Logic.{inl}
-use Prim.Native.Nat.{ℕ, ◌-◌}
+use Prim.Native.Nat.{ℕ, ◌-◌, ◌≤◌}
+use native.Mathlib.Omega.{arith}
 use lib.ListN.{length}
 use Rattle.std.specs.Prelude.{Err, Ok, Result}
 use Rattle.format.specs.Fetch.{images_fit, fetch_of}
@@ -14,10 +15,13 @@ use Rattle.format.specs.Writer.{Verdict, answer_of, verdict_of, unlimited, commi
 use Rattle.format.specs.Writer.{commit_fits}
 use Rattle.format.specs.Stopped.{CommitStopped, CommitLeaves, CommitStoresLeaves}
 use Rattle.format.specs.declared.Geometry.{Geometry}
+use Rattle.format.specs.declared.LfsMdir.{LfsMdir}
 use Rattle.format.specs.declared.Entry.{Entry}
 use Rattle.format.specs.declared.Fetched.{Fetched}
 use Rattle.format.specs.declared.Refusal.{Refusal}
 use Rattle.format.specs.declared.Refusal.TheVariants.{Invalid}
+use Rattle.sizes.proofs.Sized.{Sized, images_sized}
+use Rattle.sizes.proofs.Records.{of_block}
 use Rattle.theory.specs.Commit.AcceptedVerdict.{fits_images}
 use Rattle.theory.proofs.Stopped.Commit.{stopped_commit}
 use Rattle.theory.proofs.Stopped.Refetch.{refetch_behind}
@@ -41,6 +45,16 @@ module _ (g : Geometry) (b0 b1 : List ℕ) (n0 n1 count seed rules byte n : ℕ)
           → images_fit g (length b0) (length b1) ≡ true
       go false e h = cc
       go true e h = fits_images g (length b0) (length b1) n0 n1 rules byte n (length dat) e
+
+  pub begun_sized : Sized g (length b0) (length b1)
+  begun_sized = images_sized g (length b0) (length b1) begun_fits
+
+  -- so the block of a record is one that `commit_steps::place` takes
+  pub block_long : (m : LfsMdir) (b : List ℕ) → b ≡ block_of b0 b1 n0 m → length b ≤ 32_768
+  block_long m =
+      let s = begun_sized in
+      of_block b0 b1 n0 m (λ x. length x ≤ 32_768)
+      (omega (arith, s.first, s.geometry.block_high), omega (arith, s.second, s.geometry.block_high))
 
   pub begun_decides : (k : Judging) (stores : ℕ)
       → decided_of g b0 b1 n0 n1 byte k stores ≡ placed_of byte k g.prog_size (block_of b0 b1 n0 k.old.dir) stores

@@ -14,6 +14,7 @@ use Rattle.format.specs.Log.{log}
 use Rattle.format.specs.Fetch.{fetch_of}
 use Rattle.format.specs.Regular.{Regular, rules_fit, rules_of}
 use Rattle.format.specs.declared.Rules.{Rules}
+use Rattle.format.specs.Erased.{erased_fits}
 use Rattle.format.specs.Commit.{check_tag}
 use Rattle.format.specs.Stores.{coincides}
 use Rattle.format.specs.Writer.{rounded_end, check_size, writes_fit, block_at, is_second, unlimited}
@@ -33,10 +34,16 @@ use Rattle.std.specs.Prelude.{Err, Ok, Result}
 use Rattle.format.specs.declared.Fetched.{Fetched}
 use Rattle.format.specs.Record.{fetched}
 
--- ---- how a call writes, where the rule is none
+-- ---- how a call writes, from its two tests
 module _ (rules e : ℕ) where
   pub rule_unfit : rules_fit rules ≡ false → writes_fit rules e ≡ false
   rule_unfit h = rw h
+
+  pub byte_unfit : rules_fit rules ≡ true → erased_fits e ≡ false → writes_fit rules e ≡ false
+  byte_unfit h k = rw (h, k)
+
+  pub both_fit : rules_fit rules ≡ true → erased_fits e ≡ true → writes_fit rules e ≡ true
+  both_fit h k = rw (h, k)
 
 -- ---- a verdict with the place of the block that answers
 abbrev placed_at : Bool → CompactVerdict → CompactVerdict
