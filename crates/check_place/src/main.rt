@@ -1,28 +1,27 @@
 // Calls `commit_steps::place` by itself, what stands between a commit's two passes: on blocks whose sizes fit no pair,
-// which `commit_steps::decide` refuses, and on one of a pair. Prints the refusal, or what is to be laid. `stdout` is what
-// it must print, worked out by samples/make_places.py.
+// which `commit_steps::decide` refuses, and on one of a pair. Prints the refusal, or what is to be laid. `stdout` is
+// what it must print, worked out by samples/make_places.py.
 #![tactic(auto)]
 
-ghost use Rattle.std.specs.Prelude.{◌≤◌, length};
-
-use commit_steps::{Judging, Laying};
+use commit_steps::{Judging, Laying, place};
 use format::{Fetched, LfsFcrc, LfsMdir, LfsPair, Refusal};
 use std::io;
 
-// A user attribute 0x74 of slot 0, of the four bytes "data".
+// A user attribute 0x74 of slot 0, of four bytes.
 const TAG: u32 = 0x3740_0004;
+// An end tag as it stands behind a commit on flash that erases to 0xff, and to 0x00.
+const ONES: u32 = 0x500f_fc08;
 
-const DATA: &[u8] = b"data";
-
+const ZEROS: u32 = 0xd01f_fc08;
 // As many stores as these commits may have.
 const STORES: u32 = 1000;
 
 // What a first pass leaves behind: that attribute alone, behind a log that ends at `off` with the tag `etag`.
-fn judged(off: u32, etag: u32) -> Judging {
+fn judged(off: u32, etag: u32, data: &[u8]) -> Judging {
     let none = LfsPair { n0: 0, n1: 0 };
     let dir = LfsMdir {
         pair: none,
-        rev: 1,
+        rev: 12,
         off,
         etag,
         count: 1,
@@ -37,68 +36,114 @@ fn judged(off: u32, etag: u32) -> Judging {
     };
     let chained = (TAG ^ etag).to_be_bytes();
     Judging {
-        old: Fetched { dir, seed: 0 },
+        old: Fetched { dir, seed: 34 },
         index: 1,
         count: 1,
         size: 8,
         prev: TAG,
-        sum: crc::lfs_crc(crc::lfs_crc(0xffff_ffff, &chained), DATA),
-    }
-}
-
-// The numbers of document 01, and not those of the code that is tested.
-fn refused(rt: &impl Print, r: Refusal) -> io::Result<()> {
-    match r {
-        Refusal::NoSpace => rt.print("-28\n"),
-        Refusal::Misaligned => rt.print("-211\n"),
-        Refusal::WrongValidity => rt.print("-212\n"),
-        Refusal::NotErased(at) => println!(rt; "-213 {at}"),
-        Refusal::Coincidence => rt.print("-204\n"),
-        _ => rt.print("refused otherwise\n"),
+        sum: crc::lfs_crc(crc::lfs_crc(0xffff_ffff, &chained), data),
     }
 }
 
 fn laying(rt: &impl Print, l: Laying) -> io::Result<()> {
-    let (at, left, f) = (l.run.at, l.run.left, l.fcrc);
-    print!(rt; "from {at} left {left} behind {:08x} ", l.prev)?;
+    let (dir, f) = (l.old.dir, l.fcrc);
+    print!(rt; "record {} end {} seed {} ", dir.rev, dir.off, l.old.seed)?;
+    print!(rt;
+        "from {} left {} behind {:08x} ",
+        l.run.at, l.run.left, l.prev
+    )?;
     if f.seen {
         print!(rt; "forward {} {:08x} ", f.size, f.sum)?;
     }
     println!(rt; "check {:08x} {:08x}", l.word, l.sum)
 }
 
-fn show(rt: &impl Print, erased: u8, prog: u32, b: &[u8], off: u32, etag: u32) -> io::Result<()>
-    requires prog_low { 4 ≤ prog }
-    requires prog_high { prog ≤ 512 }
-    requires block_high { length b.now ≤ 32_768 }
-{
-    print!(rt; "{:02x} {prog} {} {off} {etag:08x}: ", erased, b.len())?;
-    match commit_steps::place(erased, judged(off, etag), prog, b, STORES) {
-        Err(r) => refused(rt, r),
+fn show(rt: &impl Print, words: &str, answer: Result<Laying, Refusal>) -> io::Result<()> {
+    print!(rt; "{words}: ")?;
+    match answer {
         Ok(l) => laying(rt, l),
+        Err(Refusal::NotErased(at)) => println!(rt; "-213 at {at}"),
+        Err(r) => println!(rt; "{}", r.number()),
     }
 }
 
+// By program size 7 and from 28 on, the attribute's 8 bytes and the check's 8 end at 49; with the 12 of a forward check
+// at 56, and the unit that it is of at 63.
 fn main(rt: HostRuntime) -> io::Result<()> {
-    // an end tag as it stands behind a commit on flash that erases to 0xff, and to 0x00
-    let (ones, zeros) = (0x500f_fc08, 0xd01f_fc08);
     let blank = [0xffu8; 256];
-    // a pair's sizes
-    show(&rt, 0xff, 16, &blank, 32, ones)?;
-    // a block that is no multiple of the program size, with and without room for a forward check, one below 128 bytes,
-    // and one that is too short
-    show(&rt, 0xff, 7, &blank[..130], 28, ones)?;
-    show(&rt, 0xff, 7, &blank[..62], 28, ones)?;
-    show(&rt, 0xff, 4, &blank[..100], 28, ones)?;
-    show(&rt, 0xff, 7, &blank[..48], 28, ones)?;
-    // the room's reasons
-    show(&rt, 0xff, 7, &blank[..130], 30, ones)?;
-    show(&rt, 0xff, 7, &blank[..130], 28, zeros)?;
+    let log = judged(28, ONES, b"data");
+    show(
+        &rt,
+        "a pair's sizes",
+        place(0xff, judged(32, ONES, b"data"), 16, &blank, STORES),
+    )?;
+    show(
+        &rt,
+        "no multiple",
+        place(0xff, log, 7, &blank[..130], STORES),
+    )?;
+    show(
+        &rt,
+        "below 128 bytes",
+        place(0xff, log, 4, &blank[..100], STORES),
+    )?;
+    show(
+        &rt,
+        "a unit behind",
+        place(0xff, log, 7, &blank[..63], STORES),
+    )?;
+    show(
+        &rt,
+        "a byte less",
+        place(0xff, log, 7, &blank[..62], STORES),
+    )?;
+    show(&rt, "full", place(0xff, log, 7, &blank[..49], STORES))?;
+    show(&rt, "too short", place(0xff, log, 7, &blank[..48], STORES))?;
+    // the room's reasons, and of two the first
+    let aside = judged(30, ONES, b"data");
+    let other = judged(28, ZEROS, b"data");
     let mut written = blank;
     written[90] = 0xfe;
-    show(&rt, 0xff, 7, &written[..130], 28, ones)?;
+    show(
+        &rt,
+        "too short, aside",
+        place(0xff, aside, 7, &blank[..48], STORES),
+    )?;
+    show(&rt, "aside", place(0xff, aside, 7, &blank[..130], STORES))?;
+    show(
+        &rt,
+        "aside, the other end tag",
+        place(0xff, judged(30, ZEROS, b"data"), 7, &blank[..130], STORES),
+    )?;
+    show(
+        &rt,
+        "the other end tag",
+        place(0xff, other, 7, &blank[..130], STORES),
+    )?;
+    show(
+        &rt,
+        "the other end tag, written",
+        place(0xff, other, 7, &written[..130], STORES),
+    )?;
+    show(&rt, "written", place(0xff, log, 7, &written[..130], STORES))?;
+    // a checksum that coincides with erased bytes
+    let same = judged(28, ONES, b"\xf8\xf9\xaf\xc4");
+    show(
+        &rt,
+        "written, coincides",
+        place(0xff, same, 7, &written[..130], STORES),
+    )?;
+    show(
+        &rt,
+        "coincides",
+        place(0xff, same, 7, &blank[..130], STORES),
+    )?;
     // the other erased byte
     let blank = [0u8; 130];
-    show(&rt, 0x00, 7, &blank, 28, zeros)?;
-    show(&rt, 0x00, 7, &blank, 28, ones)
+    show(&rt, "zeros", place(0x00, other, 7, &blank, STORES))?;
+    show(
+        &rt,
+        "zeros, the other end tag",
+        place(0x00, log, 7, &blank, STORES),
+    )
 }

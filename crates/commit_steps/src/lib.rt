@@ -178,8 +178,9 @@ pub fn decide(erased: u8, j: Judging, pair: Pair, stores: u32) -> Result<Laying,
     }
 }
 
-// What is to be laid: the entries, and behind them the forward check if there is room for it. For a caller with a block
-// and no pair: any program size from 4 to 512 goes, and any block of up to 32,768 bytes, also where they fit no pair.
+// What is to be laid: the entries, and behind them the forward check if there is room for it. `stores` is the limit.
+// For a caller with a block and no pair: any program size from 4 to 512 goes, and any block of up to 32,768 bytes, also
+// where they fit no pair.
 #[tactic(auto, unfolding(crate::specs::Steps::placed_of))]
 pub fn place(erased: u8, j: Judging, prog: u32, b: &[u8], stores: u32) -> Result<Laying, Refusal>
     requires le_prog { 4 ≤ prog }
