@@ -40,8 +40,9 @@ def blank(size, erased=0xFF):
 
 
 ONES, ZEROS = 0x500FFC08, 0xD01FFC08
-WRITTEN = blank(90) + b"\xfe" + blank(39)
-SAME = b"\xf8\xf9\xaf\xc4"
+WRITTEN = blank(90) + b"\xfe" + blank(9) + b"\x7f" + blank(29)
+# with these four bytes one of the three checksums is four erased bytes
+SAME, SAME_ZEROS = b"\xf8\xf9\xaf\xc4", b"\x76\x79\x9a\xfb"
 for words, *case in [
     ("a pair's sizes", 0xFF, 16, blank(256), 32, ONES),
     ("no multiple", 0xFF, 7, blank(130), 28, ONES),
@@ -59,6 +60,7 @@ for words, *case in [
     ("written, coincides", 0xFF, 7, WRITTEN, 28, ONES, SAME),
     ("coincides", 0xFF, 7, blank(130), 28, ONES, SAME),
     ("zeros", 0x00, 7, blank(130, 0), 28, ZEROS),
+    ("zeros, coincides", 0x00, 7, blank(130, 0), 28, ZEROS, SAME_ZEROS),
     ("zeros, the other end tag", 0x00, 7, blank(130, 0), 28, ONES),
 ]:
     print("%s: %s" % (words, said(*case)))

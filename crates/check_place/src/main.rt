@@ -67,8 +67,8 @@ fn show(rt: &impl Print, words: &str, answer: Result<Laying, Refusal>) -> io::Re
     }
 }
 
-// By program size 7 and from 28 on, the attribute's 8 bytes and the check's 8 end at 49; with the 12 of a forward check
-// at 56, and the unit that it is of at 63.
+// By program size 7 and from 28 on, the attribute's 8 bytes and the check's 8 take all up to 49, rounded; with the 12
+// of a forward check all up to 56, and the unit that it is of up to 63.
 fn main(rt: HostRuntime) -> io::Result<()> {
     let blank = [0xffu8; 256];
     let log = judged(28, ONES, b"data");
@@ -99,11 +99,12 @@ fn main(rt: HostRuntime) -> io::Result<()> {
     )?;
     show(&rt, "full", place(0xff, log, 7, &blank[..49], STORES))?;
     show(&rt, "too short", place(0xff, log, 7, &blank[..48], STORES))?;
-    // the room's reasons, and of two the first
+    // the room's reasons; of two refusals the first
     let aside = judged(30, ONES, b"data");
     let other = judged(28, ZEROS, b"data");
     let mut written = blank;
     written[90] = 0xfe;
+    written[100] = 0x7f;
     show(
         &rt,
         "too short, aside",
@@ -141,6 +142,12 @@ fn main(rt: HostRuntime) -> io::Result<()> {
     // the other erased byte
     let blank = [0u8; 130];
     show(&rt, "zeros", place(0x00, other, 7, &blank, STORES))?;
+    let same = judged(28, ZEROS, b"\x76\x79\x9a\xfb");
+    show(
+        &rt,
+        "zeros, coincides",
+        place(0x00, same, 7, &blank, STORES),
+    )?;
     show(
         &rt,
         "zeros, the other end tag",
