@@ -44,23 +44,27 @@ WRITTEN = blank(90) + b"\xfe" + blank(9) + b"\x7f" + blank(29)
 # with these four bytes one of the three checksums is four erased bytes
 SAME, SAME_ZEROS = b"\xf8\xf9\xaf\xc4", b"\x76\x79\x9a\xfb"
 for words, *case in [
-    ("a pair's sizes", 0xFF, 16, blank(256), 32, ONES),
+    ("of a pair", 0xFF, 16, blank(256), 32, ONES),
+    # sizes that fit no pair: no multiple of the program size, and fewer than 128 bytes
     ("no multiple", 0xFF, 7, blank(130), 28, ONES),
-    ("below 128 bytes", 0xFF, 4, blank(100), 28, ONES),
-    ("a unit behind", 0xFF, 7, blank(63), 28, ONES),
+    ("below 128", 0xFF, 4, blank(100), 28, ONES),
+    # as much room as a forward check asks for, as a commit without one does, and a byte less than each
+    ("a unit left", 0xFF, 7, blank(63), 28, ONES),
     ("a byte less", 0xFF, 7, blank(62), 28, ONES),
     ("full", 0xFF, 7, blank(49), 28, ONES),
     ("too short", 0xFF, 7, blank(48), 28, ONES),
-    ("too short, aside", 0xFF, 7, blank(48), 30, ONES),
+    # an end that is no multiple of the program size, an end tag of the other byte, a room that is written to, a
+    # checksum that coincides; of two the first
+    ("short, aside", 0xFF, 7, blank(48), 30, ONES),
     ("aside", 0xFF, 7, blank(130), 30, ONES),
-    ("aside, the other end tag", 0xFF, 7, blank(130), 30, ZEROS),
-    ("the other end tag", 0xFF, 7, blank(130), 28, ZEROS),
-    ("the other end tag, written", 0xFF, 7, WRITTEN, 28, ZEROS),
+    ("aside, other tag", 0xFF, 7, blank(130), 30, ZEROS),
+    ("other tag", 0xFF, 7, blank(130), 28, ZEROS),
+    ("other tag, written", 0xFF, 7, WRITTEN, 28, ZEROS),
     ("written", 0xFF, 7, WRITTEN, 28, ONES),
     ("written, coincides", 0xFF, 7, WRITTEN, 28, ONES, SAME),
     ("coincides", 0xFF, 7, blank(130), 28, ONES, SAME),
     ("zeros", 0x00, 7, blank(130, 0), 28, ZEROS),
+    ("zeros, other tag", 0x00, 7, blank(130, 0), 28, ONES),
     ("zeros, coincides", 0x00, 7, blank(130, 0), 28, ZEROS, SAME_ZEROS),
-    ("zeros, the other end tag", 0x00, 7, blank(130, 0), 28, ONES),
 ]:
     print("%s: %s" % (words, said(*case)))

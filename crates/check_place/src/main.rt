@@ -67,90 +67,57 @@ fn show(rt: &impl Print, words: &str, answer: Result<Laying, Refusal>) -> io::Re
     }
 }
 
-// By program size 7 and from 28 on, the attribute's 8 bytes and the check's 8 take all up to 49, rounded; with the 12
-// of a forward check all up to 56, and the unit that it is of up to 63.
-fn main(rt: HostRuntime) -> io::Result<()> {
-    let blank = [0xffu8; 256];
+// Where a commit ends, and whether it carries a forward check. By program size 7 and from 28 on, the attribute's 8
+// bytes and the check's 8 take all up to 49, rounded; with the 12 of a forward check all up to 56, and the unit that it
+// is of up to 63.
+fn ends(rt: &impl Print) -> io::Result<()> {
+    let b = [0xffu8; 256];
+    let of_pair = judged(32, ONES, b"data");
     let log = judged(28, ONES, b"data");
-    show(
-        &rt,
-        "a pair's sizes",
-        place(0xff, judged(32, ONES, b"data"), 16, &blank, STORES),
-    )?;
-    show(
-        &rt,
-        "no multiple",
-        place(0xff, log, 7, &blank[..130], STORES),
-    )?;
-    show(
-        &rt,
-        "below 128 bytes",
-        place(0xff, log, 4, &blank[..100], STORES),
-    )?;
-    show(
-        &rt,
-        "a unit behind",
-        place(0xff, log, 7, &blank[..63], STORES),
-    )?;
-    show(
-        &rt,
-        "a byte less",
-        place(0xff, log, 7, &blank[..62], STORES),
-    )?;
-    show(&rt, "full", place(0xff, log, 7, &blank[..49], STORES))?;
-    show(&rt, "too short", place(0xff, log, 7, &blank[..48], STORES))?;
-    // the room's reasons; of two refusals the first
+    show(rt, "of a pair", place(0xff, of_pair, 16, &b, STORES))?;
+    show(rt, "no multiple", place(0xff, log, 7, &b[..130], STORES))?;
+    show(rt, "below 128", place(0xff, log, 4, &b[..100], STORES))?;
+    show(rt, "a unit left", place(0xff, log, 7, &b[..63], STORES))?;
+    show(rt, "a byte less", place(0xff, log, 7, &b[..62], STORES))?;
+    show(rt, "full", place(0xff, log, 7, &b[..49], STORES))?;
+    show(rt, "too short", place(0xff, log, 7, &b[..48], STORES))
+}
+
+// The room's reasons: an end that is no multiple of the program size, an end tag of the other erased byte, a room that
+// is written to; and a checksum that coincides. Of two refusals the first.
+fn refusals(rt: &impl Print) -> io::Result<()> {
+    let b = [0xffu8; 130];
+    let mut w = b;
+    w[90] = 0xfe;
+    w[100] = 0x7f;
+    let log = judged(28, ONES, b"data");
     let aside = judged(30, ONES, b"data");
-    let other = judged(28, ZEROS, b"data");
-    let mut written = blank;
-    written[90] = 0xfe;
-    written[100] = 0x7f;
-    show(
-        &rt,
-        "too short, aside",
-        place(0xff, aside, 7, &blank[..48], STORES),
-    )?;
-    show(&rt, "aside", place(0xff, aside, 7, &blank[..130], STORES))?;
-    show(
-        &rt,
-        "aside, the other end tag",
-        place(0xff, judged(30, ZEROS, b"data"), 7, &blank[..130], STORES),
-    )?;
-    show(
-        &rt,
-        "the other end tag",
-        place(0xff, other, 7, &blank[..130], STORES),
-    )?;
-    show(
-        &rt,
-        "the other end tag, written",
-        place(0xff, other, 7, &written[..130], STORES),
-    )?;
-    show(&rt, "written", place(0xff, log, 7, &written[..130], STORES))?;
-    // a checksum that coincides with erased bytes
+    let tag = judged(28, ZEROS, b"data");
+    let both = judged(30, ZEROS, b"data");
     let same = judged(28, ONES, b"\xf8\xf9\xaf\xc4");
-    show(
-        &rt,
-        "written, coincides",
-        place(0xff, same, 7, &written[..130], STORES),
-    )?;
-    show(
-        &rt,
-        "coincides",
-        place(0xff, same, 7, &blank[..130], STORES),
-    )?;
-    // the other erased byte
-    let blank = [0u8; 130];
-    show(&rt, "zeros", place(0x00, other, 7, &blank, STORES))?;
+    show(rt, "short, aside", place(0xff, aside, 7, &b[..48], STORES))?;
+    show(rt, "aside", place(0xff, aside, 7, &b, STORES))?;
+    show(rt, "aside, other tag", place(0xff, both, 7, &b, STORES))?;
+    show(rt, "other tag", place(0xff, tag, 7, &b, STORES))?;
+    show(rt, "other tag, written", place(0xff, tag, 7, &w, STORES))?;
+    show(rt, "written", place(0xff, log, 7, &w, STORES))?;
+    show(rt, "written, coincides", place(0xff, same, 7, &w, STORES))?;
+    show(rt, "coincides", place(0xff, same, 7, &b, STORES))
+}
+
+// The other erased byte.
+fn zeros(rt: &impl Print) -> io::Result<()> {
+    let b = [0x00u8; 130];
+    let log = judged(28, ZEROS, b"data");
+    let tag = judged(28, ONES, b"data");
     let same = judged(28, ZEROS, b"\x76\x79\x9a\xfb");
-    show(
-        &rt,
-        "zeros, coincides",
-        place(0x00, same, 7, &blank, STORES),
-    )?;
-    show(
-        &rt,
-        "zeros, the other end tag",
-        place(0x00, log, 7, &blank, STORES),
-    )
+    show(rt, "zeros", place(0x00, log, 7, &b, STORES))?;
+    show(rt, "zeros, other tag", place(0x00, tag, 7, &b, STORES))?;
+    show(rt, "zeros, coincides", place(0x00, same, 7, &b, STORES))
+}
+
+fn main(rt: HostRuntime) -> io::Result<()> {
+    ends(&rt)?;
+    refusals(&rt)?;
+    zeros(&rt)
 }

@@ -4,7 +4,6 @@ use mathlib.Core.Bool.{Bool, true, false, not, cond}
 use mathlib.Core.List.{List}
 use mathlib.Core.Logic.{inl}
 use Prim.Native.Nat.{ℕ, ◌-◌, ◌≤◌}
-use native.Mathlib.Omega.{arith}
 use lib.ListN.{length}
 use Rattle.std.specs.Prelude.{Err, Ok, Result}
 use Rattle.format.specs.Fetch.{images_fit, fetch_of}
@@ -21,17 +20,17 @@ use Rattle.format.specs.declared.Fetched.{Fetched}
 use Rattle.format.specs.declared.Refusal.{Refusal}
 use Rattle.format.specs.declared.Refusal.TheVariants.{Invalid}
 use Rattle.sizes.proofs.Sized.{Sized, images_sized}
-use Rattle.sizes.proofs.Records.{of_block}
 use Rattle.theory.specs.Commit.AcceptedVerdict.{fits_images}
 use Rattle.theory.proofs.Stopped.Commit.{stopped_commit}
 use Rattle.theory.proofs.Stopped.Refetch.{refetch_behind}
 use Rattle.commit_steps.specs.Steps.{and_then, started_of, begun_of, decided_of, placed_of}
+use Rattle.commit_steps.proofs.Bounds.{block_bound}
 use Rattle.commit_steps.specs.declared.Judging.{Judging}
 use Rattle.commit_steps.specs.declared.Laying.{Laying}
 use Rattle.commit.specs.Passes.{Left, left, ran_of}
 use Rattle.commit.proofs.Whole.{Ran, ran_images, ran_answers, ran_made, ran}
 
--- ---- a commit that is begun has tested the sizes, so they are no refusal between the passes
+-- ---- a commit that is begun has tested the sizes: they are no refusal between the passes, and what `place` asks holds
 module _ (g : Geometry) (b0 b1 : List ℕ) (n0 n1 count seed rules byte n : ℕ) (dat : List ℕ) (j : Judging)
     (begun : begun_of g b0 b1 n0 n1 count seed rules byte n dat ≡ Ok j) where
   begun_fits : images_fit g (length b0) (length b1) ≡ true
@@ -49,12 +48,9 @@ module _ (g : Geometry) (b0 b1 : List ℕ) (n0 n1 count seed rules byte n : ℕ)
   pub begun_sized : Sized g (length b0) (length b1)
   begun_sized = images_sized g (length b0) (length b1) begun_fits
 
-  -- so the block of a record is one that `commit_steps::place` takes
+  -- b is the block of a record
   pub block_long : (m : LfsMdir) (b : List ℕ) → b ≡ block_of b0 b1 n0 m → length b ≤ 32_768
-  block_long m =
-      let s = begun_sized in
-      of_block b0 b1 n0 m (λ x. length x ≤ 32_768)
-      (omega (arith, s.first, s.geometry.block_high), omega (arith, s.second, s.geometry.block_high))
+  block_long m = block_bound g b0 b1 n0 m begun_fits
 
   pub begun_decides : (k : Judging) (stores : ℕ)
       → decided_of g b0 b1 n0 n1 byte k stores ≡ placed_of byte k g.prog_size (block_of b0 b1 n0 k.old.dir) stores
